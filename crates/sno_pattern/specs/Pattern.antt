@@ -1,0 +1,37 @@
+-- Pattern trees.
+use Rattle.std.specs.Prelude.{ℕ, List, Option}
+use Rattle.sno_value.specs.declared.value.Name.{Name}
+use Rattle.sno_value.specs.declared.kind.PrimitiveKind.{PrimitiveKind}
+
+-- a pattern that is matched in one piece: it has a list of ends and leaves nothing behind
+pub data Primitive : Type 0 where
+  Text : (bytes : List ℕ) → Primitive
+  Len : (count : ℕ) → Primitive
+  Pos : (count : ℕ) → Primitive
+  Rpos : (count : ℕ) → Primitive
+  Tab : (count : ℕ) → Primitive
+  Rtab : (count : ℕ) → Primitive
+  Any : (set : List ℕ) → Primitive
+  NotAny : (set : List ℕ) → Primitive
+  Span : (set : List ℕ) → Primitive
+  Break : (set : List ℕ) → Primitive
+  Arb : Primitive
+  Bal : Primitive
+  Rem : Primitive
+  Fail : Primitive
+
+pub data Pattern : Type 0 where
+  Leaf : (primitive : Primitive) → Pattern
+  Fence : Pattern
+  Abort : Pattern
+  Succeed : Pattern
+  Arbno : (body : Pattern) → Pattern
+  Alt : (first : Pattern) (second : Pattern) → Pattern
+  Cat : (first : Pattern) (second : Pattern) → Pattern
+  -- P . N and P $ N
+  Cond : (body : Pattern) (target : Name) → Pattern
+  Imm : (body : Pattern) (target : Name) → Pattern
+  -- @N
+  Place : (target : Name) → Pattern
+  -- *E, or a primitive with the argument *E
+  Defer : (primitive : Option PrimitiveKind) (expression : ℕ) → Pattern

@@ -1,0 +1,57 @@
+-- What a shape says of a number.
+use Rattle.std.specs.Prelude.{ℕ, ◌<◌, ◌≡◌, List, Option, None, Some, slice_get}
+use Rattle.sno_pattern.specs.Pattern.{Pattern, Primitive, Leaf, Fence, Abort, Succeed, Arbno, Alt, Cat, Cond, Imm, Place, Defer}
+use Rattle.sno_pattern.specs.Ends.{ends}
+use Rattle.sno_pattern.specs.Table.{Node, LeafNode, FenceNode, AbortNode, SucceedNode, ArbnoNode, AltNode, CatNode, CondNode, ImmNode, PlaceNode, DeferNode, tree}
+use Rattle.sno_value.specs.declared.ids.PatId.{PatId}
+use Rattle.sno_value.specs.declared.ids.ExprId.{ExprId}
+use Rattle.sno_pattern.specs.declared.shape.Shape.{Shape}
+use Rattle.sno_pattern.specs.declared.shape.Shape.TheVariants as S
+
+-- the head of the tree, and the numbers of its parts
+abbrev pub HasShape : List Node → ℕ → Shape → Type 0
+HasShape nodes id S.Primitive = (a : Primitive) × (tree nodes id ≡ Leaf a)
+HasShape nodes id (S.Cat p q) = (p.0 < id) × (q.0 < id) × (tree nodes id ≡ Cat (tree nodes p.0) (tree nodes q.0))
+HasShape nodes id (S.Alt p q) = (p.0 < id) × (q.0 < id) × (tree nodes id ≡ Alt (tree nodes p.0) (tree nodes q.0))
+HasShape nodes id (S.Arbno p) = (p.0 < id) × (tree nodes id ≡ Arbno (tree nodes p.0))
+HasShape nodes id (S.Cond p target) = (p.0 < id) × (tree nodes id ≡ Cond (tree nodes p.0) target)
+HasShape nodes id (S.Imm p target) = (p.0 < id) × (tree nodes id ≡ Imm (tree nodes p.0) target)
+HasShape nodes id (S.Cursor target) = tree nodes id ≡ Place target
+HasShape nodes id S.Fence = tree nodes id ≡ Fence
+HasShape nodes id S.Abort = tree nodes id ≡ Abort
+HasShape nodes id S.Succeed = tree nodes id ≡ Succeed
+HasShape nodes id (S.Defer expression) = tree nodes id ≡ Defer None expression.0
+HasShape nodes id (S.DeferPrim primitive expression) = tree nodes id ≡ Defer (Some primitive) expression.0
+
+abbrev pub pattern : ℕ → PatId
+pattern n = record { 0 = n }
+
+abbrev pub expression : ℕ → ExprId
+expression n = record { 0 = n }
+
+-- the shape of a node
+abbrev pub shape_of : Node → Shape
+shape_of (LeafNode a) = S.Primitive
+shape_of FenceNode = S.Fence
+shape_of AbortNode = S.Abort
+shape_of SucceedNode = S.Succeed
+shape_of (ArbnoNode p) = S.Arbno (pattern p)
+shape_of (AltNode p q) = S.Alt (pattern p) (pattern q)
+shape_of (CatNode p q) = S.Cat (pattern p) (pattern q)
+shape_of (CondNode p target) = S.Cond (pattern p) target
+shape_of (ImmNode p target) = S.Imm (pattern p) target
+shape_of (PlaceNode target) = S.Cursor target
+shape_of (DeferNode None e) = S.Defer (expression e)
+shape_of (DeferNode (Some primitive) e) = S.DeferPrim primitive (expression e)
+
+-- the end with this number of a primitive, in order of trial
+abbrev pub end_of : Pattern → List ℕ → ℕ → ℕ → Option ℕ
+end_of (Leaf a) s c i = slice_get (ends a s c) i
+end_of pattern s c i = None
+
+abbrev pub IsPrimitive : Pattern → Type 0
+IsPrimitive pattern = (a : Primitive) × (pattern ≡ Leaf a)
+
+abbrev pub end_of_node : Node → List ℕ → ℕ → ℕ → Option ℕ
+end_of_node (LeafNode a) s c i = slice_get (ends a s c) i
+end_of_node node s c i = None
