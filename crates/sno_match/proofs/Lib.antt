@@ -1,0 +1,21 @@
+pub mod Walks
+mod Rows
+pub mod SearchLaws
+pub mod ReadingLaws
+pub mod PlanLaws
+pub mod MoveLaws
+pub mod ComingLaws
+pub mod SessionLaws
+pub mod CopiedLaws
+pub mod GrowLaws
+pub mod WeightLaws
+pub mod LateLaws
+pub mod Orders
+pub mod Finds
+pub mod EndsRange
+pub mod Goals
+pub mod Quiet
+pub mod Unique
+pub mod ToldWays
+pub mod QuietWays
+pub mod SessionWays

@@ -1,0 +1,238 @@
+-- Each plan of the matcher is right.
+use Rattle.std.proofs.Common.{◌≡◌, ℕ, zero, suc, ◌+◌, ◌≤◌, ◌<◌, ◌==◌, Bool, true, false, List, [], ◌∷◌, ◌++◌, Option, Some, None, map, replicate, drop, slice_get, length, refl, sym, ◌∙◌, ap, subst, arith, add-one, eq-eqb, is_some, not}
+use Rattle.sno_value.specs.declared.value.Name.{Name}
+use Rattle.sno_value.specs.declared.kind.PrimitiveKind.{PrimitiveKind}
+use Rattle.sno_pattern.specs.Pattern.{Pattern, Primitive, Leaf, Fence, Abort, Succeed, Arbno, Alt, Cat, Cond, Imm, Place, Defer}
+use Rattle.sno_pattern.specs.Ends.{ends}
+use Rattle.std.proofs.lemmas.Bool.{ne_eqb}
+use Rattle.sno_value.specs.declared.ids.PatId.{PatId}
+use Rattle.sno_pattern.specs.Shape.{end_of}
+use Rattle.sno_pattern.specs.Table.{Node, tree}
+use Rattle.sno_match.specs.declared.goal.Goal.{Goal as Numbered}
+use Rattle.sno_match.specs.declared.goal.Goal.TheVariants as N
+use Rattle.sno_match.specs.declared.event.Pending.{Pending}
+use Rattle.sno_match.specs.declared.goal.Mark.{Mark}
+use Rattle.sno_match.specs.declared.goal.Mark.TheVariants.{Enter, Next}
+use Rattle.sno_match.specs.declared.plan.Front.TheVariants.{Nothing, One, Two}
+use Rattle.sno_match.specs.Search.{Goal, Match, CloseCond, CloseImm, CloseRepeat, Verdict, Exhausted, Aborted, Limit, Waiting, Event, Way, Assign, Cursor, Value, Answer, Outcome, Gives, Search, emit, or_else, further, tries, abort_if_exhausted, with_answer, if_moved, first_goal, search, assigns}
+use Rattle.sno_match.specs.Point.{Point, with_front, rest_of}
+use Rattle.sno_match.specs.Reading.{goals_of, goal_of, body_of, after_pattern, resume, reading, waiting, IsMarked, AllMarked}
+use Rattle.sno_match.specs.Plan.{point_at, Goes, IsDue}
+use Rattle.sno_match.proofs.SearchLaws.{search-step, search-falls}
+use Rattle.sno_match.proofs.ReadingLaws.{emit-none, resume-emit, resume-stop, resume-exhausted, tries-some, tries-none, next-some, next-limit, next-none, repeats-enter, repeats-next, further-stop}
+
+module _ (nodes : List Node) (s : List ℕ) where
+  -- a step is due where a goal is to be entered
+  pub due-enter : (goal : Numbered) (c : ℕ) → IsDue nodes s goal c Enter
+  due-enter goal c start rest pending below answers = resume-stop nodes s start below [] answers zero Limit tt
+
+  module _ (start : ℕ) (rest : List Numbered) (c : ℕ) (pending : List Pending) (below : List Point) (answers : List Answer) (left : ℕ) where
+    -- entering a goal
+    step : (goal : Numbered) → reading nodes s start (point_at goal rest c pending Enter ∷ below) answers (suc left) ≡
+        resume nodes s start below (first_goal s (search s start) (goal_of nodes goal) (goals_of nodes rest) c pending answers left)
+    step goal = ap (resume nodes s start below) (search-step s start (goal_of nodes goal) (goals_of nodes rest) c pending answers left)
+
+    -- entering a pattern whose tree is known
+    step_into : (id : PatId) (p : Pattern) → tree nodes id.0 ≡ p → reading nodes s start (point_at (N.Match id) rest c pending Enter ∷ below) answers (suc left) ≡
+        resume nodes s start below (first_goal s (search s start) (Match p) (goals_of nodes rest) c pending answers left)
+    step_into id p t = step (N.Match id) ∙ ap (λ x. resume nodes s start below (first_goal s (search s start) (Match x) (goals_of nodes rest) c pending answers left)) t
+
+    -- taking up a pattern's next alternative
+    next_of : (id : PatId) (p : Pattern) (i : ℕ) → tree nodes id.0 ≡ p → (n : ℕ) → reading nodes s start (point_at (N.Match id) rest c pending (Next i) ∷ below) answers n ≡
+        resume nodes s start below (after_pattern s start p (goals_of nodes rest) c pending i (Gives [] answers n Exhausted))
+    next_of id p i t n = ap (λ x. resume nodes s start below (after_pattern s start x (goals_of nodes rest) c pending i (Gives [] answers n Exhausted))) t
+
+    -- a new point above one that stays
+    above : (id : PatId) (p : Pattern) (front : List Numbered) (at i : ℕ) → tree nodes id.0 ≡ p →
+        reading nodes s start (with_front front at (point_at (N.Match id) rest c pending Enter) ∷ point_at (N.Match id) rest c pending (Next i) ∷ below) answers left ≡
+        resume nodes s start below (after_pattern s start p (goals_of nodes rest) c pending i (search s start (goals_of nodes (front ++ rest)) at pending answers left))
+    above id p front at i t = ap (λ x. resume nodes s start below (after_pattern s start x (goals_of nodes rest) c pending i (search s start (goals_of nodes (front ++ rest)) at pending answers left))) t
+
+    -- nothing told
+    silent : (points : List Point) → reading nodes s start points answers left ≡ emit [] (reading nodes s start points answers left)
+    silent points = sym (emit-none (reading nodes s start points answers left))
+
+  pub cat : (id p q : PatId) (c : ℕ) → tree nodes id.0 ≡ Cat (tree nodes p.0) (tree nodes q.0) → Goes nodes s (N.Match id) c Enter (λ left. []) (λ point below. with_front (N.Match p ∷ N.Match q ∷ []) c point ∷ below)
+  cat id p q c t start rest pending below answers marked left =
+      step_into start rest c pending below answers left id (Cat (tree nodes p.0) (tree nodes q.0)) t ∙ silent start rest c pending below answers left (with_front (N.Match p ∷ N.Match q ∷ []) c (point_at (N.Match id) rest c pending Enter) ∷ below)
+
+  pub alt : (id p q : PatId) (c : ℕ) → tree nodes id.0 ≡ Alt (tree nodes p.0) (tree nodes q.0) → Goes nodes s (N.Match id) c Enter (λ left. []) (λ point below. with_front (N.Match p ∷ []) c point ∷ record point { mark = Next 1 } ∷ below)
+  alt id p q c t start rest pending below answers marked left =
+      step_into start rest c pending below answers left id (Alt (tree nodes p.0) (tree nodes q.0)) t ∙
+      sym (above start rest c pending below answers left id (Alt (tree nodes p.0) (tree nodes q.0)) (N.Match p ∷ []) c 1 t) ∙
+      silent start rest c pending below answers left (with_front (N.Match p ∷ []) c (point_at (N.Match id) rest c pending Enter) ∷ point_at (N.Match id) rest c pending (Next 1) ∷ below)
+
+  -- primitives
+
+  module _ (id : PatId) (a : Primitive) (c : ℕ) (t : tree nodes id.0 ≡ Leaf a) where
+    pub leaf_fail : end_of (tree nodes id.0) s c 0 ≡ None → Goes nodes s (N.Match id) c Enter (λ left. []) (λ point below. below)
+    leaf_fail h start rest pending below answers marked left =
+        let none = subst (λ p. end_of p s c 0 ≡ None) t h in
+        step_into start rest c pending below answers left id (Leaf a) t ∙
+        ap (resume nodes s start below) (tries-none (λ e. search s start (goals_of nodes rest) e pending) (ends a s c) answers left none) ∙
+        resume-exhausted nodes s start below answers left marked ∙ silent start rest c pending below answers left below
+
+    pub leaf_only : (e : ℕ) → end_of (tree nodes id.0) s c 0 ≡ Some e → end_of (tree nodes id.0) s c 1 ≡ None → Goes nodes s (N.Match id) c Enter (λ left. []) (λ point below. with_front [] e point ∷ below)
+    leaf_only e h k start rest pending below answers marked left =
+        let here = subst (λ p. end_of p s c 0 ≡ Some e) t h in
+        let none = subst (λ p. end_of p s c 1 ≡ None) t k in
+        step_into start rest c pending below answers left id (Leaf a) t ∙
+        ap (resume nodes s start below) (tries-some (λ e. search s start (goals_of nodes rest) e pending) (ends a s c) e answers left here ∙
+        next-none (λ e. search s start (goals_of nodes rest) e pending) (ends a s c) 1 (search s start (goals_of nodes rest) e pending answers left) none) ∙
+        silent start rest c pending below answers left (with_front [] e (point_at (N.Match id) rest c pending Enter) ∷ below)
+
+    pub leaf_more : (e : ℕ) → end_of (tree nodes id.0) s c 0 ≡ Some e → Goes nodes s (N.Match id) c Enter (λ left. []) (λ point below. with_front [] e point ∷ record point { mark = Next 1 } ∷ below)
+    leaf_more e h start rest pending below answers marked left =
+        let here = subst (λ p. end_of p s c 0 ≡ Some e) t h in
+        step_into start rest c pending below answers left id (Leaf a) t ∙
+        ap (resume nodes s start below) (tries-some (λ e. search s start (goals_of nodes rest) e pending) (ends a s c) e answers left here) ∙
+        sym (above start rest c pending below answers left id (Leaf a) [] e 1 t) ∙
+        silent start rest c pending below answers left (with_front [] e (point_at (N.Match id) rest c pending Enter) ∷ point_at (N.Match id) rest c pending (Next 1) ∷ below)
+
+    pub leaf_spent : (i : ℕ) → end_of (tree nodes id.0) s c i ≡ None →
+        (start : ℕ) (rest : List Numbered) (pending : List Pending) (below : List Point) (answers : List Answer) (left : ℕ) → AllMarked below →
+        reading nodes s start (point_at (N.Match id) rest c pending (Next i) ∷ below) answers left ≡ reading nodes s start below answers left
+    leaf_spent i h start rest pending below answers left marked =
+        let none = subst (λ p. end_of p s c i ≡ None) t h in
+        next_of start rest c pending below answers left id (Leaf a) i t left ∙
+        ap (resume nodes s start below) (next-none (λ e. search s start (goals_of nodes rest) e pending) (ends a s c) i (Gives [] answers left Exhausted) none) ∙
+        resume-exhausted nodes s start below answers left marked
+
+    pub leaf_due : (i e : ℕ) → end_of (tree nodes id.0) s c i ≡ Some e → IsDue nodes s (N.Match id) c (Next i)
+    leaf_due i e h start rest pending below answers =
+        let here = subst (λ p. end_of p s c i ≡ Some e) t h in
+        next_of start rest c pending below answers 0 id (Leaf a) i t 0 ∙
+        ap (resume nodes s start below) (next-limit (λ e. search s start (goals_of nodes rest) e pending) (ends a s c) i e answers here) ∙
+        resume-stop nodes s start below [] answers zero Limit tt
+
+    pub leaf_next_only : (i e : ℕ) → end_of (tree nodes id.0) s c i ≡ Some e → end_of (tree nodes id.0) s c (i + 1) ≡ None → Goes nodes s (N.Match id) c (Next i) (λ left. []) (λ point below. with_front [] e point ∷ below)
+    leaf_next_only i e h k start rest pending below answers marked left =
+        let here = subst (λ p. end_of p s c i ≡ Some e) t h in
+        let none = rw add-one at (subst (λ p. end_of p s c (i + 1) ≡ None) t k) in
+        next_of start rest c pending below answers left id (Leaf a) i t (suc left) ∙
+        ap (resume nodes s start below) (next-some (λ e. search s start (goals_of nodes rest) e pending) (ends a s c) i e answers left here ∙
+        next-none (λ e. search s start (goals_of nodes rest) e pending) (ends a s c) (suc i) (search s start (goals_of nodes rest) e pending answers left) none) ∙
+        silent start rest c pending below answers left (with_front [] e (point_at (N.Match id) rest c pending Enter) ∷ below)
+
+    pub leaf_next_more : (i e : ℕ) → end_of (tree nodes id.0) s c i ≡ Some e → Goes nodes s (N.Match id) c (Next i) (λ left. []) (λ point below. with_front [] e point ∷ record point { mark = Next (i + 1) } ∷ below)
+    leaf_next_more i e h start rest pending below answers marked left =
+        let here = subst (λ p. end_of p s c i ≡ Some e) t h in
+        next_of start rest c pending below answers left id (Leaf a) i t (suc left) ∙
+        ap (resume nodes s start below) (next-some (λ e. search s start (goals_of nodes rest) e pending) (ends a s c) i e answers left here) ∙
+        sym (above start rest c pending below answers left id (Leaf a) [] e (suc i) t) ∙
+        ap (λ j. reading nodes s start (with_front [] e (point_at (N.Match id) rest c pending Enter) ∷ point_at (N.Match id) rest c pending (Next j) ∷ below) answers left) (let n : suc i ≡ i + 1 = omega arith in n) ∙
+        silent start rest c pending below answers left (with_front [] e (point_at (N.Match id) rest c pending Enter) ∷ point_at (N.Match id) rest c pending (Next (i + 1)) ∷ below)
+
+  -- one more alternative
+
+  module _ (id : PatId) (c i : ℕ) where
+    pub alt_due : (p q : Pattern) → tree nodes id.0 ≡ Alt p q → IsDue nodes s (N.Match id) c (Next i)
+    alt_due p q t start rest pending below answers = next_of start rest c pending below answers 0 id (Alt p q) i t 0 ∙ resume-stop nodes s start below [] answers zero Limit tt
+
+    pub alt_next : (p q : PatId) → tree nodes id.0 ≡ Alt (tree nodes p.0) (tree nodes q.0) → Goes nodes s (N.Match id) c (Next i) (λ left. []) (λ point below. with_front (N.Match q ∷ []) c point ∷ below)
+    alt_next p q t start rest pending below answers marked left =
+        next_of start rest c pending below answers left id (Alt (tree nodes p.0) (tree nodes q.0)) i t (suc left) ∙
+        ap (resume nodes s start below) (emit-none (search s start (Match (tree nodes q.0) ∷ goals_of nodes rest) c pending answers left)) ∙
+        silent start rest c pending below answers left (with_front (N.Match q ∷ []) c (point_at (N.Match id) rest c pending Enter) ∷ below)
+
+    pub arbno_due : (p : Pattern) → tree nodes id.0 ≡ Arbno p → IsDue nodes s (N.Match id) c (Next i)
+    arbno_due p t start rest pending below answers = next_of start rest c pending below answers 0 id (Arbno p) i t 0 ∙ resume-stop nodes s start below [] answers zero Limit tt
+
+    pub arbno_next : (p : PatId) → tree nodes id.0 ≡ Arbno (tree nodes p.0) → Goes nodes s (N.Match id) c (Next i) (λ left. []) (λ point below. with_front (N.Match p ∷ N.CloseRepeat id c ∷ []) c point ∷ below)
+    arbno_next p t start rest pending below answers marked left =
+        next_of start rest c pending below answers left id (Arbno (tree nodes p.0)) i t (suc left) ∙
+        ap (resume nodes s start below) (emit-none (search s start (Match (tree nodes p.0) ∷ CloseRepeat (tree nodes p.0) c ∷ goals_of nodes rest) c pending answers left)) ∙
+        ap (λ x. resume nodes s start below (search s start (Match (tree nodes p.0) ∷ CloseRepeat (body_of x) c ∷ goals_of nodes rest) c pending answers left)) (sym t) ∙
+        silent start rest c pending below answers left (with_front (N.Match p ∷ N.CloseRepeat id c ∷ []) c (point_at (N.Match id) rest c pending Enter) ∷ below)
+
+    pub succeed_due : tree nodes id.0 ≡ Succeed → IsDue nodes s (N.Match id) c (Next i)
+    succeed_due t start rest pending below answers = next_of start rest c pending below answers 0 id Succeed i t 0 ∙ resume-stop nodes s start below [] answers zero Limit tt
+
+    pub succeed_next : (j : ℕ) → tree nodes id.0 ≡ Succeed → Goes nodes s (N.Match id) c (Next i) (λ left. []) (λ point below. with_front [] c point ∷ record point { mark = Next j } ∷ below)
+    succeed_next j t start rest pending below answers marked left =
+        next_of start rest c pending below answers left id Succeed i t (suc left) ∙
+        ap (resume nodes s start below) (repeats-next (search s start (goals_of nodes rest) c pending) answers left (search-falls s start (goals_of nodes rest) c pending)) ∙
+        sym (above start rest c pending below answers left id Succeed [] c j t) ∙
+        silent start rest c pending below answers left (with_front [] c (point_at (N.Match id) rest c pending Enter) ∷ point_at (N.Match id) rest c pending (Next j) ∷ below)
+
+    pub cut : tree nodes id.0 ≡ Fence →
+        (start : ℕ) (rest : List Numbered) (pending : List Pending) (below : List Point) (answers : List Answer) (left : ℕ) →
+        reading nodes s start (point_at (N.Match id) rest c pending (Next i) ∷ below) answers left ≡ Gives [] answers left Aborted
+    cut t start rest pending below answers left = next_of start rest c pending below answers left id Fence i t left ∙ resume-stop nodes s start below [] answers left Aborted tt
+
+  module _ (id : PatId) (c : ℕ) where
+    pub arbno : (p : Pattern) → tree nodes id.0 ≡ Arbno p → Goes nodes s (N.Match id) c Enter (λ left. []) (λ point below. with_front [] c point ∷ record point { mark = Next 1 } ∷ below)
+    arbno p t start rest pending below answers marked left =
+        step_into start rest c pending below answers left id (Arbno p) t ∙
+        sym (above start rest c pending below answers left id (Arbno p) [] c 1 t) ∙
+        silent start rest c pending below answers left (with_front [] c (point_at (N.Match id) rest c pending Enter) ∷ point_at (N.Match id) rest c pending (Next 1) ∷ below)
+
+    pub succeed : tree nodes id.0 ≡ Succeed → Goes nodes s (N.Match id) c Enter (λ left. []) (λ point below. with_front [] c point ∷ record point { mark = Next 1 } ∷ below)
+    succeed t start rest pending below answers marked left =
+        step_into start rest c pending below answers left id Succeed t ∙
+        ap (resume nodes s start below) (repeats-enter (search s start (goals_of nodes rest) c pending) answers left (search-falls s start (goals_of nodes rest) c pending)) ∙
+        sym (above start rest c pending below answers left id Succeed [] c 1 t) ∙
+        silent start rest c pending below answers left (with_front [] c (point_at (N.Match id) rest c pending Enter) ∷ point_at (N.Match id) rest c pending (Next 1) ∷ below)
+
+    pub fence : tree nodes id.0 ≡ Fence → Goes nodes s (N.Match id) c Enter (λ left. []) (λ point below. with_front [] c point ∷ record point { mark = Next 1 } ∷ below)
+    fence t start rest pending below answers marked left =
+        step_into start rest c pending below answers left id Fence t ∙
+        sym (above start rest c pending below answers left id Fence [] c 1 t) ∙
+        silent start rest c pending below answers left (with_front [] c (point_at (N.Match id) rest c pending Enter) ∷ point_at (N.Match id) rest c pending (Next 1) ∷ below)
+
+    pub abort : tree nodes id.0 ≡ Abort →
+        (start : ℕ) (rest : List Numbered) (pending : List Pending) (below : List Point) (answers : List Answer) (left : ℕ) →
+        reading nodes s start (point_at (N.Match id) rest c pending Enter ∷ below) answers (suc left) ≡ Gives [] answers left Aborted
+    abort t start rest pending below answers left = step_into start rest c pending below answers left id Abort t ∙ resume-stop nodes s start below [] answers left Aborted tt
+
+    pub cond : (p : PatId) (target : Name) → tree nodes id.0 ≡ Cond (tree nodes p.0) target → Goes nodes s (N.Match id) c Enter (λ left. []) (λ point below. with_front (N.Match p ∷ N.CloseCond target c ∷ []) c point ∷ below)
+    cond p target t start rest pending below answers marked left =
+        step_into start rest c pending below answers left id (Cond (tree nodes p.0) target) t ∙ silent start rest c pending below answers left (with_front (N.Match p ∷ N.CloseCond target c ∷ []) c (point_at (N.Match id) rest c pending Enter) ∷ below)
+
+    pub imm : (p : PatId) (target : Name) → tree nodes id.0 ≡ Imm (tree nodes p.0) target → Goes nodes s (N.Match id) c Enter (λ left. []) (λ point below. with_front (N.Match p ∷ N.CloseImm target c ∷ []) c point ∷ below)
+    imm p target t start rest pending below answers marked left =
+        step_into start rest c pending below answers left id (Imm (tree nodes p.0) target) t ∙ silent start rest c pending below answers left (with_front (N.Match p ∷ N.CloseImm target c ∷ []) c (point_at (N.Match id) rest c pending Enter) ∷ below)
+
+    pub place : (target : Name) → tree nodes id.0 ≡ Place target → Goes nodes s (N.Match id) c Enter (λ left. (Cursor target c, left) ∷ []) (λ point below. with_front [] c point ∷ below)
+    place target t start rest pending below answers marked left =
+        step_into start rest c pending below answers left id (Place target) t ∙
+        resume-emit nodes s start below ((Cursor target c, left) ∷ []) (search s start (goals_of nodes rest) c pending answers left)
+
+    pub defer : (primitive : Option PrimitiveKind) (expression : ℕ) → tree nodes id.0 ≡ Defer primitive expression →
+        (start : ℕ) (rest : List Numbered) (pending : List Pending) (below : List Point) (answers : List Answer) (left : ℕ) →
+        reading nodes s start (point_at (N.Match id) rest c pending Enter ∷ below) answers (suc left) ≡
+        emit ((Value primitive expression, left) ∷ []) (waiting nodes s start (point_at (N.Match id) rest c pending Enter ∷ below) answers left)
+    defer primitive expression t start rest pending below answers left =
+        step_into start rest c pending below answers left id (Defer primitive expression) t ∙
+        resume-emit nodes s start below ((Value primitive expression, left) ∷ []) (with_answer (search s start) (goals_of nodes rest) c pending answers left)
+
+  -- the ends of compound patterns
+
+  pub close_cond : (target : Name) (from c : ℕ) → Goes nodes s (N.CloseCond target from) c Enter (λ left. []) (λ point below. record point { goals = rest_of point.goals; pending = point.pending ++ assigns target from c ∷ [] } ∷ below)
+  close_cond target from c start rest pending below answers marked left =
+      step start rest c pending below answers left (N.CloseCond target from) ∙
+      silent start rest c pending below answers left (record { goals = rest; cursor = c; pending = pending ++ assigns target from c ∷ []; mark = Enter } ∷ below)
+
+  pub close_imm : (target : Name) (from c : ℕ) → Goes nodes s (N.CloseImm target from) c Enter (λ left. (Assign target from c, left) ∷ []) (λ point below. with_front [] c point ∷ below)
+  close_imm target from c start rest pending below answers marked left =
+      step start rest c pending below answers left (N.CloseImm target from) ∙
+      resume-emit nodes s start below ((Assign target from c, left) ∷ []) (search s start (goals_of nodes rest) c pending answers left)
+
+  module _ (id : PatId) (from c : ℕ) where
+    pub repeat_fail : c ≡ from → Goes nodes s (N.CloseRepeat id from) c Enter (λ left. []) (λ point below. below)
+    repeat_fail h start rest pending below answers marked left =
+        step start rest c pending below answers left (N.CloseRepeat id from) ∙
+        ap (λ b. resume nodes s start below (if_moved b (search s start (Match (Arbno (body_of (tree nodes id.0))) ∷ goals_of nodes rest) c pending) answers left)) (eq-eqb c from h) ∙
+        resume-exhausted nodes s start below answers left marked ∙ silent start rest c pending below answers left below
+
+    pub repeat : (c ≡ from → ⊥) → tree nodes id.0 ≡ Arbno (body_of (tree nodes id.0)) → Goes nodes s (N.CloseRepeat id from) c Enter (λ left. []) (λ point below. with_front (N.Match id ∷ []) c point ∷ below)
+    repeat h t start rest pending below answers marked left =
+        step start rest c pending below answers left (N.CloseRepeat id from) ∙
+        ap (λ b. resume nodes s start below (if_moved b (search s start (Match (Arbno (body_of (tree nodes id.0))) ∷ goals_of nodes rest) c pending) answers left)) (ne_eqb c from h) ∙
+        ap (λ x. resume nodes s start below (search s start (Match x ∷ goals_of nodes rest) c pending answers left)) (sym t) ∙
+        silent start rest c pending below answers left (with_front (N.Match id ∷ []) c (point_at (N.CloseRepeat id from) rest c pending Enter) ∷ below)
+
+pub none_of : (o : Option ℕ) (b : Bool) → is_some o ≡ not b → b ≡ true → o ≡ None
+none_of None b h t = refl
+none_of (Some x) true h t = absurd (cc)
+none_of (Some x) false h t = absurd (cc)

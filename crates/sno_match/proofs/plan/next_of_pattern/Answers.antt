@@ -1,0 +1,37 @@
+use Rattle.std.proofs.Common.{arith, ◌≡◌, ◌<◌, length, ap, sym, ◌∙◌}
+use Rattle.sno_pattern.specs.Pattern.{Arbno}
+use Rattle.sno_pattern.specs.Table.{tree}
+use Rattle.sno_match.specs.Reading.{body_of}
+use Rattle.sno_match.proofs.PlanLaws as plans
+use Rattle.sno_match.proofs.plan.next_of_pattern.Goals as goal
+
+pub returns-in-Alt : goal.returns-in-Alt
+returns-in-Alt c =
+    let q : c.in-Alt.q.0 < length c.args.patterns.now = omega (arith, c.in-Alt.ensures.1) in (
+      plans.alt_next c.args.patterns.now c.args.subject.now c.args.id c.args.cursor c.args.i c.in-Alt._p c.in-Alt.q c.in-Alt.ensures.2,
+      plans.alt_due c.args.patterns.now c.args.subject.now c.args.id c.args.cursor c.args.i (tree c.args.patterns.now c.in-Alt._p.0) (tree c.args.patterns.now c.in-Alt.q.0) c.in-Alt.ensures.2,
+      (q, tt),
+      c.requires.inside,
+    )
+
+pub returns-in-Arbno : goal.returns-in-Arbno
+returns-in-Arbno c =
+    let p : c.in-Arbno.p.0 < length c.args.patterns.now = omega (arith, c.in-Arbno.ensures.0) in
+    let is : tree c.args.patterns.now c.args.id.0 ≡ Arbno (body_of (tree c.args.patterns.now c.args.id.0)) =
+    c.in-Arbno.ensures.1 ∙ ap (λ x. Arbno (body_of x)) (sym c.in-Arbno.ensures.1) in (
+      plans.arbno_next c.args.patterns.now c.args.subject.now c.args.id c.args.cursor c.args.i c.in-Arbno.p c.in-Arbno.ensures.1,
+      plans.arbno_due c.args.patterns.now c.args.subject.now c.args.id c.args.cursor c.args.i (tree c.args.patterns.now c.in-Arbno.p.0) c.in-Arbno.ensures.1,
+      (p, ((c.requires.known, is), tt)),
+      c.requires.inside,
+    )
+
+pub returns-in-Succeed : goal.returns-in-Succeed
+returns-in-Succeed c = (
+  plans.succeed_next c.args.patterns.now c.args.subject.now c.args.id c.args.cursor c.args.i 1 c.in-Succeed.ensures,
+  plans.succeed_due c.args.patterns.now c.args.subject.now c.args.id c.args.cursor c.args.i c.in-Succeed.ensures,
+  tt,
+  c.requires.inside,
+)
+
+pub returns-in-Fence : goal.returns-in-Fence
+returns-in-Fence c = plans.cut c.args.patterns.now c.args.subject.now c.args.id c.args.cursor c.args.i c.in-Fence.ensures

@@ -1,0 +1,12 @@
+pub mod Search
+pub mod Point
+pub mod Top
+pub mod Reading
+pub mod Plan
+pub mod Move
+pub mod Coming
+pub mod EventShown
+pub mod Session
+pub mod Running
+pub mod Copied
+pub mod Ways

@@ -1,0 +1,102 @@
+-- A stack of resumption points, read as the searches still to come, each behind the one above it.
+use Rattle.std.specs.Prelude.{ℕ, zero, suc, ◌≡◌, ◌<◌, ◌≤◌, List, [], ◌∷◌, ◌++◌, Option, Some, None, length, map, drop, replicate}
+use Rattle.sno_pattern.specs.Pattern.{Pattern, Leaf, Fence, Abort, Succeed, Arbno, Alt, Cat, Cond, Imm, Place, Defer}
+use Rattle.sno_pattern.specs.Ends.{ends}
+use Rattle.sno_pattern.specs.Table.{Node, tree}
+use Rattle.sno_match.specs.declared.goal.Goal.{Goal as Numbered}
+use Rattle.sno_match.specs.declared.goal.Goal.TheVariants as N
+use Rattle.sno_match.specs.declared.event.Pending.{Pending}
+use Rattle.sno_match.specs.declared.goal.Mark.{Mark}
+use Rattle.sno_match.specs.declared.goal.Mark.TheVariants.{Enter, Next}
+use Rattle.sno_match.specs.Search.{Goal, Match, CloseCond, CloseImm, CloseRepeat, Verdict, Exhausted, Outcome, Gives, Search, further, abort_if_exhausted, with_answer, search, Answer}
+use Rattle.sno_match.specs.Point.{Point, rest_of, below}
+
+-- the body of an ARBNO
+abbrev pub body_of : Pattern → Pattern
+body_of (Arbno p) = p
+body_of other = other
+
+-- the goal of a numbered goal
+abbrev pub goal_of : List Node → Numbered → Goal
+goal_of nodes (N.Match id) = Match (tree nodes id.0)
+goal_of nodes (N.CloseCond target from) = CloseCond target from
+goal_of nodes (N.CloseImm target from) = CloseImm target from
+goal_of nodes (N.CloseRepeat id from) = CloseRepeat (body_of (tree nodes id.0)) from
+
+abbrev pub goals_of : List Node → List Numbered → List Goal
+goals_of nodes goals = map (goal_of nodes) goals
+
+abbrev pub left_of : Outcome → ℕ
+left_of (Gives events answers left verdict) = left
+
+-- what follows an outcome, where the pattern's next alternative has this number
+abbrev pub after_pattern : (s : List ℕ) (start : ℕ) → Pattern → List Goal → ℕ → List Pending → ℕ → Outcome → Outcome
+after_pattern s start (Leaf a) rest c pending i outcome = further outcome (map (λ e. search s start rest e pending) (drop i (ends a s c)))
+after_pattern s start (Alt p q) rest c pending i outcome = further outcome (search s start (Match q ∷ rest) c pending ∷ [])
+after_pattern s start (Arbno p) rest c pending i outcome = further outcome (search s start (Match p ∷ CloseRepeat p c ∷ rest) c pending ∷ [])
+after_pattern s start Succeed rest c pending i outcome = further outcome (replicate (suc (left_of outcome)) (search s start rest c pending))
+after_pattern s start Fence rest c pending i outcome = abort_if_exhausted outcome
+after_pattern s start pattern rest c pending i outcome = outcome
+
+abbrev pub after_goals : (s : List ℕ) (start : ℕ) → List Goal → ℕ → List Pending → ℕ → Outcome → Outcome
+after_goals s start (Match p ∷ rest) c pending i outcome = after_pattern s start p rest c pending i outcome
+after_goals s start goals c pending i outcome = outcome
+
+-- what follows an outcome at a point whose next alternative has a number
+abbrev pub behind_mark : (s : List ℕ) (start : ℕ) → Mark → List Goal → ℕ → List Pending → Outcome → Outcome
+behind_mark s start Enter goals c pending outcome = outcome
+behind_mark s start (Next i) goals c pending outcome = after_goals s start goals c pending i outcome
+
+abbrev pub behind : List Node → (s : List ℕ) (start : ℕ) → Point → Outcome → Outcome
+behind nodes s start point outcome = behind_mark s start point.mark (goals_of nodes point.goals) point.cursor point.pending outcome
+
+-- an outcome, and then the points below, the newest first
+abbrev pub resume : List Node → (s : List ℕ) (start : ℕ) → List Point → Outcome → Outcome
+resume nodes s start [] outcome = outcome
+resume nodes s start (point ∷ rest) outcome = resume nodes s start rest (behind nodes s start point outcome)
+
+abbrev pub from_mark : (s : List ℕ) (start : ℕ) → Mark → List Goal → ℕ → List Pending → Search
+from_mark s start Enter goals c pending answers left = search s start goals c pending answers left
+from_mark s start (Next i) goals c pending answers left = after_goals s start goals c pending i (Gives [] answers left Exhausted)
+
+-- the whole stack
+abbrev pub reading : List Node → (s : List ℕ) (start : ℕ) → List Point → Search
+reading nodes s start [] answers left = Gives [] answers left Exhausted
+reading nodes s start (point ∷ rest) answers left =
+    resume nodes s start rest (from_mark s start point.mark (goals_of nodes point.goals) point.cursor point.pending answers left)
+
+-- below the top no point is still to be entered
+abbrev pub IsMarked : Mark → Type 0
+IsMarked Enter = ⊥
+IsMarked (Next i) = Unit {0}
+
+abbrev pub AllMarked : List Point → Type 0
+AllMarked [] = Unit {0}
+AllMarked (point ∷ rest) = IsMarked point.mark × AllMarked rest
+
+-- the goal is of this table
+abbrev pub IsKnown : List Node → Numbered → Type 0
+IsKnown nodes (N.Match id) = id.0 < length nodes
+IsKnown nodes (N.CloseCond target from) = Unit {0}
+IsKnown nodes (N.CloseImm target from) = Unit {0}
+IsKnown nodes (N.CloseRepeat id from) = (id.0 < length nodes) × (tree nodes id.0 ≡ Arbno (body_of (tree nodes id.0)))
+
+abbrev pub AllKnown : List Node → List Numbered → Type 0
+AllKnown nodes [] = Unit {0}
+AllKnown nodes (goal ∷ rest) = IsKnown nodes goal × AllKnown nodes rest
+
+-- each point is of this table and has its cursor in the subject
+abbrev pub AllFit : List Node → ℕ → List Point → Type 0
+AllFit nodes z [] = Unit {0}
+AllFit nodes z (point ∷ rest) = AllKnown nodes point.goals × (point.cursor ≤ z) × AllFit nodes z rest
+
+-- the whole stack, whose top waits for the answer of its deferred part
+abbrev pub waiting : List Node → (s : List ℕ) (start : ℕ) → List Point → Search
+waiting nodes s start [] answers left = Gives [] answers left Exhausted
+waiting nodes s start (point ∷ rest) answers left =
+    resume nodes s start rest (with_answer (search s start) (goals_of nodes (rest_of point.goals)) point.cursor point.pending answers left)
+
+-- only the newest point may be still to be entered
+pub record IsStack (nodes : List Node) (z : ℕ) (points : List Point) : Type 0 where
+  pub fit : AllFit nodes z points
+  pub marked : AllMarked (below points)

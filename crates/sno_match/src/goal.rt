@@ -1,0 +1,35 @@
+//! What is still to be matched.
+use sno_value::{Name, PatId};
+
+/// What is still to be matched. Entering a goal is one step.
+#[derive(Clone, Copy, Debug, PartialEq, Eq)]
+pub enum Goal {
+    /// A pattern of the table, from the cursor.
+    Match(PatId),
+    /// The end of `P . N`: the part from `start` to the cursor joins the pending list.
+    CloseCond { target: Name, start: usize },
+    /// The end of `P $ N`: the part from `start` to the cursor is told.
+    CloseImm { target: Name, start: usize },
+    /// The end of a repetition that began at `start`: it fails where the cursor hasn't moved, else the ARBNO with this
+    /// number is a goal again.
+    CloseRepeat { arbno: PatId, start: usize },
+}
+
+/// Whether the first goal of a point is still to be entered, or the number of its next alternative. Taking up an
+/// alternative that exists is one step.
+#[derive(Clone, Copy, Debug, PartialEq, Eq)]
+pub enum Mark {
+    Enter,
+    Next(usize),
+}
+
+/// What is read at the newest point of a stack.
+#[derive(Clone, Copy, Debug, PartialEq, Eq)]
+pub enum Top {
+    /// There is no point.
+    Empty,
+    /// No goal is left at this cursor.
+    Complete(usize, Mark),
+    /// The first goal, and the cursor from which it is to be reached.
+    Open(Goal, usize, Mark),
+}

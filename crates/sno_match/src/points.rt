@@ -1,0 +1,56 @@
+//! The stack of resumption points.
+ghost use Rattle.std.specs.Prelude.{◌≡◌, List, [], ◌∷◌, length, OnOk, OnErr};
+ghost use Rattle.sno_match.specs.Point.{Point, HasFirst, replaced, branched, closed, below};
+ghost use Rattle.sno_match.specs.Top.{IsTop, Finishes, first_point};
+
+use crate::event::Pending;
+use crate::goal::{Goal, Top};
+use std::alloc::{AllocError, Global};
+
+/// A stack of resumption points, seen as a list, the newest first. A call that is refused memory changes nothing.
+pub trait Points: Drop + Sized {
+    ghost points: { Self → List Point };
+
+    fn empty(alloc: Global) -> Self
+        ensures { points result ≡ [] };
+
+    fn depth(&self) -> usize
+        ensures { result ≡ length (points self.now) };
+
+    /// The newest point's first goal, cursor and mark.
+    fn top(&self) -> Top
+        ensures { IsTop (points self.now) result };
+
+    /// These goals take the place of the newest point's first goal, to be entered from this cursor.
+    fn replace(&mut self, front: &[Goal], cursor: usize) -> Result<(), AllocError>
+        requires { HasFirst (points self.old) }
+        ensures ok { OnOk result (points self.new ≡ replaced front.now cursor (points self.old)) }
+        ensures err { OnErr result (points self.new ≡ points self.old) };
+
+    /// The newest point stays, under the number of its next alternative, and above it these goals take the place of its first.
+    fn branch(&mut self, front: &[Goal], cursor: usize, next: usize) -> Result<(), AllocError>
+        requires { HasFirst (points self.old) }
+        ensures ok { OnOk result (points self.new ≡ branched front.now cursor next (points self.old)) }
+        ensures err { OnErr result (points self.new ≡ points self.old) };
+
+    /// The assignment joins the newest point's pending list, and its first goal is dropped.
+    fn close(&mut self, assignment: Pending) -> Result<(), AllocError>
+        requires { HasFirst (points self.old) }
+        ensures ok { OnOk result (points self.new ≡ closed assignment (points self.old)) }
+        ensures err { OnErr result (points self.new ≡ points self.old) };
+
+    /// The newest point is dropped.
+    fn pop(&mut self)
+        ensures { points self.new ≡ below (points self.old) };
+
+    /// The newest point is dropped, and its pending list is handed over.
+    fn finish(&mut self, way: &mut Vec<Pending>) -> Result<(), AllocError>
+        ensures ok { OnOk result (Finishes (points self.old) (points self.new) way.new.items) }
+        ensures err { OnErr result ((points self.new ≡ points self.old) × (way.new.items ≡ way.old.items)) };
+
+    /// The first point of a search.
+    fn begin(&mut self, goal: Goal, cursor: usize) -> Result<(), AllocError>
+        requires { points self.old ≡ [] }
+        ensures ok { OnOk result (points self.new ≡ first_point goal cursor ∷ []) }
+        ensures err { OnErr result (points self.new ≡ points self.old) };
+}
