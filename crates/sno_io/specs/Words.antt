@@ -1,0 +1,79 @@
+-- The program's commands, as `clap` knows them, and the job that the words hold.
+use Rattle.std.specs.Prelude.{◌≡◌, ℕ, ◌≤◌, Bool, List, None, Some, MatchOption, codes, true, false}
+use Rattle.std.specs.Str.Parse.{digits_value, without_leading_plus}
+use Rattle.clap.specs.Words.{App, Row, Rule, Text, first_of, new_app, new_rule, one_of, subcommand_of, with_rule, with_subcommand}
+use Rattle.clap.specs.Simple.{on_top}
+use Rattle.clap.specs.declared.builder.action.ArgAction.TheVariants.{Set, SetTrue}
+use Rattle.clap.specs.declared.builder.value_parser.ValueParser.{ValueParser}
+use Rattle.clap.specs.declared.builder.value_parser.ValueParser.TheVariants as parsers
+use Rattle.clap.specs.declared.error.kind.ErrorKind.{ErrorKind}
+use Rattle.clap.specs.declared.error.kind.ErrorKind.TheVariants.{DisplayHelp, DisplayVersion, OutOfMemory}
+use Rattle.sno_io.specs.declared.jobs.Job.{Job}
+use Rattle.sno_io.specs.declared.jobs.Job.TheVariants.{Ways}
+
+-- ---- the commands
+
+-- a word that has to be there
+abbrev pub word_rule : Text → Rule
+word_rule id = record (new_rule id) { action = Some Set; required = true }
+
+-- an option `--id N`
+abbrev pub number_rule : Text → ValueParser → Rule
+number_rule id parser = record (new_rule id) { long = Some id; action = Some Set; value_names = 1; parser = Some parser }
+
+-- a flag `--id`
+abbrev pub flag_rule : Text → Rule
+flag_rule id = record (new_rule id) { long = Some id; action = Some SetTrue }
+
+-- ways [--anchor] [--steps N] PATTERN SUBJECT
+abbrev pub ways_app : App
+ways_app =
+    with_rule (with_rule (with_rule (with_rule (new_app (codes "ways"))
+    (flag_rule (codes "anchor")))
+    (number_rule (codes "steps") (parsers.Unsigned 0 1000000000)))
+    (word_rule (codes "PATTERN")))
+    (word_rule (codes "SUBJECT"))
+
+-- the program with no command, which wants one
+abbrev pub bare_app : App
+bare_app = on_top (λ s. record s { arg_required_else_help = true; subcommand_required = true }) (new_app (codes "snobol4"))
+
+-- the program with its commands
+abbrev pub snobol4 : App
+snobol4 = with_subcommand bare_app ways_app.top
+
+-- ---- what the words hold, by the rows that `clap` finds in them
+
+-- The number of an option: what its text says, or the default where it is absent; in its range.
+pub record IsNumber (least most default : ℕ) (id : Text) (rows : List Row) (n : ℕ) : Type 0 where
+  pub absent : one_of id rows ≡ None → n ≡ default
+  pub given : (text : Text) → one_of id rows ≡ Some text → n ≡ digits_value 10 (without_leading_plus text)
+  pub least_holds : least ≤ n
+  pub most_holds : n ≤ most
+
+-- A flag: whether the words have it.
+pub record IsFlag (id : Text) (rows : List Row) (flag : Bool) : Type 0 where
+  pub absent : one_of id rows ≡ None → flag ≡ false
+  pub given : one_of id rows ≡ Some (codes "true") → flag ≡ true
+  pub not_given : one_of id rows ≡ Some (codes "false") → flag ≡ false
+
+-- the job of the command of that name, whose words gave these rows
+abbrev pub IsJob : Text → List Row → Job → Type 0
+IsJob name rows (Ways anchored steps pattern subject) = (name ≡ codes "ways")
+    × IsFlag (codes "anchor") rows anchored
+    × IsNumber 0 1000000000 1000000 (codes "steps") rows steps
+    × (first_of (codes "PATTERN") rows ≡ Some pattern.now)
+    × (first_of (codes "SUBJECT") rows ≡ Some subject.now)
+
+-- the job of the words, of which the first is the program's name
+abbrev pub IsJobOf : List Text → Job → Type 0
+IsJobOf words job = MatchOption (subcommand_of snobol4 words) ⊥ (λ found. IsJob found.0 found.1 job)
+
+-- ---- where they hold none
+
+-- the status with which the program ends
+abbrev pub status : ErrorKind → ℕ
+status DisplayHelp = 0
+status DisplayVersion = 0
+status OutOfMemory = 6
+status _ = 64
