@@ -1,7 +1,7 @@
 -- The pattern language that `ways` knows today: literals, FAIL, LEN with a number, concatenation, `|` and brackets.
 -- A text of it is an expression of the whole grammar that has no other tokens.
 use Rattle.std.specs.Prelude.{◌≡◌, ℕ, ◌==◌, ◌||◌, ◌⊎◌, Bool, true, false, List, [], ◌∷◌, if◌then◌else◌}
-use Rattle.sno_text.specs.Bytes.{is_blank, is_digit}
+use Rattle.sno_text.specs.Bytes.{is_digit}
 use Rattle.sno_text.specs.Trees.{Tree, fits}
 use Rattle.sno_text.specs.Grammar.{IsExpression}
 use Rattle.sno_text.specs.Refusals.{HasOpenLiteral, IsTooLarge, IsNoExpression, IsAccepted}
@@ -9,6 +9,9 @@ use Rattle.sno_text.specs.declared.error.ReadError.{ReadError}
 use Rattle.sno_text.specs.declared.error.ReadError.TheVariants.{Syntax, DuplicateLabel, NoEnd, TooLarge, NoMemory}
 use Rattle.snobol.specs.declared.narrow.Place.{Place}
 use Rattle.snobol.specs.declared.narrow.Place.TheVariants.{Between, Inside, F, Fa, Fai, Fail, L, Le, Len, Argument, Minus, Digits, Shut, Other}
+
+abbrev pub is_blank : ℕ → Bool
+is_blank b = (b == 32) || (b == 9)
 
 -- where a token may begin
 abbrev pub after_token : ℕ → Place

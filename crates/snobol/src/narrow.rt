@@ -1,6 +1,6 @@
 //! The tokens of the pattern language that `ways` knows today.
-ghost use Rattle.std.specs.Prelude.{◌≡◌};
-ghost use Rattle.snobol.specs.Narrow.{after as place_after, after_token as place_after_token, is_complete as is_complete_place, is_narrow as is_narrow_text};
+ghost use Rattle.std.specs.Prelude.{◌≡◌, if◌then◌else◌};
+ghost use Rattle.snobol.specs.Narrow.{after as place_after, after_token as place_after_token, is_complete as is_complete_place, is_blank as is_blank_byte, is_narrow as is_narrow_text};
 ghost use Rattle.sno_text.specs.Bytes as bytes;
 
 /// What has been read of a text.
@@ -89,16 +89,17 @@ fn after(place: Place, byte: u8) -> Place
 }
 
 /// The place behind a byte where a token may begin.
-#[tactic(auto, unfolding(Rattle::sno_text::specs::Bytes::is_blank))]
 fn after_token(byte: u8) -> Place
     ensures { result ≡ place_after_token byte }
 {
-    match byte {
-        b'\'' | b'"' => Place::Inside(byte),
-        b' ' | b'\t' | b'(' | b')' | b'|' => Place::Between,
-        b'F' => Place::F,
-        b'L' => Place::L,
-        _ => Place::Other,
+    if byte == b'\'' || byte == b'"' {
+        Place::Inside(byte)
+    } else if is_blank(byte) || byte == b'(' || byte == b')' || byte == b'|' {
+        Place::Between
+    } else if byte == b'F' {
+        Place::F
+    } else {
+        next_if(byte == b'L', Place::L)
     }
 }
 
@@ -109,11 +110,12 @@ fn next_if(test: bool, next: Place) -> Place
 }
 
 fn is_blank(byte: u8) -> bool
-    ensures { result ≡ bytes.is_blank byte }
+    ensures { result ≡ is_blank_byte byte }
 {
     byte == b' ' || byte == b'\t'
 }
 
+#[tactic(auto, unfolding(sno_text::specs::Bytes::is_digit))]
 fn is_digit(byte: u8) -> bool
     ensures { result ≡ bytes.is_digit byte }
 {

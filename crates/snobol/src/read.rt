@@ -1,8 +1,6 @@
 //! The pattern texts that `ways` knows today.
-ghost use Rattle.std.specs.Prelude.{◌≡◌, ◌<◌, true, length, IfOk, IfErr};
-ghost use Rattle.sno_text.specs.Trees.{Tree, Stands};
-ghost use Rattle.sno_text.specs.Refusals.{IsAccepted};
-ghost use Rattle.snobol.specs.Narrow.{IsRefusal, is_narrow as is_narrow_text};
+ghost use Rattle.std.specs.Prelude.{IfOk, IfErr};
+ghost use Rattle.snobol.specs.Reading.{IsRead, IsRefusalOrMemory};
 
 use crate::narrow::is_narrow;
 use sno_text::{Program, ReadError, read_expression};
