@@ -1,2 +1,12 @@
+pub mod World
+pub mod Values
+pub mod Action
+pub mod Builtins
+pub mod Forms
+pub mod Evaluate
+pub mod State
+pub mod Pile
 pub mod Narrow
 pub mod Reading
+pub mod Lines
+pub mod Listing

@@ -1,0 +1,40 @@
+-- The variables that begin with a pattern, and the functions of the language.
+use Rattle.std.specs.Prelude.{ℕ, List, [], ◌∷◌, Option, Some, None, codes, if◌then◌else◌}
+use Rattle.std.specs.Str.{bytes_eq}
+use Rattle.sno_value.specs.declared.kind.PrimitiveKind.TheVariants.{Len, Pos, Rpos, Tab, Rtab, Any, NotAny, Span, Break}
+use Rattle.sno_pattern.specs.Pattern.{Pattern, Arb, Bal, Rem, Fail, Leaf, Fence, Abort, Succeed}
+use Rattle.snobol.specs.declared.builtins.Builtin.{Builtin}
+use Rattle.snobol.specs.declared.builtins.Builtin.TheVariants.{Primitive, Arbno, Later}
+
+-- what stands beside a name in a table
+abbrev pub found : {A : Type 0} → List ℕ → List (List ℕ × A) → Option A
+found name [] = None
+found name (row ∷ rows) = if bytes_eq name row.0 then Some row.1 else found name rows
+
+-- the variables that begin with a pattern
+abbrev pub pattern_variables : List (List ℕ × Pattern)
+pattern_variables =
+    (codes "ARB", Leaf Arb) ∷ (codes "BAL", Leaf Bal) ∷ (codes "REM", Leaf Rem) ∷ (codes "FAIL", Leaf Fail) ∷ (codes "FENCE", Fence) ∷ (codes "ABORT", Abort) ∷ (codes "SUCCEED", Succeed) ∷ []
+
+-- the functions that make a pattern
+abbrev pub pattern_functions : List (List ℕ × Builtin)
+pattern_functions =
+    (codes "LEN", Primitive Len) ∷ (codes "POS", Primitive Pos) ∷ (codes "RPOS", Primitive Rpos) ∷ (codes "TAB", Primitive Tab)
+    ∷ (codes "RTAB", Primitive Rtab) ∷ (codes "ANY", Primitive Any) ∷ (codes "NOTANY", Primitive NotAny) ∷ (codes "SPAN", Primitive Span)
+    ∷ (codes "BREAK", Primitive Break) ∷ (codes "ARBNO", Arbno) ∷ []
+
+-- those that are still to come
+abbrev pub later_functions : List (List ℕ × Builtin)
+later_functions =
+    (codes "EQ", Later) ∷ (codes "NE", Later) ∷ (codes "LT", Later) ∷ (codes "LE", Later) ∷ (codes "GT", Later) ∷ (codes "GE", Later)
+    ∷ (codes "IDENT", Later) ∷ (codes "DIFFER", Later) ∷ (codes "LGT", Later) ∷ (codes "INTEGER", Later) ∷ (codes "SIZE", Later)
+    ∷ (codes "TRIM", Later) ∷ (codes "DUPL", Later) ∷ (codes "REPLACE", Later) ∷ (codes "REMDR", Later) ∷ (codes "DATATYPE", Later)
+    ∷ (codes "CONVERT", Later) ∷ (codes "ARRAY", Later) ∷ (codes "TABLE", Later) ∷ (codes "PROTOTYPE", Later) ∷ (codes "DEFINE", Later) ∷ []
+
+-- the first of two that there is
+abbrev pub first_found : {A : Type 0} → Option A → Option A → Option A
+first_found (Some x) other = Some x
+first_found None other = other
+
+abbrev pub function_named : List ℕ → Option Builtin
+function_named name = first_found (found name pattern_functions) (found name later_functions)

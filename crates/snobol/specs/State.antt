@@ -1,0 +1,37 @@
+-- What contracts see of a machine, and what its functions did.
+use Rattle.std.specs.Prelude.{◌≡◌, ℕ, ◌<◌, ◌≤◌, List, [], ◌∷◌, ◌++◌, length, Option, None, Some, Result, Ok, Err}
+use Rattle.sno_pattern.specs.Table.{Node}
+use Rattle.snobol.specs.declared.machine.Exit.{Exit}
+use Rattle.snobol.specs.declared.machine.Exit.TheVariants.{Failure, Halt}
+use Rattle.snobol.specs.declared.machine.Stop.{Stop}
+use Rattle.snobol.specs.declared.machine.Stop.TheVariants.{Error as HasError, NoMemory, WriteFault}
+use Rattle.snobol.specs.World.{World}
+use Rattle.snobol.specs.Action.{End, Error, Ending, Got, Fails, Stops, Outcome, Action}
+
+pub record State : Type 0 where
+  pub nodes : List Node
+
+abbrev pub world : State → World
+world s = record { nodes = length s.nodes }
+
+-- how what the code answers meets the outcome of an action that writes nothing
+abbrev pub Meets : {X A : Type 0} → (X → A) → Outcome A → World → Result X Exit → Type 0
+Meets see o after (Ok x) = o ≡ record { ending = Got (see x); world = after; wrote = [] }
+Meets see o after (Err Failure) = o ≡ record { ending = Fails; world = after; wrote = [] }
+Meets see o after (Err (Halt (HasError code))) = (o.ending ≡ Stops (Error code)) × (o.wrote ≡ [])
+Meets see o after (Err (Halt NoMemory)) = Unit {0}
+Meets see o after (Err (Halt WriteFault)) = ⊥
+
+-- the nodes of a table that has grown
+abbrev pub Grows : List Node → List Node → Type 0
+Grows old new = (more : List Node) × (new ≡ old ++ more)
+
+abbrev pub OnAnswer : {X : Type 0} → (X → Type 0) → Result X Exit → Type 0
+OnAnswer P (Ok x) = P x
+OnAnswer P (Err e) = Unit {0}
+
+-- The code did what the action does. `see` says which value an answer stands for, and `fits` what holds of it, in the table after.
+pub record Does {X A : Type 0} (see : List Node → X → A) (fits : List Node → X → Type 0) (act : Action A) (before after : State) (result : Result X Exit) : Type 0 where
+  pub grows : Grows before.nodes after.nodes
+  pub meets : Meets (see after.nodes) (act (world before)) (world after) result
+  pub answer : OnAnswer (fits after.nodes) result

@@ -1,0 +1,90 @@
+//! The program `snobol4`: the words of the command line, the devices, and the status.
+#![tactic(auto)]
+
+use snobol::{Device, Job, Sink, command, perform, status_of};
+use std::alloc::Global;
+use std::env;
+use std::io::{self, BufWriter, ErrorKind, IsTerminal, LineWriter, Write};
+use std::process::ExitCode;
+
+/// The status of a usage fault.
+const USAGE: u8 = 64;
+
+/// The status where memory is refused.
+const NO_MEMORY: u8 = 6;
+
+/// The status of a device's fault.
+const FAULT: u8 = 7;
+
+fn main(rt: HostRuntime) -> ExitCode {
+    let status = match env::args(&rt) {
+        Ok(args) => match args.collect::<Vec<String>>(rt.alloc()) {
+            Ok(words) => obey(&rt, &words),
+            Err(_) => no_memory(&rt),
+        },
+        Err(error) if error.kind() == ErrorKind::OutOfMemory => no_memory(&rt),
+        Err(_) => {
+            let _ = eprintln!(rt; "error: a word of the command line is not UTF-8");
+            USAGE
+        }
+    };
+    ExitCode::from(status)
+}
+
+/// Does what the words ask for.
+fn obey(rt: &HostRuntime, args: &[String]) -> u8 {
+    let alloc = rt.alloc();
+    let mut words = Vec::new(alloc);
+    for arg in args {
+        if words.push(arg.as_str()).is_err() {
+            return no_memory(rt);
+        }
+    }
+    match command(alloc, &words) {
+        Ok(job) => work(rt, &job),
+        Err(error) => {
+            let status = status_of(&error);
+            if status == NO_MEMORY {
+                return no_memory(rt);
+            }
+            let _ = error.print(rt);
+            status
+        }
+    }
+}
+
+/// Does a job on standard output, which is written through a buffer: by lines where it is a terminal.
+fn work(rt: &HostRuntime, job: &Job) -> u8 {
+    let alloc = rt.alloc();
+    let stdout = io::stdout();
+    if stdout.is_terminal() {
+        match LineWriter::new(alloc, stdout) {
+            Ok(writer) => finish(rt, job, writer),
+            Err(_) => no_memory(rt),
+        }
+    } else {
+        match BufWriter::new(alloc, stdout) {
+            Ok(writer) => finish(rt, job, writer),
+            Err(_) => no_memory(rt),
+        }
+    }
+}
+
+/// Does a job, and writes out what the buffer holds before a fault is told.
+fn finish<W: Write + Drop>(rt: &HostRuntime, job: &Job, writer: W) -> u8 {
+    let alloc = rt.alloc();
+    let mut output = Device::new(writer);
+    let mut errors = Device::new(Vec::new(alloc));
+    let status = perform(alloc, job, &mut output, &mut errors);
+    if output.flush().is_err() {
+        let _ = eprintln!(rt; "snobol4: write fault");
+        return FAULT;
+    }
+    let _ = io::stderr().write_all(errors.into_inner().as_slice());
+    status
+}
+
+fn no_memory(rt: &HostRuntime) -> u8 {
+    let _ = eprintln!(rt; "snobol4: no memory");
+    NO_MEMORY
+}
