@@ -55,12 +55,12 @@ end_of-kind entries id entry s c i t h e =
     let at = node-at entries id entry h e in
     rw (tree-at (nodes_of entries) id (node_of entry.kind) t.parts at) (end_of-tree (trees_onto [] (nodes_of entries)) (node_of entry.kind) s c i)
 
-slice_get-count_from : (c n i : ℕ) → i < n → slice_get (count_from c n) i ≡ Some (c + i)
+pub slice_get-count_from : (c n i : ℕ) → i < n → slice_get (count_from c n) i ≡ Some (c + i)
 slice_get-count_from c zero i h = absurd (omega arith)
 slice_get-count_from c (suc n) zero h = ap Some (omega arith)
 slice_get-count_from c (suc n) (suc i) h = let e : c + 1 + i ≡ c + suc i = omega arith in slice_get-count_from (c + 1) n i (omega arith) ∙ ap Some e
 
-slice_get-count_from_none : (c n i : ℕ) → n ≤ i → slice_get (count_from c n) i ≡ None
+pub slice_get-count_from_none : (c n i : ℕ) → n ≤ i → slice_get (count_from c n) i ≡ None
 slice_get-count_from_none c zero i h = refl
 slice_get-count_from_none c (suc n) zero h = absurd (omega arith)
 slice_get-count_from_none c (suc n) (suc i) h = slice_get-count_from_none (c + 1) n i (omega arith)

@@ -1,5 +1,5 @@
 //! The ends of primitives with a count.
-ghost use Rattle.std.specs.Prelude.{◌≡◌, ◌≤◌, length, slice_get};
+ghost use Rattle.std.specs.Prelude.{◌≡◌, ℕ, ◌≤◌, List, length, slice_get};
 ghost use Rattle.sno_pattern.specs.Pattern.{Len, Pos, Rpos, Tab, Rtab};
 ghost use Rattle.sno_pattern.specs.Ends.{ends};
 
@@ -16,8 +16,8 @@ pub(crate) fn len_end(n: u64, subject: &[u8], at: usize) -> Option<usize>
 }
 
 /// POS(n): the cursor, if it is `n`.
-pub(crate) fn pos_end(n: u64, subject: &[u8], at: usize) -> Option<usize>
-    ensures { result ≡ slice_get (ends (Pos n) subject.now at) 0 }
+pub(crate) fn pos_end(n: u64, at: usize) -> Option<usize>
+    ensures { (s : List ℕ) → result ≡ slice_get (ends (Pos n) s at) 0 }
 {
     if n == at as u64 { Some(at) } else { None }
 }

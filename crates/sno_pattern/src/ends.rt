@@ -1,5 +1,5 @@
 //! Where a primitive ends.
-ghost use Rattle.std.specs.Prelude.{◌≡◌, ◌≤◌, length, slice_get};
+ghost use Rattle.std.specs.Prelude.{◌≡◌, ℕ, ◌≤◌, ◌+◌, length, slice_get, Some};
 ghost use Rattle.sno_pattern.specs.Pattern.{Text};
 ghost use Rattle.sno_pattern.specs.Ends.{ends};
 ghost use Rattle.sno_pattern.specs.Shape.{end_of_node};
@@ -31,6 +31,25 @@ pub(crate) fn end_of_kind(kind: &Kind, subject: &[u8], at: usize, i: usize) -> O
     }
 }
 
+/// The end of a primitive node that is tried after another.
+pub(crate) fn end_behind_of_kind(kind: &Kind, subject: &[u8], last: usize) -> Option<usize>
+    requires { last ≤ length subject.now }
+    ensures { (c k : ℕ) → c ≤ length subject.now → end_of_node (node_of kind.now) subject.now c k ≡ Some last
+        → result ≡ end_of_node (node_of kind.now) subject.now c (k + 1) }
+{
+    match kind {
+        Kind::Arb => {
+            if last < subject.len() {
+                Some(last + 1)
+            } else {
+                None
+            }
+        }
+        Kind::Bal => balanced_end(subject, last),
+        _ => None,
+    }
+}
+
 /// The end of a primitive node that is tried first.
 fn first_end(kind: &Kind, subject: &[u8], at: usize) -> Option<usize>
     requires { at ≤ length subject.now }
@@ -39,7 +58,7 @@ fn first_end(kind: &Kind, subject: &[u8], at: usize) -> Option<usize>
     match kind {
         Kind::Text(text) => text_end(text, subject, at),
         Kind::Len(n) => len_end(*n, subject, at),
-        Kind::Pos(n) => pos_end(*n, subject, at),
+        Kind::Pos(n) => pos_end(*n, at),
         Kind::Rpos(n) => rpos_end(*n, subject, at),
         Kind::Tab(n) => tab_end(*n, subject, at),
         Kind::Rtab(n) => rtab_end(*n, subject, at),

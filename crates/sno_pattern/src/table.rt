@@ -1,16 +1,17 @@
 //! The table of patterns: its builders and look-ups.
-ghost use Rattle.std.specs.Prelude.{◌≡◌, ◌<◌, ◌≤◌, ◌↔◌, ◌⊎◌, [], ◌∷◌, ◌++◌, length, Some, None, IfOk, IfErr, IfSome, OnErr, IsErrOf, IsTrue};
+ghost use Rattle.std.specs.Prelude.{◌≡◌, ℕ, ◌+◌, ◌<◌, ◌≤◌, ◌↔◌, ◌⊎◌, [], ◌∷◌, ◌++◌, length, Some, None, IfOk, IfErr, IfSome, OnErr, IsErrOf, IsTrue, Contains};
 ghost use Rattle.sno_pattern.specs.Pattern.{Text, Arb, Bal, Rem, Fail};
 ghost use Rattle.sno_pattern.specs.Shape.{HasShape, IsPrimitive, end_of};
 ghost use Rattle.sno_pattern.specs.Table.{tree, LeafNode, FenceNode, AbortNode, SucceedNode, ArbnoNode, AltNode, CatNode, CondNode, ImmNode, PlaceNode, DeferNode, PartsBelow};
 ghost use Rattle.sno_pattern.specs.Arguments.{IsArgOf, IsNullSet, IsBadCount, IsGoodArg, primitive_of};
 ghost use Rattle.sno_pattern.specs.Built.{Appends};
 ghost use Rattle.sno_pattern.specs.Quiet.{IsQuiet};
+ghost use Rattle.sno_pattern.specs.NextEnd.{ends_of, next_end};
 ghost use Rattle.sno_pattern.specs.Kinds.{nodes_of, node_of, IsTable};
 
 use crate::argument::{Arg, among, counted};
 use crate::byte_set::ByteSet;
-use crate::ends::end_of_kind;
+use crate::ends::{end_behind_of_kind, end_of_kind};
 use crate::kind::{Entry, Kind, is_quiet_over, shape_of_kind};
 use crate::shape::Shape;
 use sno_value::{ExprId, Name, PatId, Prim};
@@ -299,6 +300,20 @@ impl Patterns {
         ensures few { IfSome result (λ _. i ≤ length subject.now) }
     {
         end_of_kind(&self.entries[id.0 as usize].kind, subject, at, i)
+    }
+
+    /// The end of a primitive from the cursor `at` that is tried after its end `last`, if there is one. It is the least
+    /// that is greater. For ARB that takes constant time, for BAL a look at the bytes from `last` on.
+    pub fn end_behind(&self, id: PatId, subject: &[u8], at: usize, last: usize) -> Option<usize>
+        requires id { id.0 < length self.now }
+        requires at { at ≤ length subject.now }
+        requires last { Contains (ends_of (tree self.now id.0) subject.now at) last }
+        ensures value { result ≡ next_end (tree self.now id.0) subject.now at last }
+        ensures by_number { (i : ℕ) → end_of (tree self.now id.0) subject.now at i ≡ Some last
+            → result ≡ end_of (tree self.now id.0) subject.now at (i + 1) }
+        ensures inside { IfSome result (λ e. e ≤ length subject.now) }
+    {
+        end_behind_of_kind(&self.entries[id.0 as usize].kind, subject, last)
     }
 }
 
