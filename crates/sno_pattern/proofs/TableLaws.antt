@@ -4,6 +4,7 @@ use Rattle.std.proofs.Math.ListN.{get_or-append}
 use Rattle.std.proofs.Math.Seq.{get_or-append_seam}
 use Rattle.sno_pattern.specs.Pattern.{Pattern, Leaf, Fence, Abort, Succeed, Arbno, Alt, Cat, Cond, Imm, Place, Defer}
 use Rattle.sno_pattern.specs.Table.{Node, LeafNode, FenceNode, AbortNode, SucceedNode, ArbnoNode, AltNode, CatNode, CondNode, ImmNode, PlaceNode, DeferNode, tree_over, trees_onto, tree, no_pattern, AllParts, PartsBelow}
+use Rattle.sno_pattern.specs.Built.{Appends}
 use Rattle.sno_pattern.specs.Quiet.{IsQuiet}
 use Rattle.sno_pattern.specs.Kinds.{node_of, nodes_of, flags_of, quiet_over, IsTable}
 use Rattle.sno_pattern.specs.declared.kind.Kind.{Kind}
@@ -112,23 +113,19 @@ quiet_over-tree flags trees (ImmNode p target) n h e = e p h
 quiet_over-tree flags trees (PlaceNode target) n h e = (λ t. tt, λ t. refl)
 quiet_over-tree flags trees (DeferNode primitive expression) n h e = (λ t. absurd (cc), λ t. absurd t)
 
-slice_get-last : (nodes : List Node) (node : Node) → slice_get (nodes ++ node ∷ []) (length nodes) ≡ Some node
-slice_get-last [] node = refl
-slice_get-last (x ∷ nodes) node = slice_get-last nodes node
-
 -- the tree of the last node
-tree-last : (nodes : List Node) (node : Node) → AllParts 0 nodes → PartsBelow node (length nodes) → tree (nodes ++ node ∷ []) (length nodes) ≡ tree_over (trees_onto [] nodes) node
-tree-last nodes node h p =
-    let z : 0 + length nodes ≡ length nodes = omega arith in
-    tree-at (nodes ++ node ∷ []) (length nodes) node (AllParts-append 0 nodes node h (rw z p)) (slice_get-last nodes node) ∙
-    tree_over-same (trees_onto [] (nodes ++ node ∷ [])) (trees_onto [] nodes) node (length nodes) p (λ i below. tree-append nodes (node ∷ []) i below)
+pub tree-last : (nodes : List Node) (node : Node) → tree (nodes ++ node ∷ []) (length nodes) ≡ tree_over (trees_onto [] nodes) node
+tree-last nodes node =
+    let long : length (trees_onto [] nodes) ≡ length nodes = omega (arith, trees_onto-length [] nodes) in
+    ap (λ ts. get_or ts (length nodes) no_pattern) (trees_onto-append [] nodes (node ∷ [])) ∙
+    rw (← long) (get_or-append_seam (trees_onto [] nodes) (tree_over (trees_onto [] nodes) node) [] no_pattern)
 
 quiet-last : (flags : List Bool) (quiet : Bool) (nodes : List Node) (node : Node) (id : ℕ) → length flags ≡ length nodes → length nodes ≡ id → AllParts 0 nodes → PartsBelow node id →
     ((i : ℕ) → i < id → IsTrue (get_or flags i false) ↔ IsQuiet (tree nodes i)) → quiet ≡ quiet_over flags node →
     IsTrue (get_or (flags ++ quiet ∷ []) id false) ↔ IsQuiet (tree (nodes ++ node ∷ []) id)
 quiet-last flags quiet nodes node id same at h p q e =
     let seam : get_or (flags ++ quiet ∷ []) id false ≡ quiet = rw (← at, ← same) (get_or-append_seam flags quiet [] false) in
-    let last : tree (nodes ++ node ∷ []) id ≡ tree_over (trees_onto [] nodes) node = rw (← at) (tree-last nodes node h (rw at p)) in
+    let last : tree (nodes ++ node ∷ []) id ≡ tree_over (trees_onto [] nodes) node = rw (← at) (tree-last nodes node) in
     rw (seam, last, e) (quiet_over-tree flags (trees_onto [] nodes) node id p q)
 
 quiet-old : (flags : List Bool) (quiet : Bool) (nodes : List Node) (node : Node) (id : ℕ) → length flags ≡ length nodes → id < length nodes →
@@ -163,3 +160,16 @@ appended xs ys kind quiet h p room q e = record {
       (let e' : 0 + length (nodes_of xs) ≡ length xs = omega (arith, length-nodes xs) in rw e' p));
   quiet = rw e (quiet-appended xs kind quiet h p q);
 }
+
+-- what `append` says of the nodes and the trees
+pub appends : (xs ys : List Entry) (entry : Entry) (n : ℕ) → n ≡ length xs → length xs < 4000000 → ys ≡ xs ++ entry ∷ [] →
+    Appends (nodes_of xs) (nodes_of ys) (node_of entry.kind) (record { 0 = n })
+appends xs ys entry n at room e =
+    let grown : nodes_of ys ≡ nodes_of xs ++ node_of entry.kind ∷ [] = ap nodes_of e ∙ nodes_of-append xs entry in
+    (omega (arith, length-nodes xs), grown, omega (arith, length-nodes xs), λ k below. rw grown (tree-append (nodes_of xs) (node_of entry.kind ∷ []) k below))
+
+pub stands : (xs ys : List Entry) (entry : Entry) (n : ℕ) → n ≡ length xs → ys ≡ xs ++ entry ∷ [] → tree (nodes_of ys) n ≡ tree_over (trees_onto [] (nodes_of xs)) (node_of entry.kind)
+stands xs ys entry n at e =
+    let grown : nodes_of ys ≡ nodes_of xs ++ node_of entry.kind ∷ [] = ap nodes_of e ∙ nodes_of-append xs entry in
+    let last : n ≡ length (nodes_of xs) = omega (arith, length-nodes xs) in
+    rw (grown, last) (tree-last (nodes_of xs) (node_of entry.kind))

@@ -1,8 +1,8 @@
 //! The table of patterns: its builders and look-ups.
-ghost use Rattle.std.specs.Prelude.{◌≡◌, ℕ, ◌+◌, ◌<◌, ◌≤◌, ◌↔◌, ◌⊎◌, [], ◌∷◌, ◌++◌, length, Some, None, IfOk, IfErr, IfSome, OnErr, IsErrOf, IsTrue, Contains};
-ghost use Rattle.sno_pattern.specs.Pattern.{Text, Arb, Bal, Rem, Fail};
+ghost use Rattle.std.specs.Prelude.{◌≡◌, ℕ, ◌+◌, ◌<◌, ◌≤◌, ◌↔◌, ◌⊎◌, [], ◌∷◌, ◌++◌, length, Some, None, IfOk, IfErr, IfSome, OnOk, OnErr, IsErrOf, IsTrue, Contains};
+ghost use Rattle.sno_pattern.specs.Pattern.{Text, Arb, Bal, Rem, Fail, Leaf, Fence, Abort, Succeed, Arbno, Alt, Cat, Cond, Imm, Place, Defer};
 ghost use Rattle.sno_pattern.specs.Shape.{HasShape, IsPrimitive, end_of};
-ghost use Rattle.sno_pattern.specs.Table.{tree, LeafNode, FenceNode, AbortNode, SucceedNode, ArbnoNode, AltNode, CatNode, CondNode, ImmNode, PlaceNode, DeferNode, PartsBelow};
+ghost use Rattle.sno_pattern.specs.Table.{tree, tree_over, trees_onto, LeafNode, FenceNode, AbortNode, SucceedNode, ArbnoNode, AltNode, CatNode, CondNode, ImmNode, PlaceNode, DeferNode, PartsBelow};
 ghost use Rattle.sno_pattern.specs.Arguments.{IsArgOf, IsNullSet, IsBadCount, IsGoodArg, primitive_of};
 ghost use Rattle.sno_pattern.specs.Built.{Appends};
 ghost use Rattle.sno_pattern.specs.Quiet.{IsQuiet};
@@ -76,6 +76,7 @@ impl Patterns {
     pub fn text(&mut self, bytes: &[u8]) -> Result<PatId, BuildError>
         requires { length bytes.now ≤ 1000000 }
         ensures ok { IfOk result (Appends self.old self.new (LeafNode (Text bytes.now))) }
+        ensures stands { IfOk result (λ id. tree self.new id.0 ≡ Leaf (Text bytes.now)) }
         ensures err { OnErr result (self.new ≡ self.old) }
         ensures full { IsErrOf result BuildError.Full ↔ (length self.old ≡ 4000000) }
         ensures others { IfErr result (λ e. (e ≡ BuildError.Full) ⊎ (e ≡ BuildError.NoMemory)) }
@@ -93,7 +94,9 @@ impl Patterns {
     /// `NullSet`, a negative count `BadCount`.
     pub fn prim(&mut self, prim: Prim, arg: Arg<'_>) -> Result<PatId, BuildError>
         requires { IsArgOf prim arg }
-        ensures ok { IfOk result (λ id. IsGoodArg arg.entry × Appends self.old self.new (LeafNode (primitive_of prim arg.entry)) id) }
+        ensures ok { IfOk result (Appends self.old self.new (LeafNode (primitive_of prim arg.entry))) }
+        ensures stands { IfOk result (λ id. tree self.new id.0 ≡ Leaf (primitive_of prim arg.entry)) }
+        ensures good { OnOk result (IsGoodArg arg.entry) }
         ensures err { OnErr result (self.new ≡ self.old) }
         ensures null_set { IsErrOf result BuildError.NullSet ↔ IsNullSet arg.entry }
         ensures bad_count { IsErrOf result BuildError.BadCount ↔ IsBadCount arg.entry }
@@ -118,6 +121,7 @@ impl Patterns {
     /// ARB.
     pub fn arb(&mut self) -> Result<PatId, BuildError>
         ensures ok { IfOk result (Appends self.old self.new (LeafNode Arb)) }
+        ensures stands { IfOk result (λ id. tree self.new id.0 ≡ Leaf Arb) }
         ensures err { OnErr result (self.new ≡ self.old) }
         ensures full { IsErrOf result BuildError.Full ↔ (length self.old ≡ 4000000) }
         ensures others { IfErr result (λ e. (e ≡ BuildError.Full) ⊎ (e ≡ BuildError.NoMemory)) }
@@ -128,6 +132,7 @@ impl Patterns {
     /// BAL.
     pub fn bal(&mut self) -> Result<PatId, BuildError>
         ensures ok { IfOk result (Appends self.old self.new (LeafNode Bal)) }
+        ensures stands { IfOk result (λ id. tree self.new id.0 ≡ Leaf Bal) }
         ensures err { OnErr result (self.new ≡ self.old) }
         ensures full { IsErrOf result BuildError.Full ↔ (length self.old ≡ 4000000) }
         ensures others { IfErr result (λ e. (e ≡ BuildError.Full) ⊎ (e ≡ BuildError.NoMemory)) }
@@ -138,6 +143,7 @@ impl Patterns {
     /// REM.
     pub fn rem(&mut self) -> Result<PatId, BuildError>
         ensures ok { IfOk result (Appends self.old self.new (LeafNode Rem)) }
+        ensures stands { IfOk result (λ id. tree self.new id.0 ≡ Leaf Rem) }
         ensures err { OnErr result (self.new ≡ self.old) }
         ensures full { IsErrOf result BuildError.Full ↔ (length self.old ≡ 4000000) }
         ensures others { IfErr result (λ e. (e ≡ BuildError.Full) ⊎ (e ≡ BuildError.NoMemory)) }
@@ -148,6 +154,7 @@ impl Patterns {
     /// FAIL.
     pub fn fail(&mut self) -> Result<PatId, BuildError>
         ensures ok { IfOk result (Appends self.old self.new (LeafNode Fail)) }
+        ensures stands { IfOk result (λ id. tree self.new id.0 ≡ Leaf Fail) }
         ensures err { OnErr result (self.new ≡ self.old) }
         ensures full { IsErrOf result BuildError.Full ↔ (length self.old ≡ 4000000) }
         ensures others { IfErr result (λ e. (e ≡ BuildError.Full) ⊎ (e ≡ BuildError.NoMemory)) }
@@ -158,6 +165,7 @@ impl Patterns {
     /// FENCE.
     pub fn fence(&mut self) -> Result<PatId, BuildError>
         ensures ok { IfOk result (Appends self.old self.new FenceNode) }
+        ensures stands { IfOk result (λ id. tree self.new id.0 ≡ Fence) }
         ensures err { OnErr result (self.new ≡ self.old) }
         ensures full { IsErrOf result BuildError.Full ↔ (length self.old ≡ 4000000) }
         ensures others { IfErr result (λ e. (e ≡ BuildError.Full) ⊎ (e ≡ BuildError.NoMemory)) }
@@ -168,6 +176,7 @@ impl Patterns {
     /// ABORT.
     pub fn abort(&mut self) -> Result<PatId, BuildError>
         ensures ok { IfOk result (Appends self.old self.new AbortNode) }
+        ensures stands { IfOk result (λ id. tree self.new id.0 ≡ Abort) }
         ensures err { OnErr result (self.new ≡ self.old) }
         ensures full { IsErrOf result BuildError.Full ↔ (length self.old ≡ 4000000) }
         ensures others { IfErr result (λ e. (e ≡ BuildError.Full) ⊎ (e ≡ BuildError.NoMemory)) }
@@ -178,6 +187,7 @@ impl Patterns {
     /// SUCCEED.
     pub fn succeed(&mut self) -> Result<PatId, BuildError>
         ensures ok { IfOk result (Appends self.old self.new SucceedNode) }
+        ensures stands { IfOk result (λ id. tree self.new id.0 ≡ Succeed) }
         ensures err { OnErr result (self.new ≡ self.old) }
         ensures full { IsErrOf result BuildError.Full ↔ (length self.old ≡ 4000000) }
         ensures others { IfErr result (λ e. (e ≡ BuildError.Full) ⊎ (e ≡ BuildError.NoMemory)) }
@@ -189,6 +199,7 @@ impl Patterns {
     pub fn arbno(&mut self, body: PatId) -> Result<PatId, BuildError>
         requires body { body.0 < length self.old }
         ensures ok { IfOk result (Appends self.old self.new (ArbnoNode body.0)) }
+        ensures stands { IfOk result (λ id. tree self.new id.0 ≡ Arbno (tree self.old body.0)) }
         ensures err { OnErr result (self.new ≡ self.old) }
         ensures full { IsErrOf result BuildError.Full ↔ (length self.old ≡ 4000000) }
         ensures others { IfErr result (λ e. (e ≡ BuildError.Full) ⊎ (e ≡ BuildError.NoMemory)) }
@@ -201,6 +212,7 @@ impl Patterns {
         requires first { first.0 < length self.old }
         requires second { second.0 < length self.old }
         ensures ok { IfOk result (Appends self.old self.new (AltNode first.0 second.0)) }
+        ensures stands { IfOk result (λ id. tree self.new id.0 ≡ Alt (tree self.old first.0) (tree self.old second.0)) }
         ensures err { OnErr result (self.new ≡ self.old) }
         ensures full { IsErrOf result BuildError.Full ↔ (length self.old ≡ 4000000) }
         ensures others { IfErr result (λ e. (e ≡ BuildError.Full) ⊎ (e ≡ BuildError.NoMemory)) }
@@ -213,6 +225,7 @@ impl Patterns {
         requires first { first.0 < length self.old }
         requires second { second.0 < length self.old }
         ensures ok { IfOk result (Appends self.old self.new (CatNode first.0 second.0)) }
+        ensures stands { IfOk result (λ id. tree self.new id.0 ≡ Cat (tree self.old first.0) (tree self.old second.0)) }
         ensures err { OnErr result (self.new ≡ self.old) }
         ensures full { IsErrOf result BuildError.Full ↔ (length self.old ≡ 4000000) }
         ensures others { IfErr result (λ e. (e ≡ BuildError.Full) ⊎ (e ≡ BuildError.NoMemory)) }
@@ -224,6 +237,7 @@ impl Patterns {
     pub fn cond(&mut self, body: PatId, target: Name) -> Result<PatId, BuildError>
         requires body { body.0 < length self.old }
         ensures ok { IfOk result (Appends self.old self.new (CondNode body.0 target)) }
+        ensures stands { IfOk result (λ id. tree self.new id.0 ≡ Cond (tree self.old body.0) target) }
         ensures err { OnErr result (self.new ≡ self.old) }
         ensures full { IsErrOf result BuildError.Full ↔ (length self.old ≡ 4000000) }
         ensures others { IfErr result (λ e. (e ≡ BuildError.Full) ⊎ (e ≡ BuildError.NoMemory)) }
@@ -235,6 +249,7 @@ impl Patterns {
     pub fn imm(&mut self, body: PatId, target: Name) -> Result<PatId, BuildError>
         requires body { body.0 < length self.old }
         ensures ok { IfOk result (Appends self.old self.new (ImmNode body.0 target)) }
+        ensures stands { IfOk result (λ id. tree self.new id.0 ≡ Imm (tree self.old body.0) target) }
         ensures err { OnErr result (self.new ≡ self.old) }
         ensures full { IsErrOf result BuildError.Full ↔ (length self.old ≡ 4000000) }
         ensures others { IfErr result (λ e. (e ≡ BuildError.Full) ⊎ (e ≡ BuildError.NoMemory)) }
@@ -245,6 +260,7 @@ impl Patterns {
     /// @N.
     pub fn cursor(&mut self, target: Name) -> Result<PatId, BuildError>
         ensures ok { IfOk result (Appends self.old self.new (PlaceNode target)) }
+        ensures stands { IfOk result (λ id. tree self.new id.0 ≡ Place target) }
         ensures err { OnErr result (self.new ≡ self.old) }
         ensures full { IsErrOf result BuildError.Full ↔ (length self.old ≡ 4000000) }
         ensures others { IfErr result (λ e. (e ≡ BuildError.Full) ⊎ (e ≡ BuildError.NoMemory)) }
@@ -255,6 +271,7 @@ impl Patterns {
     /// *E.
     pub fn defer(&mut self, expression: ExprId) -> Result<PatId, BuildError>
         ensures ok { IfOk result (Appends self.old self.new (DeferNode None expression.0)) }
+        ensures stands { IfOk result (λ id. tree self.new id.0 ≡ Defer None expression.0) }
         ensures err { OnErr result (self.new ≡ self.old) }
         ensures full { IsErrOf result BuildError.Full ↔ (length self.old ≡ 4000000) }
         ensures others { IfErr result (λ e. (e ≡ BuildError.Full) ⊎ (e ≡ BuildError.NoMemory)) }
@@ -265,6 +282,7 @@ impl Patterns {
     /// A primitive with the argument *E.
     pub fn defer_prim(&mut self, prim: Prim, expression: ExprId) -> Result<PatId, BuildError>
         ensures ok { IfOk result (Appends self.old self.new (DeferNode (Some prim) expression.0)) }
+        ensures stands { IfOk result (λ id. tree self.new id.0 ≡ Defer (Some prim) expression.0) }
         ensures err { OnErr result (self.new ≡ self.old) }
         ensures full { IsErrOf result BuildError.Full ↔ (length self.old ≡ 4000000) }
         ensures others { IfErr result (λ e. (e ≡ BuildError.Full) ⊎ (e ≡ BuildError.NoMemory)) }
@@ -324,6 +342,7 @@ fn append(entries: &mut Vec<Entry>, kind: Kind) -> Result<PatId, BuildError>
     requires parts { PartsBelow (node_of kind) (length entries.old.items) }
     ensures table { IsTable entries.new.items }
     ensures ok { IfOk result (Appends (nodes_of entries.old.items) (nodes_of entries.new.items) (node_of kind)) }
+    ensures stands { IfOk result (λ id. tree (nodes_of entries.new.items) id.0 ≡ tree_over (trees_onto [] (nodes_of entries.old.items)) (node_of kind)) }
     ensures err { OnErr result (entries.new.items ≡ entries.old.items) }
     ensures full { IsErrOf result BuildError.Full ↔ (length entries.old.items ≡ 4000000) }
     ensures others { IfErr result (λ e. (e ≡ BuildError.Full) ⊎ (e ≡ BuildError.NoMemory)) }
