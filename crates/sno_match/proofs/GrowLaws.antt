@@ -7,14 +7,15 @@ use Rattle.sno_pattern.proofs.TableLaws.{tree-append}
 use Rattle.sno_match.specs.declared.goal.Goal.{Goal as Numbered}
 use Rattle.sno_match.specs.declared.goal.Goal.TheVariants as N
 use Rattle.sno_match.specs.declared.event.Pending.{Pending}
+use Rattle.sno_match.specs.declared.goal.Mark.{Mark}
+use Rattle.sno_match.specs.declared.goal.Mark.TheVariants.{Enter, Next}
 use Rattle.sno_match.specs.declared.engine.State.{State}
 use Rattle.sno_match.specs.declared.engine.State.TheVariants as S
-use Rattle.sno_match.specs.Search.{Goal, Match, CloseRepeat, Exhausted, Answer, Outcome, Gives, Search, emit, further, search, with_answer, whole}
+use Rattle.sno_match.specs.Search.{Goal, Match, CloseRepeat, Exhausted, Answer, Outcome, Gives, Search, emit, further, search, with_answer, whole, trace}
 use Rattle.sno_match.specs.Point.{Point, below, rest_of}
-use Rattle.sno_match.specs.Reading.{body_of, goal_of, goals_of, behind, behind_mark, from_mark, resume, reading, waiting, IsKnown, AllKnown, AllFit, IsStack}
-use Rattle.sno_match.specs.Coming.{later, later_starts, coming, coming_after_answer}
-use Rattle.sno_match.specs.Session.{answers_of, Begins}
-use Rattle.sno_match.specs.Running.{to_come, AnswersIn, IsMatch}
+use Rattle.sno_match.specs.Reading.{body_of, goal_of, goals_of, behind, behind_mark, from_mark, resume, reading, waiting, IsKnown, AllKnown, AllFit, Fits, MarkFits, HasNext, IsStack}
+use Rattle.sno_match.specs.Session.{Session, answers_of, trace_of, Begins}
+use Rattle.sno_match.specs.Running.{later, later_starts, to_come, AnswersIn, IsMatch}
 
 module _ (nodes more : List Node) where
   goal_of-grow : (g : Numbered) → IsKnown nodes g → goal_of (nodes ++ more) g ≡ goal_of nodes g
@@ -37,44 +38,59 @@ module _ (nodes more : List Node) where
   all_known-grow [] h = tt
   all_known-grow (g ∷ gs) h = (known-grow g h.0, all_known-grow gs h.1)
 
-  fit-grow : (z : ℕ) (points : List Point) → AllFit nodes z points → AllFit (nodes ++ more) z points
-  fit-grow z [] h = tt
-  fit-grow z (p ∷ ps) h = (all_known-grow p.goals h.0, h.1, fit-grow z ps h.2)
+  mark-grow : (s : List ℕ) (mark : Mark) (gs : List Numbered) (c : ℕ) → AllKnown nodes gs → MarkFits nodes s mark gs c → MarkFits (nodes ++ more) s mark gs c
+  mark-grow s Enter gs c k h = tt
+  mark-grow s (Next i) [] c k h = h
+  mark-grow s (Next i) (N.Match id ∷ gs) c k h = subst (λ (p : Pattern). HasNext p s c i) (sym (tree-append nodes more id.0 k.0)) h
+  mark-grow s (Next i) (N.CloseCond target from ∷ gs) c k h = h
+  mark-grow s (Next i) (N.CloseImm target from ∷ gs) c k h = h
+  mark-grow s (Next i) (N.CloseRepeat id from ∷ gs) c k h = h
+
+  fit-grow : (s : List ℕ) (points : List Point) → AllFit nodes s points → AllFit (nodes ++ more) s points
+  fit-grow s [] h = tt
+  fit-grow s (p ∷ ps) h = (record { known = all_known-grow p.goals h.0.known; inside = h.0.inside; next = mark-grow s p.mark p.goals p.cursor h.0.known h.0.next }, fit-grow s ps h.1)
 
   module _ (s : List ℕ) (start : ℕ) where
-    resume-grow : (z : ℕ) (points : List Point) (outcome : Outcome) → AllFit nodes z points → resume (nodes ++ more) s start points outcome ≡ resume nodes s start points outcome
-    resume-grow z [] outcome h = refl
-    resume-grow z (p ∷ ps) outcome h =
-        resume-grow z ps (behind (nodes ++ more) s start p outcome) h.2 ∙
-        ap (λ gs. resume nodes s start ps (behind_mark s start p.mark gs p.cursor p.pending outcome)) (goals_of-grow p.goals h.0)
+    resume-grow : (points : List Point) (outcome : Outcome) → AllFit nodes s points → resume (nodes ++ more) s start points outcome ≡ resume nodes s start points outcome
+    resume-grow [] outcome h = refl
+    resume-grow (p ∷ ps) outcome h =
+        resume-grow ps (behind (nodes ++ more) s start p outcome) h.1 ∙
+        ap (λ gs. resume nodes s start ps (behind_mark s start p.mark gs p.cursor p.pending outcome)) (goals_of-grow p.goals h.0.known)
 
-    reading-grow : (z : ℕ) (points : List Point) (answers : List Answer) (left : ℕ) → AllFit nodes z points → reading (nodes ++ more) s start points answers left ≡ reading nodes s start points answers left
-    reading-grow z [] answers left h = refl
-    reading-grow z (p ∷ ps) answers left h =
-        resume-grow z ps (from_mark s start p.mark (goals_of (nodes ++ more) p.goals) p.cursor p.pending answers left) h.2 ∙
-        ap (λ gs. resume nodes s start ps (from_mark s start p.mark gs p.cursor p.pending answers left)) (goals_of-grow p.goals h.0)
+    reading-grow : (points : List Point) (answers : List Answer) (left : ℕ) → AllFit nodes s points → reading (nodes ++ more) s start points answers left ≡ reading nodes s start points answers left
+    reading-grow [] answers left h = refl
+    reading-grow (p ∷ ps) answers left h =
+        resume-grow ps (from_mark s start p.mark (goals_of (nodes ++ more) p.goals) p.cursor p.pending answers left) h.1 ∙
+        ap (λ gs. resume nodes s start ps (from_mark s start p.mark gs p.cursor p.pending answers left)) (goals_of-grow p.goals h.0.known)
 
     rest-known : (gs : List Numbered) → AllKnown nodes gs → AllKnown nodes (rest_of gs)
     rest-known [] h = tt
     rest-known (g ∷ gs) h = h.1
 
-    waiting-grow : (z : ℕ) (points : List Point) (answers : List Answer) (left : ℕ) → AllFit nodes z points → waiting (nodes ++ more) s start points answers left ≡ waiting nodes s start points answers left
-    waiting-grow z [] answers left h = refl
-    waiting-grow z (p ∷ ps) answers left h =
-        resume-grow z ps (with_answer (search s start) (goals_of (nodes ++ more) (rest_of p.goals)) p.cursor p.pending answers left) h.2 ∙
-        ap (λ gs. resume nodes s start ps (with_answer (search s start) gs p.cursor p.pending answers left)) (goals_of-grow (rest_of p.goals) (rest-known p.goals h.0))
+    waiting-grow : (points : List Point) (answers : List Answer) (left : ℕ) → AllFit nodes s points → waiting (nodes ++ more) s start points answers left ≡ waiting nodes s start points answers left
+    waiting-grow [] answers left h = refl
+    waiting-grow (p ∷ ps) answers left h =
+        resume-grow ps (with_answer (search s start) (goals_of (nodes ++ more) (rest_of p.goals)) p.cursor p.pending answers left) h.1 ∙
+        ap (λ gs. resume nodes s start ps (with_answer (search s start) gs p.cursor p.pending answers left)) (goals_of-grow (rest_of p.goals) (rest-known p.goals h.0.known))
 
-  module _ (s : List ℕ) (anchored : Bool) (pattern : PatId) (h : pattern.0 < length nodes) where
-    later-grow : (start : ℕ) → later (nodes ++ more) s anchored pattern start ≡ later nodes s anchored pattern start
-    later-grow start = ap (λ t. map (λ b. search s b (Match t ∷ []) b []) (later_starts anchored s start)) (tree-append nodes more pattern.0 h)
+  module _ (m : Session) (is : nodes ≡ m.nodes) (h : m.pattern.0 < length nodes) where
+    abbrev wider : Session
+    wider = record m { nodes = nodes ++ more }
 
-    to_come-grow : (state : State) (start : ℕ) (points : List Point) (answers : List Answer) (left : ℕ) → AllFit nodes (length s) points →
-        to_come state (nodes ++ more) s anchored pattern start points answers left ≡ to_come state nodes s anchored pattern start points answers left
+    later-grow : (start : ℕ) → later wider start ≡ later m start
+    later-grow start =
+        ap (λ t. map (λ b. search m.subject b (Match t ∷ []) b []) (later_starts m.anchored m.subject start)) (tree-append nodes more m.pattern.0 h) ∙
+        ap (λ (n : List Node). map (λ b. search m.subject b (Match (tree n m.pattern.0) ∷ []) b []) (later_starts m.anchored m.subject start)) is
+
+    to_come-grow : (state : State) (start : ℕ) (points : List Point) (answers : List Answer) (left : ℕ) → AllFit nodes m.subject points →
+        to_come state wider start points answers left ≡ to_come state m start points answers left
     to_come-grow S.Going start points answers left f =
-        ap (λ r. further r (later (nodes ++ more) s anchored pattern start)) (reading-grow s start (length s) points answers left f) ∙ ap (further (reading nodes s start points answers left)) (later-grow start)
+        ap (λ r. further r (later wider start)) (reading-grow m.subject start points answers left f ∙ ap (λ (n : List Node). reading n m.subject start points answers left) is) ∙
+        ap (further (reading m.nodes m.subject start points answers left)) (later-grow start)
     to_come-grow S.Waiting start points answers left f =
-        ap (λ r. further r (later (nodes ++ more) s anchored pattern start)) (waiting-grow s start (length s) points answers left f) ∙ ap (further (waiting nodes s start points answers left)) (later-grow start)
-    to_come-grow (S.Ended end) start points answers left f = refl
+        ap (λ r. further r (later wider start)) (waiting-grow m.subject start points answers left f ∙ ap (λ (n : List Node). waiting n m.subject start points answers left) is) ∙
+        ap (further (waiting m.nodes m.subject start points answers left)) (later-grow start)
+    to_come-grow (S.Ended event) start points answers left f = refl
 
   answers-grow : (answers : List (Option PatId)) → AnswersIn nodes answers → answers_of (nodes ++ more) answers ≡ answers_of nodes answers
   answers-grow [] h = refl
@@ -86,25 +102,38 @@ module _ (nodes more : List Node) where
   answers_in-grow (None ∷ tail) h = answers_in-grow tail h
   answers_in-grow (Some id ∷ tail) h = (omega (arith, length-append nodes more, h.0), answers_in-grow tail h.1)
 
-  match_grow : (pattern : PatId) (s : List ℕ) (anchored : Bool) (limit : ℕ) (answers : List (Option PatId)) (told steps start : ℕ) (points : List Point) (state : State) (way : List Pending) →
-      IsMatch nodes pattern s anchored limit answers told steps start points state way → IsMatch (nodes ++ more) pattern s anchored limit answers told steps start points state way
-  match_grow pattern s anchored limit answers told steps start points state way inv = record {
-    pattern_in = omega (arith, length-append nodes more, inv.pattern_in);
-    steps_in = inv.steps_in;
-    start_in = inv.start_in;
-    stack = record { fit = fit-grow (length s) points inv.stack.fit; marked = inv.stack.marked };
-    answered = answers_in-grow answers inv.answered;
-    events = inv.events;
-    count = inv.count;
-    story = λ later_answers.
-        ap (λ t. whole t s anchored (answers_of (nodes ++ more) answers ++ later_answers) limit) (tree-append nodes more pattern.0 inv.pattern_in) ∙
-        ap (λ given. whole (tree nodes pattern.0) s anchored (given ++ later_answers) limit) (answers-grow answers inv.answered) ∙
-        inv.story later_answers ∙
-        ap (emit inv.events) (sym (to_come-grow s anchored pattern inv.pattern_in state start points later_answers (limit - steps) inv.stack.fit));
-  }
-
 -- the table that is lent begins with the one before
-pub grown : (nodes lent : List Node) (b : Begins nodes lent) (pattern : PatId) (s : List ℕ) (anchored : Bool) (limit : ℕ) (answers : List (Option PatId)) (told steps start : ℕ) (points : List Point) (state : State) (way : List Pending) →
-    IsMatch nodes pattern s anchored limit answers told steps start points state way → IsMatch lent pattern s anchored limit answers told steps start points state way
-grown nodes lent b pattern s anchored limit answers told steps start points state way inv =
-    subst (λ (n : List Node). IsMatch n pattern s anchored limit answers told steps start points state way) (sym b.1) (match_grow nodes b.0 pattern s anchored limit answers told steps start points state way inv)
+
+module _ (m : Session) (lent : List Node) (b : Begins m.nodes lent) where
+  abbrev over_lent : List Node → Session
+  over_lent nodes = record m { nodes = nodes }
+
+  pub grown_trace : m.pattern.0 < length m.nodes → AnswersIn m.nodes m.answers → trace_of (over_lent lent) ≡ trace_of m
+  grown_trace h k =
+      ap (λ (n : List Node). trace_of (over_lent n)) b.1 ∙
+      ap (λ t. trace t m.subject m.anchored m.limit (answers_of (m.nodes ++ b.0) m.answers)) (tree-append m.nodes b.0 m.pattern.0 h) ∙
+      ap (trace (tree m.nodes m.pattern.0) m.subject m.anchored m.limit) (answers-grow m.nodes b.0 m.answers k)
+
+  pub grown : (start : ℕ) (points : List Point) (state : State) → IsMatch m start points state → IsMatch (over_lent lent) start points state
+  grown start points state inv =
+      subst (λ (n : List Node). IsMatch (over_lent n) start points state) (sym b.1)
+      (record {
+        pattern_in = omega (arith, length-append m.nodes b.0, inv.pattern_in);
+        answers_in = answers_in-grow m.nodes b.0 m.answers inv.answers_in;
+        steps_in = inv.steps_in;
+        start_in = inv.start_in;
+        stack = record { fit = fit-grow m.nodes b.0 m.subject points inv.stack.fit; marked = inv.stack.marked };
+        asked = inv.asked;
+        last_in = inv.last_in;
+        points_in = inv.points_in;
+        records_in = inv.records_in;
+        events = inv.events;
+        told = inv.told;
+        pending = inv.pending;
+        since = inv.since;
+        story = λ more.
+            ap (λ t. whole t m.subject m.anchored (answers_of (m.nodes ++ b.0) m.answers ++ more) m.limit) (tree-append m.nodes b.0 m.pattern.0 inv.pattern_in) ∙
+            ap (λ given. whole (tree m.nodes m.pattern.0) m.subject m.anchored (given ++ more) m.limit) (answers-grow m.nodes b.0 m.answers inv.answers_in) ∙
+            inv.story more ∙
+            ap (emit inv.events) (sym (to_come-grow m.nodes b.0 m refl inv.pattern_in state start points more (m.limit - m.steps) inv.stack.fit));
+      })

@@ -1,10 +1,18 @@
 -- Every event of a search is told with no more steps left than it began with.
-use Rattle.std.proofs.Common.{◌≡◌, ℕ, zero, suc, ◌+◌, ◌≤◌, ◌<◌, ◌==◌, Bool, true, false, List, [], ◌∷◌, ◌++◌, Option, Some, None, map, replicate, arith}
+use Rattle.std.proofs.Common.{◌≡◌, ℕ, zero, suc, ◌+◌, ◌≤◌, ◌<◌, ◌==◌, Bool, true, false, List, [], ◌∷◌, ◌++◌, Option, Some, None, map, drop, replicate, arith}
 use Rattle.sno_value.specs.declared.value.Name.{Name}
 use Rattle.sno_pattern.specs.Pattern.{Pattern, Leaf, Fence, Abort, Succeed, Arbno, Alt, Cat, Cond, Imm, Place, Defer}
 use Rattle.sno_pattern.specs.Ends.{ends}
 use Rattle.sno_match.specs.declared.event.Pending.{Pending}
-use Rattle.sno_match.specs.Search.{Goal, Match, CloseCond, CloseImm, CloseRepeat, Verdict, Exhausted, Aborted, Limit, Waiting, Event, Assign, Cursor, Value, Answer, Outcome, Gives, Search, Finder, emit, or_else, further, tries, abort_if_exhausted, with_answer, if_moved, first_goal, search_within, search}
+use Rattle.sno_pattern.specs.Table.{Node, tree}
+use Rattle.sno_match.specs.declared.engine.State.TheVariants as S
+use Rattle.sno_match.specs.declared.goal.Mark.{Mark}
+use Rattle.sno_match.specs.declared.goal.Mark.TheVariants.{Enter, Next}
+use Rattle.sno_match.specs.Point.{Point}
+use Rattle.sno_match.specs.Reading.{left_of, goals_of, after_pattern, after_goals, behind_mark, behind, resume, from_mark, reading}
+use Rattle.sno_match.specs.Session.{Session}
+use Rattle.sno_match.specs.Running.{later, later_starts, to_come}
+use Rattle.sno_match.specs.Search.{Goal, Match, CloseCond, CloseImm, CloseRepeat, Verdict, Exhausted, Aborted, Limit, Waiting, Event, Assign, Cursor, Value, Answer, Outcome, Gives, Search, Finder, emit, or_else, further, tries, abort_if_exhausted, with_answer, if_moved, first_goal, search_within, search, all_events, Ended}
 
 abbrev pub AllLeft : ℕ → List (Event × ℕ) → Type 0
 AllLeft n [] = Unit {0}
@@ -102,3 +110,63 @@ search_within-keeps s start (suc depth) (goal ∷ rest) c pending answers (suc l
     let le : left ≤ suc left = omega arith in
     within-more left (suc left) (first_goal s (search_within s start depth) goal rest c pending answers left) le
     (goal-within s (search_within s start depth) (search_within-keeps s start depth) goal rest c pending answers left)
+
+-- the stack and the later starts
+
+search-keeps : (s : List ℕ) (start : ℕ) (goals : List Goal) (c : ℕ) (pending : List Pending) → KeepsWithin (search s start goals c pending)
+search-keeps s start goals c pending answers left = search_within-keeps s start left goals c pending answers left
+
+module _ (nodes : List Node) (s : List ℕ) (start n : ℕ) where
+  after_pattern-within : (p : Pattern) (rest : List Goal) (c : ℕ) (pending : List Pending) (i : ℕ) (r : Outcome) → IsWithin n r → IsWithin n (after_pattern s start p rest c pending i r)
+  after_pattern-within (Leaf a) rest c pending i r w =
+      further-within n r (map (λ e. search s start rest e pending) (drop i (ends a s c))) (keep-map (λ e. search s start rest e pending) (drop i (ends a s c)) (λ e. search-keeps s start rest e pending)) w
+  after_pattern-within (Alt p q) rest c pending i r w = further-within n r (search s start (Match q ∷ rest) c pending ∷ []) (search-keeps s start (Match q ∷ rest) c pending, tt) w
+  after_pattern-within (Arbno p) rest c pending i r w =
+      further-within n r (search s start (Match p ∷ CloseRepeat p c ∷ rest) c pending ∷ []) (search-keeps s start (Match p ∷ CloseRepeat p c ∷ rest) c pending, tt) w
+  after_pattern-within Succeed rest c pending i r w =
+      further-within n r (replicate (suc (left_of r)) (search s start rest c pending)) (keep-replicate (search s start rest c pending) (suc (left_of r)) (search-keeps s start rest c pending)) w
+  after_pattern-within Fence rest c pending i r w = abort-within n r w
+  after_pattern-within Abort rest c pending i r w = w
+  after_pattern-within (Cat p q) rest c pending i r w = w
+  after_pattern-within (Cond p target) rest c pending i r w = w
+  after_pattern-within (Imm p target) rest c pending i r w = w
+  after_pattern-within (Place target) rest c pending i r w = w
+  after_pattern-within (Defer primitive expression) rest c pending i r w = w
+
+  after_goals-within : (goals : List Goal) (c : ℕ) (pending : List Pending) (i : ℕ) (r : Outcome) → IsWithin n r → IsWithin n (after_goals s start goals c pending i r)
+  after_goals-within [] c pending i r w = w
+  after_goals-within (Match p ∷ rest) c pending i r w = after_pattern-within p rest c pending i r w
+  after_goals-within (CloseCond target from ∷ rest) c pending i r w = w
+  after_goals-within (CloseImm target from ∷ rest) c pending i r w = w
+  after_goals-within (CloseRepeat p from ∷ rest) c pending i r w = w
+
+  behind_mark-within : (mark : Mark) (goals : List Goal) (c : ℕ) (pending : List Pending) (r : Outcome) → IsWithin n r → IsWithin n (behind_mark s start mark goals c pending r)
+  behind_mark-within Enter goals c pending r w = w
+  behind_mark-within (Next i) goals c pending r w = after_goals-within goals c pending i r w
+
+  resume-within : (points : List Point) (r : Outcome) → IsWithin n r → IsWithin n (resume nodes s start points r)
+  resume-within [] r w = w
+  resume-within (p ∷ ps) r w = resume-within ps (behind nodes s start p r) (behind_mark-within p.mark (goals_of nodes p.goals) p.cursor p.pending r w)
+
+  from_mark-within : (mark : Mark) (goals : List Goal) (c : ℕ) (pending : List Pending) (answers : List Answer) → IsWithin n (from_mark s start mark goals c pending answers n)
+  from_mark-within Enter goals c pending answers = search-keeps s start goals c pending answers n
+  from_mark-within (Next i) goals c pending answers = after_goals-within goals c pending i (Gives [] answers n Exhausted) (tt, omega arith)
+
+  reading-within : (points : List Point) (answers : List Answer) → IsWithin n (reading nodes s start points answers n)
+  reading-within [] answers = (tt, omega arith)
+  reading-within (p ∷ ps) answers = resume-within ps (from_mark s start p.mark (goals_of nodes p.goals) p.cursor p.pending answers n) (from_mark-within p.mark (goals_of nodes p.goals) p.cursor p.pending answers)
+
+events-within : (n : ℕ) (r : Outcome) → IsWithin n r → AllLeft n (all_events r)
+events-within n (Gives es answers left Exhausted) w = left-append n es ((Ended Exhausted, left) ∷ []) w.0 (w.1, tt)
+events-within n (Gives es answers left Aborted) w = left-append n es ((Ended Aborted, left) ∷ []) w.0 (w.1, tt)
+events-within n (Gives es answers left Limit) w = left-append n es ((Ended Limit, left) ∷ []) w.0 (w.1, tt)
+events-within n (Gives es answers left Waiting) w = left-append n es [] w.0 tt
+
+-- no event that is still to come was told with fewer steps than were taken
+pub coming-within : (m : Session) (start : ℕ) (points : List Point) (answers : List Answer) (left : ℕ) → AllLeft left (all_events (to_come S.Going m start points answers left))
+coming-within m start points answers left =
+    let starts_at = later_starts m.anchored m.subject start in
+    events-within left (to_come S.Going m start points answers left)
+    (further-within left (reading m.nodes m.subject start points answers left) (later m start)
+    (keep-map (λ b. search m.subject b (Match (tree m.nodes m.pattern.0) ∷ []) b []) starts_at (λ b. search-keeps m.subject b (Match (tree m.nodes m.pattern.0) ∷ []) b []))
+    (reading-within m.nodes m.subject start left points answers))

@@ -4,8 +4,10 @@ pub mod SearchLaws
 pub mod ReadingLaws
 pub mod PlanLaws
 pub mod MoveLaws
-pub mod ComingLaws
 pub mod SessionLaws
+pub mod CountLaws
+pub mod EngineLaws
+pub mod NextLaws
 pub mod CopiedLaws
 pub mod GrowLaws
 pub mod WeightLaws

@@ -1,19 +1,22 @@
 -- A move that carries out a right plan leaves the reading of the stack.
-use Rattle.std.proofs.Common.{◌≡◌, ℕ, zero, suc, ◌+◌, ◌≤◌, ◌<◌, List, [], ◌∷◌, ◌++◌, Option, Some, None, length, refl, sym, ◌∙◌, ap, subst, arith}
+use Rattle.std.proofs.Common.{◌≡◌, ℕ, zero, suc, ◌+◌, ◌-◌, ◌*◌, ◌≤◌, ◌<◌, List, [], ◌∷◌, ◌++◌, Option, Some, None, length, refl, sym, ◌∙◌, ap, subst, arith}
 use Rattle.sno_pattern.specs.Table.{Node, tree}
-use Rattle.sno_match.specs.declared.goal.Goal.{Goal as Numbered}
+use Rattle.sno_match.specs.declared.event.Event.{Event as Told}
+use Rattle.sno_match.specs.declared.event.Event.TheVariants as V
 use Rattle.sno_match.specs.declared.event.Pending.{Pending}
+use Rattle.sno_match.specs.declared.goal.Goal.{Goal as Numbered}
+use Rattle.sno_match.specs.declared.goal.Goal.TheVariants as N
 use Rattle.sno_match.specs.declared.goal.Mark.{Mark}
 use Rattle.sno_match.specs.declared.goal.Mark.TheVariants.{Enter, Next}
 use Rattle.sno_match.specs.declared.plan.Plan.{Plan}
 use Rattle.sno_match.specs.declared.plan.Plan.TheVariants as P
-use Rattle.sno_match.specs.declared.moves.Move.{Move}
-use Rattle.sno_match.specs.declared.moves.Move.TheVariants as M
-use Rattle.sno_match.specs.Search.{Verdict, Exhausted, Aborted, Limit, Event, Way, Assign, Cursor, Value, Answer, Outcome, Gives, emit}
-use Rattle.sno_match.specs.Point.{Point, with_front, replaced, branched, closed, below, rest_of}
-use Rattle.sno_match.specs.Reading.{reading, waiting, AllMarked, AllKnown, AllFit, IsKnown, IsMarked, IsStack}
+use Rattle.sno_match.specs.Search.{Exhausted, Limit, Aborted, Event, Way, Answer, Outcome, Gives, emit}
+use Rattle.sno_match.specs.Events.{cost}
+use Rattle.sno_match.specs.Point.{Point, with_front, replaced, branched, closed, below, rest_of, HasFirst}
+use Rattle.sno_match.specs.Reading.{reading, waiting, AllMarked, AllKnown, AllFit, Fits, MarkFits, IsKnown, IsMarked, IsStack, HasPoint}
 use Rattle.sno_match.specs.Plan.{IsPlan, IsDue, Goes, goals_in, point_at}
-use Rattle.sno_match.specs.Move.{Makes, Costs, CarriesOut}
+use Rattle.sno_match.specs.State.{after_move, HasAsked}
+use Rattle.sno_match.specs.Move.{Makes, Costs, CarriesOut, entries, price, way_after, standing}
 use Rattle.sno_match.specs.Top.{Finishes}
 use Rattle.sno_match.proofs.ReadingLaws.{emit-none, resume-emit, resume-exhausted}
 
@@ -23,23 +26,30 @@ plan_due nodes s goal c mark (P.Branch front at next) p h = p.1
 plan_due nodes s goal c mark (P.Close a) p h = p.1
 plan_due nodes s goal c mark (P.Assign a) p h = p.1
 plan_due nodes s goal c mark (P.Cursor target) p h = p.1
-plan_due nodes s goal c mark (P.Ask primitive expression) p h = p.1
+plan_due nodes s goal c mark (P.Ask prim expr) p h = p.1
 plan_due nodes s goal c mark P.Fail p h = p.1
 plan_due nodes s goal c mark P.Abort p h = p.1
-plan_due nodes s goal c mark P.Spent p h = elim h [ ]
 plan_due nodes s goal c mark P.Cut p h = elim h [ ]
 
-pub costs_of : (plan : Plan) → (plan ≡ P.Spent → ⊥) → (plan ≡ P.Cut → ⊥) → Costs plan
-costs_of (P.Replace front at) h k = tt
-costs_of (P.Branch front at next) h k = tt
-costs_of (P.Close a) h k = tt
-costs_of (P.Assign a) h k = tt
-costs_of (P.Cursor target) h k = tt
-costs_of (P.Ask primitive expression) h k = tt
-costs_of P.Fail h k = tt
-costs_of P.Abort h k = tt
-costs_of P.Spent h k = absurd (h refl)
-costs_of P.Cut h k = absurd (k refl)
+pub costs_of : (plan : Plan) → (plan ≡ P.Cut → ⊥) → Costs plan
+costs_of (P.Replace front at) k = tt
+costs_of (P.Branch front at next) k = tt
+costs_of (P.Close a) k = tt
+costs_of (P.Assign a) k = tt
+costs_of (P.Cursor target) k = tt
+costs_of (P.Ask prim expr) k = tt
+costs_of P.Fail k = tt
+costs_of P.Abort k = tt
+costs_of P.Cut k = absurd (k refl)
+
+AllKnown-append : (nodes : List Node) (xs ys : List Numbered) → AllKnown nodes xs → AllKnown nodes ys → AllKnown nodes (xs ++ ys)
+AllKnown-append nodes [] ys h k = k
+AllKnown-append nodes (x ∷ xs) ys h k = (h.0, AllKnown-append nodes xs ys h.1 k)
+
+pub below-kept : (nodes : List Node) (s : List ℕ) (points : List Point) → AllFit nodes s points → AllMarked (below points) → IsStack nodes s (below points)
+below-kept nodes s [] f m = record { fit = tt; marked = tt }
+below-kept nodes s (x ∷ []) f m = record { fit = tt; marked = tt }
+below-kept nodes s (x ∷ y ∷ rest) f m = record { fit = f.1; marked = m.1 }
 
 module _ (nodes : List Node) (s : List ℕ) (goal : Numbered) (goals : List Numbered) (c : ℕ) (pending : List Pending) (mark : Mark) (rest : List Point) where
   abbrev top : Point
@@ -48,115 +58,170 @@ module _ (nodes : List Node) (s : List ℕ) (goal : Numbered) (goals : List Numb
   abbrev old : List Point
   old = top ∷ rest
 
-  quiet_step : (new made : List Point) (n : ℕ) (way : List Pending) → new ≡ made →
-      ((start : ℕ) (answers : List Answer) → reading nodes s start old answers (suc n) ≡ emit [] (reading nodes s start made answers n)) → length made ≤ suc (suc (length rest)) → Makes nodes s old (suc n) M.Step new way way
-  quiet_step new made n way e h few = (n, refl, refl, λ start answers. h start answers ∙ emit-none (reading nodes s start made answers n) ∙ ap (λ ps. reading nodes s start ps answers n) (sym e), omega (arith, few, ap length e))
+  module _ (start limit steps : ℕ) (was : List Pending) (due : steps < limit) where
+    -- a move of one step, which tells an event or none
+    one_step : (told : Option Told) (new made : List Point) → new ≡ made → HasAsked (after_move told) made → (told ≡ Some V.Exhausted → ⊥) → price told ≤ 1 → was ≡ way_after told was was → length made ≤ suc (length old) →
+        ((answers : List Answer) (n : ℕ) → reading nodes s start old answers (suc n) ≡ emit (entries told was n) (standing (after_move told) nodes s start made answers n)) →
+        Makes nodes s start limit old steps was told new (steps + 1) was
+    one_step told new made e asked more paid pending few h =
+        let size = ap length e in
+        let n : limit - steps ≡ suc (limit - (steps + 1)) = omega (arith, due) in
+        record {
+          steps_in = omega (arith, due);
+          paid = omega (arith, paid);
+          grows = omega (arith, few, size);
+          falls = λ none. omega (arith, few, size, due);
+          more = more;
+          asked = subst (λ (ps : List Point). HasAsked (after_move told) ps) (sym e) asked;
+          pending = pending;
+          leads = λ answers.
+              ap (λ (k : ℕ). reading nodes s start old answers k) n ∙ h answers (limit - (steps + 1)) ∙
+              ap (λ (ps : List Point). emit (entries told was (limit - (steps + 1))) (standing (after_move told) nodes s start ps answers (limit - (steps + 1)))) (sym e);
+        }
 
-  pub carried : (plan : Plan) (move : Move) (new : List Point) (n : ℕ) (way : List Pending) → AllMarked rest →
-      IsPlan nodes s goal c mark plan → CarriesOut plan c old move new → Makes nodes s old (suc n) move new way way
-  carried (P.Replace front at) move new n way marked p co =
-      subst (λ (m : Move). Makes nodes s old (suc n) m new way way) (sym co.0)
-      (quiet_step new (replaced (goals_in front) at old) n way co.1 (λ start answers. p.0 start goals pending rest answers marked n) (omega arith))
-  carried (P.Branch front at next) move new n way marked p co =
-      subst (λ (m : Move). Makes nodes s old (suc n) m new way way) (sym co.0)
-      (quiet_step new (branched (goals_in front) at next old) n way co.1 (λ start answers. p.0 start goals pending rest answers marked n) (omega arith))
-  carried (P.Close a) move new n way marked p co =
-      subst (λ (m : Move). Makes nodes s old (suc n) m new way way) (sym co.0)
-      (quiet_step new (closed a old) n way co.1 (λ start answers. p.0 start goals pending rest answers marked n) (omega arith))
-  carried (P.Assign a) move new n way marked p co =
-      subst (λ (m : Move). Makes nodes s old (suc n) m new way way) (sym co.0)
-      (n, refl, refl, λ start answers. p.0 start goals pending rest answers marked n ∙ ap (λ ps. emit ((Assign a.target a.start a.end, n) ∷ []) (reading nodes s start ps answers n)) (sym co.1))
-  carried (P.Cursor target) move new n way marked p co =
-      subst (λ (m : Move). Makes nodes s old (suc n) m new way way) (sym co.0)
-      (n, refl, refl, λ start answers. p.0 start goals pending rest answers marked n ∙ ap (λ ps. emit ((Cursor target c, n) ∷ []) (reading nodes s start ps answers n)) (sym co.1))
-  carried (P.Ask primitive expression) move new n way marked p co =
-      subst (λ (m : Move). Makes nodes s old (suc n) m new way way) (sym co.0)
-      (n, refl, refl, co.1, λ start answers. p.0 start goals pending rest answers n ∙ ap (λ ps. emit ((Value primitive expression.0, n) ∷ []) (waiting nodes s start ps answers n)) (sym co.1))
-  carried P.Fail move new n way marked p co =
-      subst (λ (m : Move). Makes nodes s old (suc n) m new way way) (sym co.0)
-      (quiet_step new rest n way co.1 (λ start answers. p.0 start goals pending rest answers marked n) (omega arith))
-  carried P.Abort move new n way marked p co =
-      subst (λ (m : Move). Makes nodes s old (suc n) m new way way) (sym co.0)
-      (n, refl, refl, λ start answers. p.0 start goals pending rest answers n)
-  carried P.Spent move new n way marked p co = elim co [ ]
-  carried P.Cut move new n way marked p co = elim co [ ]
+    pub carried : AllMarked rest → (plan : Plan) (told : Option Told) (new : List Point) → IsPlan nodes s goal c mark plan → CarriesOut plan c old told new → Makes nodes s start limit old steps was told new (steps + 1) was
+    carried marked (P.Replace front at) told new p co =
+        subst (λ (t : Option Told). Makes nodes s start limit old steps was t new (steps + 1) was) (sym co.0)
+        (one_step None new (replaced (goals_in front) at old) co.1 tt (λ e. cc) (omega arith) refl (omega arith) (λ answers n. p.0 start goals pending rest answers marked n))
+    carried marked (P.Branch front at next) told new p co =
+        subst (λ (t : Option Told). Makes nodes s start limit old steps was t new (steps + 1) was) (sym co.0)
+        (one_step None new (branched (goals_in front) at next old) co.1 tt (λ e. cc) (omega arith) refl (omega arith) (λ answers n. p.0 start goals pending rest answers marked n))
+    carried marked (P.Close a) told new p co =
+        subst (λ (t : Option Told). Makes nodes s start limit old steps was t new (steps + 1) was) (sym co.0)
+        (one_step None new (closed a old) co.1 tt (λ e. cc) (omega arith) refl (omega arith) (λ answers n. p.0 start goals pending rest answers marked n))
+    carried marked (P.Assign a) told new p co =
+        subst (λ (t : Option Told). Makes nodes s start limit old steps was t new (steps + 1) was) (sym co.0)
+        (one_step (Some (V.Assign a.target a.start a.end)) new (replaced [] c old) co.1 tt (λ e. cc) (omega arith) refl (omega arith) (λ answers n. p.0 start goals pending rest answers marked n))
+    carried marked (P.Cursor target) told new p co =
+        subst (λ (t : Option Told). Makes nodes s start limit old steps was t new (steps + 1) was) (sym co.0)
+        (one_step (Some (V.Cursor target c)) new (replaced [] c old) co.1 tt (λ e. cc) (omega arith) refl (omega arith) (λ answers n. p.0 start goals pending rest answers marked n))
+    carried marked (P.Ask prim expr) told new p co =
+        subst (λ (t : Option Told). Makes nodes s start limit old steps was t new (steps + 1) was) (sym co.0)
+        (one_step (Some (V.Value prim expr)) new old co.1 tt (λ e. cc) (omega arith) refl (omega arith) (λ answers n. p.0 start goals pending rest answers n))
+    carried marked P.Fail told new p co =
+        subst (λ (t : Option Told). Makes nodes s start limit old steps was t new (steps + 1) was) (sym co.0)
+        (one_step None new rest co.1 tt (λ e. cc) (omega arith) refl (omega arith) (λ answers n. p.0 start goals pending rest answers marked n))
+    carried marked P.Abort told new p co =
+        subst (λ (t : Option Told). Makes nodes s start limit old steps was t new (steps + 1) was) (sym co.0)
+        (one_step (Some V.Aborted) new old co.1 tt (λ e. cc) (omega arith) refl (omega arith) (λ answers n. p.0 start goals pending rest answers n))
+    carried marked P.Cut told new p co = elim co [ ]
 
-AllKnown-append : (nodes : List Node) (xs ys : List Numbered) → AllKnown nodes xs → AllKnown nodes ys → AllKnown nodes (xs ++ ys)
-AllKnown-append nodes [] ys h k = k
-AllKnown-append nodes (x ∷ xs) ys h k = (h.0, AllKnown-append nodes xs ys h.1 k)
+  -- the point without its first goal, and with others in its place
+  with_front-fits : (front : List Numbered) (at : ℕ) → Fits nodes s top → AllKnown nodes front → at ≤ length s → Fits nodes s (with_front front at top)
+  with_front-fits front at f k h = record { known = AllKnown-append nodes front goals k f.known.1; inside = h; next = tt }
 
-pub below-kept : (nodes : List Node) (z : ℕ) (points : List Point) → AllFit nodes z points → AllMarked (below points) → IsStack nodes z (below points)
-below-kept nodes z [] f m = record { fit = tt; marked = tt }
-below-kept nodes z (x ∷ []) f m = record { fit = tt; marked = tt }
-below-kept nodes z (x ∷ y ∷ rest) f m = record { fit = f.2; marked = m.1 }
+  fits_rest : (first : Numbered) (next : ℕ) → MarkFits nodes s (Next next) (first ∷ []) c → MarkFits nodes s (Next next) (first ∷ goals) c
+  fits_rest (N.Match id) next h = h
+  fits_rest (N.CloseCond target from) next h = h
+  fits_rest (N.CloseImm target from) next h = h
+  fits_rest (N.CloseRepeat id from) next h = h
 
-module _ (nodes : List Node) (s : List ℕ) (goal : Numbered) (goals : List Numbered) (c : ℕ) (pending : List Pending) (mark : Mark) (rest : List Point) where
-  abbrev before : List Point
-  before = point_at goal goals c pending mark ∷ rest
-
-  pub kept : (plan : Plan) (move : Move) (new : List Point) → IsStack nodes (length s) before →
-      IsPlan nodes s goal c mark plan → CarriesOut plan c before move new → IsStack nodes (length s) new
-  kept (P.Replace front at) move new st p co =
-      subst (λ (ps : List Point). IsStack nodes (length s) ps) (sym co.1)
-      (record { fit = (AllKnown-append nodes (goals_in front) goals p.2 st.fit.0.1, p.3, st.fit.2); marked = st.marked })
-  kept (P.Branch front at next) move new st p co =
-      subst (λ (ps : List Point). IsStack nodes (length s) ps) (sym co.1)
-      (record { fit = (AllKnown-append nodes (goals_in front) goals p.2 st.fit.0.1, p.3, (st.fit.0, st.fit.1, st.fit.2)); marked = (tt, st.marked) })
-  kept (P.Close a) move new st p co =
-      subst (λ (ps : List Point). IsStack nodes (length s) ps) (sym co.1)
-      (record { fit = (st.fit.0.1, st.fit.1, st.fit.2); marked = st.marked })
-  kept (P.Assign a) move new st p co =
-      subst (λ (ps : List Point). IsStack nodes (length s) ps) (sym co.1)
-      (record { fit = (st.fit.0.1, st.fit.1, st.fit.2); marked = st.marked })
-  kept (P.Cursor target) move new st p co =
-      subst (λ (ps : List Point). IsStack nodes (length s) ps) (sym co.1)
-      (record { fit = (st.fit.0.1, st.fit.1, st.fit.2); marked = st.marked })
-  kept (P.Ask primitive expression) move new st p co = subst (λ (ps : List Point). IsStack nodes (length s) ps) (sym co.1) st
-  kept P.Fail move new st p co = subst (λ (ps : List Point). IsStack nodes (length s) ps) (sym co.1) (below-kept nodes (length s) before st.fit st.marked)
-  kept P.Abort move new st p co = subst (λ (ps : List Point). IsStack nodes (length s) ps) (sym co.1) st
-  kept P.Spent move new st p co = elim co [ ]
-  kept P.Cut move new st p co = elim co [ ]
+  pub kept : (plan : Plan) (told : Option Told) (new : List Point) → IsStack nodes s old → IsPlan nodes s goal c mark plan → CarriesOut plan c old told new → IsStack nodes s new
+  kept (P.Replace front at) told new st p co =
+      subst (λ (ps : List Point). IsStack nodes s ps) (sym co.1)
+      (record { fit = (with_front-fits (goals_in front) at st.fit.0 p.2 p.3, st.fit.1); marked = st.marked })
+  kept (P.Branch front at next) told new st p co =
+      let stays : Fits nodes s (record top { mark = Next next }) = record { known = st.fit.0.known; inside = st.fit.0.inside; next = fits_rest goal next p.4 } in
+      subst (λ (ps : List Point). IsStack nodes s ps) (sym co.1)
+      (record { fit = (with_front-fits (goals_in front) at st.fit.0 p.2 p.3, (stays, st.fit.1)); marked = (tt, st.marked) })
+  kept (P.Close a) told new st p co =
+      subst (λ (ps : List Point). IsStack nodes s ps) (sym co.1)
+      (record { fit = (record { known = st.fit.0.known.1; inside = st.fit.0.inside; next = tt }, st.fit.1); marked = st.marked })
+  kept (P.Assign a) told new st p co =
+      subst (λ (ps : List Point). IsStack nodes s ps) (sym co.1)
+      (record { fit = (with_front-fits [] c st.fit.0 tt st.fit.0.inside, st.fit.1); marked = st.marked })
+  kept (P.Cursor target) told new st p co =
+      subst (λ (ps : List Point). IsStack nodes s ps) (sym co.1)
+      (record { fit = (with_front-fits [] c st.fit.0 tt st.fit.0.inside, st.fit.1); marked = st.marked })
+  kept (P.Ask prim expr) told new st p co = subst (λ (ps : List Point). IsStack nodes s ps) (sym co.1) st
+  kept P.Fail told new st p co = subst (λ (ps : List Point). IsStack nodes s ps) (sym co.1) (below-kept nodes s old st.fit st.marked)
+  kept P.Abort told new st p co = subst (λ (ps : List Point). IsStack nodes s ps) (sym co.1) st
+  kept P.Cut told new st p co = elim co [ ]
 
 -- the same, at a stack that is known to begin with a point
 
 module _ (nodes : List Node) (s : List ℕ) (old : List Point) (goal : Numbered) (goals : List Numbered) (c : ℕ) (pending : List Pending) (mark : Mark) (rest : List Point) (is : old ≡ point_at goal goals c pending mark ∷ rest) where
-  pub limit_at : (plan : Plan) → IsPlan nodes s goal c mark plan → Costs plan → (start : ℕ) (answers : List Answer) → reading nodes s start old answers zero ≡ Gives [] answers zero Limit
-  limit_at plan p h start answers =
-      ap (λ ps. reading nodes s start ps answers zero) is ∙ plan_due nodes s goal c mark plan p h start goals pending rest answers
+  pub fits_at : IsStack nodes s old → Fits nodes s (point_at goal goals c pending mark)
+  fits_at st = (subst (λ (ps : List Point). IsStack nodes s ps) is st).fit.0
 
-  pub spent_at : (new : List Point) (left : ℕ) (way : List Pending) → AllMarked (below old) → IsPlan nodes s goal c mark P.Spent → new ≡ below old → Makes nodes s old left M.Spent new way way
-  spent_at new left way m p e =
-      let marked = subst (λ (ps : List Point). AllMarked (below ps)) is m in
-      let to : new ≡ rest = e ∙ ap below is in
-      let shorter : length new < length old = omega (arith, ap length to, ap length is) in
-      (shorter, refl, λ start answers. ap (λ ps. reading nodes s start ps answers left) is ∙ p start goals pending rest answers left marked ∙ ap (λ ps. reading nodes s start ps answers left) (sym to))
+  pub stack_at : (plan : Plan) (told : Option Told) (new : List Point) → IsStack nodes s old → IsPlan nodes s goal c mark plan → CarriesOut plan c old told new → IsStack nodes s new
+  stack_at plan told new st p co =
+      kept nodes s goal goals c pending mark rest plan told new
+      (subst (λ (ps : List Point). IsStack nodes s ps) is st) p (subst (λ (ps : List Point). CarriesOut plan c ps told new) is co)
 
-  pub cut_at : (new : List Point) (left : ℕ) (way : List Pending) → IsPlan nodes s goal c mark P.Cut → Makes nodes s old left M.Cut new way way
-  cut_at new left way p = (refl, λ start answers. ap (λ ps. reading nodes s start ps answers left) is ∙ p start goals pending rest answers left)
+  module _ (start limit steps : ℕ) (was : List Pending) where
+    pub made_at : (plan : Plan) (told : Option Told) (new : List Point) → steps < limit → AllMarked (below old) → IsPlan nodes s goal c mark plan → CarriesOut plan c old told new → Makes nodes s start limit old steps was told new (steps + 1) was
+    made_at plan told new due m p co =
+        subst (λ (ps : List Point). Makes nodes s start limit ps steps was told new (steps + 1) was) (sym is)
+        (carried nodes s goal goals c pending mark rest start limit steps was due (subst (λ (ps : List Point). AllMarked (below ps)) is m) plan told new p (subst (λ (ps : List Point). CarriesOut plan c ps told new) is co))
 
-  pub stack_at : (plan : Plan) (move : Move) (new : List Point) → IsStack nodes (length s) old → IsPlan nodes s goal c mark plan → CarriesOut plan c old move new → IsStack nodes (length s) new
-  stack_at plan move new st p co =
-      kept nodes s goal goals c pending mark rest plan move new
-      (subst (λ (ps : List Point). IsStack nodes (length s) ps) is st) p (subst (λ (ps : List Point). CarriesOut plan c ps move new) is co)
+    -- a step is due and none is left
+    pub limit_at : (plan : Plan) → steps ≡ limit → IsPlan nodes s goal c mark plan → Costs plan → Makes nodes s start limit old steps was (Some V.Limit) old steps was
+    limit_at plan none p h =
+        let zero_left : limit - steps ≡ 0 = omega (arith, none) in
+        record {
+          steps_in = omega (arith, none);
+          paid = omega arith;
+          grows = omega arith;
+          falls = λ e. cc;
+          more = λ e. cc;
+          asked = tt;
+          pending = refl;
+          leads = λ answers.
+              ap (λ (k : ℕ). reading nodes s start old answers k) zero_left ∙
+              ap (λ (ps : List Point). reading nodes s start ps answers 0) is ∙ plan_due nodes s goal c mark plan p h start goals pending rest answers ∙
+              ap (λ (k : ℕ). Gives [] answers k Limit) (sym zero_left);
+        }
 
-  pub made_at : (plan : Plan) (move : Move) (new : List Point) (left n : ℕ) (way : List Pending) → left ≡ suc n → AllMarked (below old) → IsPlan nodes s goal c mark plan → CarriesOut plan c old move new → Makes nodes s old left move new way way
-  made_at plan move new left n way e m p co =
-      subst (λ (l : ℕ). Makes nodes s old l move new way way) (sym e)
-      (subst (λ (ps : List Point). Makes nodes s ps (suc n) move new way way) (sym is)
-      (carried nodes s goal goals c pending mark rest plan move new n way (subst (λ (ps : List Point). AllMarked (below ps)) is m) p (subst (λ (ps : List Point). CarriesOut plan c ps move new) is co)))
+    -- FENCE is backed into
+    pub cut_at : steps ≤ limit → IsPlan nodes s goal c mark P.Cut → Makes nodes s start limit old steps was (Some V.Aborted) old steps was
+    cut_at within p = record {
+      steps_in = within;
+      paid = omega arith;
+      grows = omega arith;
+      falls = λ e. cc;
+      more = λ e. cc;
+      asked = tt;
+      pending = refl;
+      leads = λ answers. ap (λ (ps : List Point). reading nodes s start ps answers (limit - steps)) is ∙ p start goals pending rest answers (limit - steps);
+    }
 
-pub way_at : (nodes : List Node) (s : List ℕ) (first new : List Point) (c : ℕ) (pending : List Pending) (rest : List Point) (way : List Pending) (left : ℕ) →
-    first ≡ record { goals = []; cursor = c; pending = pending; mark = Enter } ∷ rest → AllMarked (below first) → Finishes first new way →
-    (start : ℕ) (answers : List Answer) → reading nodes s start first answers left ≡ emit ((Way start c way, left) ∷ []) (reading nodes s start new answers left)
-way_at nodes s first new c pending rest way left is m f start answers =
-    let marked = subst (λ (ps : List Point). AllMarked (below ps)) is m in
-    let ended = subst (λ (ps : List Point). Finishes ps new way) is f in
-    ap (λ ps. reading nodes s start ps answers left) is ∙
-    resume-emit nodes s start rest ((Way start c pending, left) ∷ []) (Gives [] answers left Exhausted) ∙
-    ap (emit ((Way start c pending, left) ∷ [])) (resume-exhausted nodes s start rest answers left marked) ∙
-    ap (λ w. emit ((Way start c w, left) ∷ []) (reading nodes s start rest answers left)) (sym ended.1) ∙
-    ap (λ ps. emit ((Way start c way, left) ∷ []) (reading nodes s start ps answers left)) (sym ended.0)
+-- no goal is left
 
-pub pred_of : (left : ℕ) → (left ≡ 0 → ⊥) → (n : ℕ) × (left ≡ suc n)
-pred_of zero h = absurd (h refl)
-pred_of (suc n) h = (n, refl)
+enter_only : (nodes : List Node) (s : List ℕ) (c : ℕ) (mark : Mark) → MarkFits nodes s mark [] c → mark ≡ Enter
+enter_only nodes s c Enter h = refl
+enter_only nodes s c (Next i) h = elim h [ ]
+
+module _ (nodes : List Node) (s : List ℕ) (start limit : ℕ) (old new : List Point) (c : ℕ) (pending : List Pending) (mark : Mark) (rest : List Point) (is : old ≡ record { goals = []; cursor = c; pending = pending; mark = mark } ∷ rest)
+    (st : IsStack nodes s old) (way : List Pending) (f : Finishes old new way) where
+  ended : Finishes (record { goals = []; cursor = c; pending = pending; mark = mark } ∷ rest) new way
+  ended = subst (λ (ps : List Point). Finishes ps new way) is f
+
+  standing_is : IsStack nodes s (record { goals = []; cursor = c; pending = pending; mark = mark } ∷ rest)
+  standing_is = subst (λ (ps : List Point). IsStack nodes s ps) is st
+
+  pub way_stack : IsStack nodes s new
+  way_stack = subst (λ (ps : List Point). IsStack nodes s ps) (sym ended.0) (below-kept nodes s (record { goals = []; cursor = c; pending = pending; mark = mark } ∷ rest) standing_is.fit standing_is.marked)
+
+  pub way_at : (steps : ℕ) (was : List Pending) → steps ≤ limit → Makes nodes s start limit old steps was (Some (V.Way start c)) new steps way
+  way_at steps was within =
+      let left = limit - steps in
+      let enter = enter_only nodes s c mark standing_is.fit.0.next in
+      let size = ap length is in
+      let size' = ap length ended.0 in
+      record {
+        steps_in = within;
+        paid = omega arith;
+        grows = omega (arith, size, size');
+        falls = λ e. cc;
+        more = λ e. cc;
+        asked = tt;
+        pending = refl;
+        leads = λ answers.
+            ap (λ (ps : List Point). reading nodes s start ps answers left) is ∙
+            ap (λ (m : Mark). reading nodes s start (record { goals = []; cursor = c; pending = pending; mark = m } ∷ rest) answers left) enter ∙
+            resume-emit nodes s start rest ((Way start c pending, left) ∷ []) (Gives [] answers left Exhausted) ∙
+            ap (emit ((Way start c pending, left) ∷ [])) (resume-exhausted nodes s start rest answers left standing_is.marked) ∙
+            ap (λ (w : List Pending). emit ((Way start c w, left) ∷ []) (reading nodes s start rest answers left)) (sym ended.1) ∙
+            ap (λ (ps : List Point). emit ((Way start c way, left) ∷ []) (reading nodes s start ps answers left)) (sym ended.0);
+      }

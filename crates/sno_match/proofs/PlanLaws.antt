@@ -6,7 +6,10 @@ use Rattle.sno_pattern.specs.Pattern.{Pattern, Primitive, Leaf, Fence, Abort, Su
 use Rattle.sno_pattern.specs.Ends.{ends}
 use Rattle.std.proofs.lemmas.Bool.{ne_eqb}
 use Rattle.sno_value.specs.declared.ids.PatId.{PatId}
-use Rattle.sno_pattern.specs.Shape.{end_of}
+use Rattle.std.proofs.lemmas.Option.{slice_get_within}
+use Rattle.sno_pattern.specs.Shape.{HasShape, end_of}
+use Rattle.sno_pattern.specs.declared.shape.Shape.{Shape}
+use Rattle.sno_pattern.specs.declared.shape.Shape.TheVariants as S
 use Rattle.sno_pattern.specs.Table.{Node, tree}
 use Rattle.sno_match.specs.declared.goal.Goal.{Goal as Numbered}
 use Rattle.sno_match.specs.declared.goal.Goal.TheVariants as N
@@ -16,7 +19,7 @@ use Rattle.sno_match.specs.declared.goal.Mark.TheVariants.{Enter, Next}
 use Rattle.sno_match.specs.declared.plan.Front.TheVariants.{Nothing, One, Two}
 use Rattle.sno_match.specs.Search.{Goal, Match, CloseCond, CloseImm, CloseRepeat, Verdict, Exhausted, Aborted, Limit, Waiting, Event, Way, Assign, Cursor, Value, Answer, Outcome, Gives, Search, emit, or_else, further, tries, abort_if_exhausted, with_answer, if_moved, first_goal, search, assigns}
 use Rattle.sno_match.specs.Point.{Point, with_front, rest_of}
-use Rattle.sno_match.specs.Reading.{goals_of, goal_of, body_of, after_pattern, resume, reading, waiting, IsMarked, AllMarked}
+use Rattle.sno_match.specs.Reading.{goals_of, goal_of, body_of, after_pattern, resume, reading, waiting, IsMarked, AllMarked, HasNext}
 use Rattle.sno_match.specs.Plan.{point_at, Goes, IsDue}
 use Rattle.sno_match.proofs.SearchLaws.{search-step, search-falls}
 use Rattle.sno_match.proofs.ReadingLaws.{emit-none, resume-emit, resume-stop, resume-exhausted, tries-some, tries-none, next-some, next-limit, next-none, repeats-enter, repeats-next, further-stop}
@@ -88,15 +91,6 @@ module _ (nodes : List Node) (s : List ℕ) where
         ap (resume nodes s start below) (tries-some (λ e. search s start (goals_of nodes rest) e pending) (ends a s c) e answers left here) ∙
         sym (above start rest c pending below answers left id (Leaf a) [] e 1 t) ∙
         silent start rest c pending below answers left (with_front [] e (point_at (N.Match id) rest c pending Enter) ∷ point_at (N.Match id) rest c pending (Next 1) ∷ below)
-
-    pub leaf_spent : (i : ℕ) → end_of (tree nodes id.0) s c i ≡ None →
-        (start : ℕ) (rest : List Numbered) (pending : List Pending) (below : List Point) (answers : List Answer) (left : ℕ) → AllMarked below →
-        reading nodes s start (point_at (N.Match id) rest c pending (Next i) ∷ below) answers left ≡ reading nodes s start below answers left
-    leaf_spent i h start rest pending below answers left marked =
-        let none = subst (λ p. end_of p s c i ≡ None) t h in
-        next_of start rest c pending below answers left id (Leaf a) i t left ∙
-        ap (resume nodes s start below) (next-none (λ e. search s start (goals_of nodes rest) e pending) (ends a s c) i (Gives [] answers left Exhausted) none) ∙
-        resume-exhausted nodes s start below answers left marked
 
     pub leaf_due : (i e : ℕ) → end_of (tree nodes id.0) s c i ≡ Some e → IsDue nodes s (N.Match id) c (Next i)
     leaf_due i e h start rest pending below answers =
@@ -208,7 +202,7 @@ module _ (nodes : List Node) (s : List ℕ) where
 
   -- the ends of compound patterns
 
-  pub close_cond : (target : Name) (from c : ℕ) → Goes nodes s (N.CloseCond target from) c Enter (λ left. []) (λ point below. record point { goals = rest_of point.goals; pending = point.pending ++ assigns target from c ∷ [] } ∷ below)
+  pub close_cond : (target : Name) (from c : ℕ) → Goes nodes s (N.CloseCond target from) c Enter (λ left. []) (λ point below. record { goals = rest_of point.goals; cursor = point.cursor; pending = point.pending ++ assigns target from c ∷ []; mark = Enter } ∷ below)
   close_cond target from c start rest pending below answers marked left =
       step start rest c pending below answers left (N.CloseCond target from) ∙
       silent start rest c pending below answers left (record { goals = rest; cursor = c; pending = pending ++ assigns target from c ∷ []; mark = Enter } ∷ below)
@@ -236,3 +230,38 @@ pub none_of : (o : Option ℕ) (b : Bool) → is_some o ≡ not b → b ≡ true
 none_of None b h t = refl
 none_of (Some x) true h t = absurd (cc)
 none_of (Some x) false h t = absurd (cc)
+
+pub some_of : (xs : List ℕ) (i : ℕ) → i < length xs → slice_get xs i ≡ None → ⊥
+some_of [] i h e = absurd (omega arith)
+some_of (x ∷ xs) zero h e = cc
+some_of (x ∷ xs) (suc i) h e = some_of xs i (omega arith) e
+
+-- an end that is there is one of the ends
+pub more_in : (nodes : List Node) (id : ℕ) (a : Primitive) (s : List ℕ) (c i : ℕ) → tree nodes id ≡ Leaf a → (o : Option ℕ) (b : Bool) → end_of (tree nodes id) s c i ≡ o → is_some o ≡ not b → b ≡ false → HasNext (tree nodes id) s c i
+more_in nodes id a s c i t None b e h k = let clash : false ≡ true = h ∙ ap not k in cc
+more_in nodes id a s c i t (Some end) b e h k =
+    subst (λ (q : Pattern). HasNext q s c i) (sym t) (slice_get_within (ends a s c) i end (subst (λ (q : Pattern). end_of q s c i ≡ Some end) t e))
+
+pub no_end : (nodes : List Node) (id : ℕ) (a : Primitive) (s : List ℕ) (c i : ℕ) → tree nodes id ≡ Leaf a → HasNext (tree nodes id) s c i → end_of (tree nodes id) s c i ≡ None → ⊥
+no_end nodes id a s c i t h e =
+    some_of (ends a s c) i (subst (λ (q : Pattern). HasNext q s c i) t h) (subst (λ (q : Pattern). end_of q s c i ≡ None) t e)
+
+-- a shape without a further alternative
+pub no_next : (nodes : List Node) (id : ℕ) (s : List ℕ) (c i : ℕ) (shape : Shape) → HasShape nodes id shape → HasNext (tree nodes id) s c i →
+    (shape ≡ S.Primitive → ⊥) → ((p q : PatId) → shape ≡ S.Alt p q → ⊥) → ((p : PatId) → shape ≡ S.Arbno p → ⊥) → (shape ≡ S.Succeed → ⊥) → (shape ≡ S.Fence → ⊥) → ⊥
+no_next nodes id s c i S.Primitive h n a b d e f = a refl
+no_next nodes id s c i (S.Alt p q) h n a b d e f = b p q refl
+no_next nodes id s c i (S.Arbno p) h n a b d e f = d p refl
+no_next nodes id s c i S.Succeed h n a b d e f = e refl
+no_next nodes id s c i S.Fence h n a b d e f = f refl
+no_next nodes id s c i (S.Cat p q) h n a b d e f = subst (λ (t : Pattern). HasNext t s c i) h.2 n
+no_next nodes id s c i (S.Cond p target) h n a b d e f = subst (λ (t : Pattern). HasNext t s c i) h.1 n
+no_next nodes id s c i (S.Imm p target) h n a b d e f = subst (λ (t : Pattern). HasNext t s c i) h.1 n
+no_next nodes id s c i (S.Cursor target) h n a b d e f = subst (λ (t : Pattern). HasNext t s c i) h n
+no_next nodes id s c i S.Abort h n a b d e f = subst (λ (t : Pattern). HasNext t s c i) h n
+no_next nodes id s c i (S.Defer expression) h n a b d e f = subst (λ (t : Pattern). HasNext t s c i) h n
+no_next nodes id s c i (S.DeferPrim primitive expression) h n a b d e f = subst (λ (t : Pattern). HasNext t s c i) h n
+
+-- a pattern with an alternative of its own has it at any number
+pub next_in : (nodes : List Node) (id : ℕ) (q : Pattern) (s : List ℕ) (c i : ℕ) → tree nodes id ≡ q → HasNext q s c i → HasNext (tree nodes id) s c i
+next_in nodes id q s c i e h = subst (λ (t : Pattern). HasNext t s c i) (sym e) h

@@ -5,7 +5,7 @@ use Rattle.sno_match.specs.declared.event.Pending.{Pending}
 use Rattle.sno_pattern.specs.Pattern.{Pattern}
 use Rattle.sno_pattern.specs.Ends.{count_from}
 use Rattle.sno_match.specs.Search.{Match, Verdict, Exhausted, Aborted, Limit, Waiting, Event, Ended, Answer, Outcome, Gives, search, starts, whole, all_events, trace}
-use Rattle.sno_match.specs.Ways.{IsQuiet, Takes, Taken, MayStart, IsAdmitted, way_in, ways_in, AreWays}
+use Rattle.sno_match.specs.Ways.{IsQuiet, Takes, Taken, MayStart, IsAdmitted, way_in, ways_in, AreWays, AreExhausted}
 use Rattle.sno_match.proofs.Finds.{Each, Each-map, Each-to, IsInner, Found, Finds, put, Amid, found-same, found-tries}
 use Rattle.sno_match.proofs.EndsRange.{Within, count_from-within}
 use Rattle.sno_match.proofs.Goals.{Goes, done, pass}
@@ -93,18 +93,18 @@ counted-finds P limit events verdict f = record {
 }
 
 ended-ways : (p : Pattern) (s : List ℕ) (anchored : Bool) (limit k : ℕ) (events : List (Event × ℕ)) (verdict : Verdict) (left : ℕ) → Finds (IsAdmitted p s anchored) events verdict →
-    AreWays p s anchored (take k (map (counted limit) (events ++ (Ended verdict, left) ∷ [])))
+    AreWays p s anchored (take k (map (counted limit) (events ++ (Ended verdict, left) ∷ []))) (AreExhausted (take k (map (counted limit) (events ++ (Ended verdict, left) ∷ []))))
 ended-ways p s anchored limit k events verdict left f =
-    rw (map-append (counted limit) events ((Ended verdict, left) ∷ []))
+    subst (λ (es : List (Event × ℕ)). AreWays p s anchored (take k es) (AreExhausted (take k es))) (sym (map-append (counted limit) events ((Ended verdict, left) ∷ [])))
     (are-ways p s anchored (map (counted limit) events) verdict (limit - left) k (counted-finds (IsAdmitted p s anchored) limit events verdict f))
 
 outcome-ways : (p : Pattern) (s : List ℕ) (anchored : Bool) (limit k : ℕ) (outcome : Outcome) → Found (IsAdmitted p s anchored) outcome →
-    AreWays p s anchored (take k (map (counted limit) (all_events outcome)))
+    AreWays p s anchored (take k (map (counted limit) (all_events outcome))) (AreExhausted (take k (map (counted limit) (all_events outcome))))
 outcome-ways p s anchored limit k (Gives events answers left Exhausted) f = ended-ways p s anchored limit k events Exhausted left f
 outcome-ways p s anchored limit k (Gives events answers left Aborted) f = absurd f.ending
 outcome-ways p s anchored limit k (Gives events answers left Limit) f = ended-ways p s anchored limit k events Limit left f
 outcome-ways p s anchored limit k (Gives events answers left Waiting) f = absurd f.ending
 
 -- the first k events of a quiet pattern's trace
-pub quiet-ways : (p : Pattern) (s : List ℕ) (anchored : Bool) (limit : ℕ) (answers : List Answer) (k : ℕ) → IsQuiet p → AreWays p s anchored (take k (trace p s anchored limit answers))
+pub quiet-ways : (p : Pattern) (s : List ℕ) (anchored : Bool) (limit : ℕ) (answers : List Answer) (k : ℕ) → IsQuiet p → AreWays p s anchored (take k (trace p s anchored limit answers)) (AreExhausted (take k (trace p s anchored limit answers)))
 quiet-ways p s anchored limit answers k q = outcome-ways p s anchored limit k (whole p s anchored answers limit) (whole-finds p s anchored q answers limit)

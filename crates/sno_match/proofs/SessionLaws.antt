@@ -1,239 +1,415 @@
 -- The story of a match, from one event to the next.
-use Rattle.std.proofs.Common.{◌≡◌, ℕ, zero, suc, ◌+◌, ◌-◌, ◌*◌, ◌≤◌, ◌<◌, min, Bool, true, false, List, [], ◌∷◌, ◌++◌, Option, Some, None, length, map, slice_get, refl, sym, ◌∙◌, ap, subst, arith, add-one, append_assoc, append-nil, length-append}
+use Rattle.std.proofs.Common.{◌≡◌, ℕ, zero, suc, ◌+◌, ◌-◌, ◌*◌, ◌≤◌, ◌<◌, ◌||◌, min, Bool, true, false, List, [], ◌∷◌, ◌++◌, Option, Some, None, length, map, slice_get, IsTrue, refl, sym, ◌∙◌, ap, subst, arith, add-one, append_assoc, append-nil, length-append}
+use Rattle.std.proofs.lemmas.List.{map-append}
 use Rattle.std.proofs.Math.Nat.{sub-zero}
 use Rattle.sno_value.specs.declared.ids.PatId.{PatId}
 use Rattle.sno_pattern.specs.Table.{Node, tree}
 use Rattle.sno_pattern.specs.Ends.{count_from}
 use Rattle.sno_match.specs.declared.goal.Goal.TheVariants as N
+use Rattle.sno_match.specs.declared.event.Event.{Event as Told}
+use Rattle.sno_match.specs.declared.event.Event.TheVariants as V
 use Rattle.sno_match.specs.declared.event.Pending.{Pending}
-use Rattle.sno_match.specs.declared.advance.End.{End}
-use Rattle.sno_match.specs.declared.advance.End.TheVariants as E
-use Rattle.sno_match.specs.declared.event.Event.{Event as Shown}
 use Rattle.sno_match.specs.declared.engine.State.{State}
 use Rattle.sno_match.specs.declared.engine.State.TheVariants as S
 use Rattle.sno_match.specs.Search.{Match, Verdict, Exhausted, Aborted, Limit, Waiting, Event, Ended, Answer, Outcome, Gives, Search, emit, further, search, whole, starts, trace, all_events, last_event}
-use Rattle.sno_match.specs.Point.{Point, with_front}
+use Rattle.sno_match.specs.Events.{in_trace, is_last, is_value, cost, pending_after, last_pending, last_count}
+use Rattle.sno_match.specs.Point.{Point, with_front, HasFirst}
 use Rattle.sno_match.specs.Top.{first_point}
-use Rattle.sno_match.specs.Reading.{IsStack, AllMarked}
-use Rattle.sno_match.specs.Coming.{coming, coming_after_answer, later, verdict_of, later_starts, GoesOn}
-use Rattle.sno_match.specs.EventShown.{shown}
-use Rattle.sno_match.specs.Session.{Session, waits, answers_of, trace_of, SameMatch, IsTold, StaysAt}
-use Rattle.sno_match.specs.Running.{to_come, ended, IsMatch}
+use Rattle.sno_match.specs.Reading.{reading, waiting, IsStack, AllMarked}
+use Rattle.sno_match.specs.State.{verdict_of, after, after_move, waits, ended, over, owed, LastIn, HasAsked}
+use Rattle.sno_match.specs.Move.{Makes, entries, price, way_after, standing}
+use Rattle.sno_match.specs.Session.{Session, answers_of, trace_of, SameMatch, IsTold, StaysAt}
+use Rattle.sno_match.specs.Running.{later, later_starts, to_come, counted, seen, IsMatch, AnswersIn, GoesOn, work, Advances}
 use Rattle.sno_match.proofs.WeightLaws.{few_told}
-use Rattle.sno_match.proofs.ReadingLaws.{emit-emit, emit-none, resume-exhausted, resume-stop, further-stop}
+use Rattle.sno_match.proofs.ReadingLaws.{emit-emit, emit-none, further-emit, further-stop, resume-exhausted, resume-stop}
 
--- what a trace shows of an event
-abbrev pub counted : ℕ → Event × ℕ → Event × ℕ
-counted limit told = (told.0, limit - told.1)
-
-all_events-emit : (es : List (Event × ℕ)) (outcome : Outcome) → all_events (emit es outcome) ≡ es ++ all_events outcome
+pub all_events-emit : (es : List (Event × ℕ)) (outcome : Outcome) → all_events (emit es outcome) ≡ es ++ all_events outcome
 all_events-emit es (Gives fs answers left verdict) = append_assoc es fs (last_event verdict left)
 
-at_seam : (limit : ℕ) (es rest : List (Event × ℕ)) (x : Event × ℕ) → slice_get (map (counted limit) ((es ++ x ∷ []) ++ rest)) (length es) ≡ Some (counted limit x)
-at_seam limit [] rest x = refl
-at_seam limit (e ∷ es) rest x = at_seam limit es rest x
-
-at_end : (limit : ℕ) (es : List (Event × ℕ)) (x : Event × ℕ) → slice_get (map (counted limit) (es ++ x ∷ [])) (length es) ≡ Some (counted limit x)
-at_end limit [] x = refl
-at_end limit (e ∷ es) x = at_end limit es x
-
-length-counted : (limit : ℕ) (es : List (Event × ℕ)) → length (map (counted limit) es) ≡ length es
+pub length-counted : (limit : ℕ) (es : List (Event × ℕ)) → length (map (counted limit) es) ≡ length es
 length-counted limit [] = refl
 length-counted limit (e ∷ es) = ap suc (length-counted limit es)
 
-first_story_by : (nodes : List Node) (pattern : PatId) (s : List ℕ) (limit : ℕ) (anchored : Bool) (more : List Answer) → whole (tree nodes pattern.0) s anchored more limit ≡ coming nodes s anchored pattern 0 (first_point (N.Match pattern) 0 ∷ []) more limit
-first_story_by nodes pattern s limit true more = refl
-first_story_by nodes pattern s limit false more =
-    ap (λ n. further (search s 0 (Match (tree nodes pattern.0) ∷ []) 0 [] more limit) (map (λ b. search s b (Match (tree nodes pattern.0) ∷ []) b []) (count_from (0 + 1) n))) (sym (sub-zero (length s)))
+pub at_place : (limit : ℕ) (es rest : List (Event × ℕ)) (x : Event × ℕ) → slice_get (map (counted limit) (es ++ x ∷ rest)) (length es) ≡ Some (counted limit x)
+at_place limit [] rest x = refl
+at_place limit (e ∷ es) rest x = at_place limit es rest x
 
-module _ (nodes : List Node) (pattern : PatId) (s : List ℕ) (anchored : Bool) (limit : ℕ) where
-  -- the first point of all
-  pub first_story : (more : List Answer) → whole (tree nodes pattern.0) s anchored more limit ≡ coming nodes s anchored pattern 0 (first_point (N.Match pattern) 0 ∷ []) more limit
-  first_story more = first_story_by nodes pattern s limit anchored more
+pub last_pending-append : (x : List Pending) (es fs : List (Event × ℕ)) → last_pending x (es ++ fs) ≡ last_pending (last_pending x es) fs
+last_pending-append x [] fs = refl
+last_pending-append x (e ∷ es) fs = last_pending-append (pending_after e.0 x) es fs
 
-  module _ (answers : List (Option PatId)) (told steps0 start0 : ℕ) (old : List Point) (way0 : List Pending) (inv : IsMatch nodes pattern s anchored limit answers told steps0 start0 old S.Going way0)
-      (steps start : ℕ) (points : List Point) where
-    pub next_story : (event : Event) (state : State) →
-        ((more : List Answer) → coming nodes s anchored pattern start0 old more (limit - steps0) ≡ emit ((event, limit - steps) ∷ []) (to_come state nodes s anchored pattern start points more (limit - steps))) →
-        (more : List Answer) → whole (tree nodes pattern.0) s anchored (answers_of nodes answers ++ more) limit ≡ emit (inv.events ++ (event, limit - steps) ∷ []) (to_come state nodes s anchored pattern start points more (limit - steps))
-    next_story event state h more =
-        inv.story more ∙ ap (emit inv.events) (h more) ∙ emit-emit inv.events ((event, limit - steps) ∷ []) (to_come state nodes s anchored pattern start points more (limit - steps))
+pub last_count-append : (n : ℕ) (es fs : List (Event × ℕ)) → last_count n (es ++ fs) ≡ last_count (last_count n es) fs
+last_count-append n [] fs = refl
+last_count-append n (e ∷ es) fs = last_count-append e.1 es fs
 
-    pub next_match : (event : Event) (state : State) (way : List Pending) → ended state ≡ 0 → steps ≤ limit → start ≤ length s → IsStack nodes (length s) points →
-        ((more : List Answer) → coming nodes s anchored pattern start0 old more (limit - steps0) ≡ emit ((event, limit - steps) ∷ []) (to_come state nodes s anchored pattern start points more (limit - steps))) →
-        IsMatch nodes pattern s anchored limit answers (told + 1) steps start points state way
-    next_match event state way e in_steps in_start stack h = record {
-      pattern_in = inv.pattern_in;
-      steps_in = in_steps;
-      start_in = in_start;
-      stack = stack;
-      answered = inv.answered;
-      events = inv.events ++ (event, limit - steps) ∷ [];
-      count = omega (arith, inv.count, e, length-append inv.events ((event, limit - steps) ∷ []));
-      story = next_story event state h;
-    }
+-- the entries of one event
 
-    trace_now : (event : Event) (state : State) →
-        ((more : List Answer) → coming nodes s anchored pattern start0 old more (limit - steps0) ≡ emit ((event, limit - steps) ∷ []) (to_come state nodes s anchored pattern start points more (limit - steps))) →
-        trace (tree nodes pattern.0) s anchored limit (answers_of nodes answers) ≡ map (counted limit) ((inv.events ++ (event, limit - steps) ∷ []) ++ all_events (to_come state nodes s anchored pattern start points [] (limit - steps)))
-    trace_now event state h =
-        ap (λ a. map (counted limit) (all_events (whole (tree nodes pattern.0) s anchored a limit))) (sym (append-nil (answers_of nodes answers))) ∙
-        ap (λ r. map (counted limit) (all_events r)) (next_story event state h []) ∙
-        ap (map (counted limit)) (all_events-emit (inv.events ++ (event, limit - steps) ∷ []) (to_come state nodes s anchored pattern start points [] (limit - steps)))
+entry-one : (event : Told) (way : List Pending) (left : ℕ) → length (entries (Some event) way left) + over (after event) ≡ 1
+entry-one (V.Way start end) way left = refl
+entry-one (V.Assign target start end) way left = refl
+entry-one (V.Cursor target at) way left = refl
+entry-one (V.Value prim expr) way left = refl
+entry-one V.Exhausted way left = refl
+entry-one V.Aborted way left = refl
+entry-one V.Limit way left = refl
 
-    pub next_at : (event : Event) (state : State) → steps ≤ limit →
-        ((more : List Answer) → coming nodes s anchored pattern start0 old more (limit - steps0) ≡ emit ((event, limit - steps) ∷ []) (to_come state nodes s anchored pattern start points more (limit - steps))) →
-        slice_get (trace (tree nodes pattern.0) s anchored limit (answers_of nodes answers)) (told + 1 - 1) ≡ Some (event, steps)
-    next_at event state in_steps h =
-        let place : told + 1 - 1 ≡ length inv.events = omega (arith, inv.count) in
-        let back : limit - (limit - steps) ≡ steps = omega arith in
-        ap (λ t. slice_get t (told + 1 - 1)) (trace_now event state h) ∙
-        ap (slice_get (map (counted limit) ((inv.events ++ (event, limit - steps) ∷ []) ++ all_events (to_come state nodes s anchored pattern start points [] (limit - steps))))) place ∙
-        at_seam limit inv.events (all_events (to_come state nodes s anchored pattern start points [] (limit - steps))) (event, limit - steps) ∙
-        ap (λ k. Some (event, k)) back
+entry-pending : (told : Option Told) (way was : List Pending) (left : ℕ) → last_pending was (entries told way left) ≡ way_after told way was
+entry-pending None way was left = refl
+entry-pending (Some (V.Way start end)) way was left = refl
+entry-pending (Some (V.Assign target start end)) way was left = refl
+entry-pending (Some (V.Cursor target at)) way was left = refl
+entry-pending (Some (V.Value prim expr)) way was left = refl
+entry-pending (Some V.Exhausted) way was left = refl
+entry-pending (Some V.Aborted) way was left = refl
+entry-pending (Some V.Limit) way was left = refl
 
-    pub next_count : (event : Event) (state : State) →
-        ((more : List Answer) → coming nodes s anchored pattern start0 old more (limit - steps0) ≡ emit ((event, limit - steps) ∷ []) (to_come state nodes s anchored pattern start points more (limit - steps))) →
-        told + 1 ≡ min (told + 1) (length (trace (tree nodes pattern.0) s anchored limit (answers_of nodes answers)))
-    next_count event state h =
-        let rest = all_events (to_come state nodes s anchored pattern start points [] (limit - steps)) in
-        let all = ap length (trace_now event state h) in
-        omega (arith, all, length-counted limit ((inv.events ++ (event, limit - steps) ∷ []) ++ rest), length-append (inv.events ++ (event, limit - steps) ∷ []) rest, length-append inv.events ((event, limit - steps) ∷ []), inv.count)
+entry-count : (told : Option Told) (way : List Pending) (limit steps n : ℕ) → n ≤ steps → steps ≤ limit → last_count n (map (counted limit) (entries told way (limit - steps))) ≤ steps
+entry-count None way limit steps n h k = h
+entry-count (Some (V.Way start end)) way limit steps n h k = omega arith
+entry-count (Some (V.Assign target start end)) way limit steps n h k = omega arith
+entry-count (Some (V.Cursor target at)) way limit steps n h k = omega arith
+entry-count (Some (V.Value prim expr)) way limit steps n h k = omega arith
+entry-count (Some V.Exhausted) way limit steps n h k = h
+entry-count (Some V.Aborted) way limit steps n h k = h
+entry-count (Some V.Limit) way limit steps n h k = h
 
-    -- the last event
+after-last : (told : Option Told) → LastIn (after_move told)
+after-last None = tt
+after-last (Some (V.Way start end)) = tt
+after-last (Some (V.Assign target start end)) = tt
+after-last (Some (V.Cursor target at)) = tt
+after-last (Some (V.Value prim expr)) = tt
+after-last (Some V.Exhausted) = refl
+after-last (Some V.Aborted) = refl
+after-last (Some V.Limit) = refl
 
-    module _ (end : End) (h : (more : List Answer) → coming nodes s anchored pattern start0 old more (limit - steps0) ≡ Gives [] more (limit - steps) (verdict_of end)) where
-      pub last_match : (way : List Pending) → steps ≤ limit → start ≤ length s → IsStack nodes (length s) points → IsMatch nodes pattern s anchored limit answers (told + 1) steps start points (S.Ended end) way
-      last_match way in_steps in_start stack = record {
-        pattern_in = inv.pattern_in;
-        steps_in = in_steps;
-        start_in = in_start;
-        stack = stack;
-        answered = inv.answered;
-        events = inv.events;
-        count = omega (arith, inv.count);
-        story = λ more. inv.story more ∙ ap (emit inv.events) (h more);
-      }
+after-ended : (event : Told) → ended (after event) ≡ is_last event
+after-ended (V.Way start end) = refl
+after-ended (V.Assign target start end) = refl
+after-ended (V.Cursor target at) = refl
+after-ended (V.Value prim expr) = refl
+after-ended V.Exhausted = refl
+after-ended V.Aborted = refl
+after-ended V.Limit = refl
 
--- behind the last event
+after-waits : (event : Told) → waits (after event) ≡ is_value event
+after-waits (V.Way start end) = refl
+after-waits (V.Assign target start end) = refl
+after-waits (V.Cursor target at) = refl
+after-waits (V.Value prim expr) = refl
+after-waits V.Exhausted = refl
+after-waits V.Aborted = refl
+after-waits V.Limit = refl
 
-last_of : (end : End) (left : ℕ) → last_event (verdict_of end) left ≡ (Ended (verdict_of end), left) ∷ []
-last_of E.Exhausted left = refl
-last_of E.Aborted left = refl
-last_of E.Limit left = refl
+-- how many events
+abbrev pub tells : Option Told → ℕ
+tells None = 0
+tells (Some event) = 1
 
-module _ (nodes : List Node) (pattern : PatId) (s : List ℕ) (anchored : Bool) (limit : ℕ) (answers : List (Option PatId)) (told steps start : ℕ) (points : List Point) (way : List Pending) (end : End)
-    (inv : IsMatch nodes pattern s anchored limit answers told steps start points (S.Ended end) way) where
-  trace_ended : trace (tree nodes pattern.0) s anchored limit (answers_of nodes answers) ≡ map (counted limit) (inv.events ++ (Ended (verdict_of end), limit - steps) ∷ [])
-  trace_ended =
-      ap (λ a. map (counted limit) (all_events (whole (tree nodes pattern.0) s anchored a limit))) (sym (append-nil (answers_of nodes answers))) ∙
-      ap (λ r. map (counted limit) (all_events r)) (inv.story []) ∙
-      ap (map (counted limit)) (all_events-emit inv.events (Gives [] [] (limit - steps) (verdict_of end)) ∙ ap (λ t. inv.events ++ t) (last_of end (limit - steps)))
+entries-tell : (told : Option Told) (way : List Pending) (left : ℕ) → length (entries told way left) + over (after_move told) ≡ tells told
+entries-tell None way left = refl
+entries-tell (Some event) way left = entry-one event way left
 
-  pub last_at : slice_get (trace (tree nodes pattern.0) s anchored limit (answers_of nodes answers)) (told - 1) ≡ Some (Ended (verdict_of end), steps)
-  last_at =
-      let place : told - 1 ≡ length inv.events = omega (arith, inv.count) in
-      let back : limit - (limit - steps) ≡ steps = omega (arith, inv.steps_in) in
-      ap (λ t. slice_get t (told - 1)) trace_ended ∙
-      ap (slice_get (map (counted limit) (inv.events ++ (Ended (verdict_of end), limit - steps) ∷ []))) place ∙
-      at_end limit inv.events (Ended (verdict_of end), limit - steps) ∙
-      ap (λ k. Some (Ended (verdict_of end), k)) back
+-- the first point of a start
+pub first_stack : (nodes : List Node) (s : List ℕ) (pattern : PatId) (at : ℕ) (new : List Point) → pattern.0 < length nodes → at ≤ length s → new ≡ first_point (N.Match pattern) at ∷ [] → IsStack nodes s new
+first_stack nodes s pattern at new h k e = subst (λ (ps : List Point). IsStack nodes s ps) (sym e) (record { fit = (record { known = (h, tt); inside = k; next = tt }, tt); marked = tt })
 
-  pub last_length : length (trace (tree nodes pattern.0) s anchored limit (answers_of nodes answers)) ≡ told
-  last_length = omega (arith, ap length trace_ended, length-counted limit (inv.events ++ (Ended (verdict_of end), limit - steps) ∷ []), length-append inv.events ((Ended (verdict_of end), limit - steps) ∷ []), inv.count)
+first_story : (m : Session) (more : List Answer) → whole (tree m.nodes m.pattern.0) m.subject m.anchored more m.limit ≡ to_come S.Going m 0 (first_point (N.Match m.pattern) 0 ∷ []) more m.limit
+first_story m more = by_mode m.anchored
+  where
+    from_start : Search
+    from_start = search m.subject 0 (Match (tree m.nodes m.pattern.0) ∷ []) 0 []
+
+    by_mode : (anchored : Bool) → whole (tree m.nodes m.pattern.0) m.subject anchored more m.limit ≡
+        further (from_start more m.limit) (map (λ b. search m.subject b (Match (tree m.nodes m.pattern.0) ∷ []) b []) (later_starts anchored m.subject 0))
+    by_mode true = refl
+    by_mode false =
+        ap (λ n. further (from_start more m.limit) (map (λ b. search m.subject b (Match (tree m.nodes m.pattern.0) ∷ []) b []) (count_from (0 + 1) n))) (sym (sub-zero (length m.subject)))
 
 -- a match that begins
-pub new_match : (nodes : List Node) (pattern : PatId) (s : List ℕ) (anchored : Bool) (limit : ℕ) (points : List Point) → pattern.0 < length nodes → IsStack nodes (length s) points → points ≡ first_point (N.Match pattern) 0 ∷ [] →
-    IsMatch nodes pattern s anchored limit [] 0 0 0 points S.Going []
-new_match nodes pattern s anchored limit points h stack e = record {
+pub new_match : (nodes : List Node) (pattern : PatId) (s : List ℕ) (anchored : Bool) (limit : ℕ) (points : List Point) (records : ℕ) → pattern.0 < length nodes → points ≡ first_point (N.Match pattern) 0 ∷ [] → records ≤ 1 →
+    IsMatch (seen nodes pattern s anchored limit [] 0 0 S.Going [] points records) 0 points S.Going
+new_match nodes pattern s anchored limit points records h e few = record {
   pattern_in = h;
+  answers_in = tt;
   steps_in = omega arith;
   start_in = omega arith;
-  stack = stack;
-  answered = tt;
+  stack = first_stack nodes s pattern 0 points h (omega arith) e;
+  asked = tt;
+  last_in = tt;
+  points_in = omega (arith, ap length e);
+  records_in = omega (arith, few);
   events = [];
-  count = omega arith;
-  story = λ more. first_story_by nodes pattern s limit anchored more ∙
-      ap (λ ps. coming nodes s anchored pattern 0 ps more limit) (sym e) ∙
-      ap (λ n. coming nodes s anchored pattern 0 points more n) (sym (sub-zero limit)) ∙
-      sym (emit-none (coming nodes s anchored pattern 0 points more (limit - 0)));
+  told = omega arith;
+  pending = refl;
+  since = omega arith;
+  story = λ more.
+      let m = seen nodes pattern s anchored limit [] 0 0 S.Going [] points records in
+      first_story m more ∙
+      ap (λ ps. to_come S.Going m 0 ps more limit) (sym e) ∙
+      ap (λ n. to_come S.Going m 0 points more n) (sym (sub-zero limit)) ∙
+      sym (emit-none (to_come S.Going m 0 points more (limit - 0)));
 }
 
--- for the answers of `next`
+-- What one move or one start does to a match that goes on.
+pub record Leads (m : Session) (start0 : ℕ) (old : List Point) (told : Option Told) (steps start : ℕ) (points : List Point) (way : List Pending) (records : ℕ) : Type 0 where
+  pub steps_in : steps ≤ m.limit
+  pub paid : m.steps + price told ≤ steps
+  pub start_in : start ≤ length m.subject
+  pub stack : IsStack m.nodes m.subject points
+  pub asked : HasAsked (after_move told) points
+  pub points_in : length points + m.steps ≤ length old + steps
+  pub records_in : records + 2 * m.steps + owed (after_move told) ≤ m.records + 2 * steps
+  pub pending : way ≡ way_after told way m.way
+  pub leads : (more : List Answer) → to_come S.Going m start0 old more (m.limit - m.steps) ≡ emit (entries told way (m.limit - steps)) (to_come (after_move told) m start points more (m.limit - steps))
 
-pub going_of : (state : State) → waits state ≡ false → ((end : End) → state ≡ S.Ended end → ⊥) → state ≡ S.Going
-going_of S.Going h k = refl
-going_of S.Waiting h k = absurd (cc)
-going_of (S.Ended end) h k = absurd (k end refl)
+module _ (m : Session) (start0 : ℕ) (old : List Point) (inv : IsMatch m start0 old S.Going) (told : Option Told) (steps start : ℕ) (points : List Point) (way : List Pending) (records : ℕ)
+    (l : Leads m start0 old told steps start points way records) where
+  abbrev after_it : ℕ → Session
+  after_it count = seen m.nodes m.pattern m.subject m.anchored m.limit m.answers count steps (after_move told) way points records
 
-pub moved : (P : List Node → List ℕ → Type 0) (n m : List Node) (s t : List ℕ) → n ≡ m → s ≡ t → P n s → P m t
-moved P n m s t e f h = subst (λ (x : List ℕ). P m x) f (subst (λ (x : List Node). P x s) e h)
+  story : (more : List Answer) → whole (tree m.nodes m.pattern.0) m.subject m.anchored (answers_of m.nodes m.answers ++ more) m.limit ≡
+      emit (inv.events ++ entries told way (m.limit - steps)) (to_come (after_move told) m start points more (m.limit - steps))
+  story more =
+      inv.story more ∙ ap (emit inv.events) (l.leads more) ∙
+      emit-emit inv.events (entries told way (m.limit - steps)) (to_come (after_move told) m start points more (m.limit - steps))
 
-pub same_by : (v o new : Session) → v ≡ o → new.pattern ≡ v.pattern → new.subject ≡ v.subject → new.anchored ≡ v.anchored → new.limit ≡ v.limit → new.answers ≡ v.answers → SameMatch o new
-same_by v o new e a b c d f = subst (λ (x : Session). SameMatch x new) e (record { pattern = a; subject = b; anchored = c; limit = d; answers = f })
+  come : (count : ℕ) (state : State) (more : List Answer) (left : ℕ) → to_come state m start points more left ≡ to_come state (after_it count) start points more left
+  come count S.Going more left = refl
+  come count S.Waiting more left = refl
+  come count (S.Ended event) more left = refl
 
-pub told_by : (v o new : Session) (event : Shown) (full : Event) → v ≡ o → shown full ≡ event → slice_get (trace_of new) (v.told + 1 - 1) ≡ Some (full, new.steps) →
-    v.told + 1 ≡ min (v.told + 1) (length (trace_of new)) → new.told ≡ v.told + 1 → IsTold o new event
-told_by v o new event full e looks at count n = subst (λ (x : Session). IsTold x new event) e (record {
-  full = full;
-  looks = looks;
-  at = rw n at;
-  count = n ∙ count;
-})
+  pub led : (count : ℕ) → count ≡ m.told + tells told → IsMatch (after_it count) start points (after_move told)
+  led count e = record {
+    pattern_in = inv.pattern_in;
+    answers_in = inv.answers_in;
+    steps_in = l.steps_in;
+    start_in = l.start_in;
+    stack = l.stack;
+    asked = l.asked;
+    last_in = after-last told;
+    points_in = omega (arith, l.points_in, inv.points_in);
+    records_in = omega (arith, l.records_in, inv.records_in);
+    events = inv.events ++ entries told way (m.limit - steps);
+    told = omega (arith, e, inv.told, entries-tell told way (m.limit - steps), length-append inv.events (entries told way (m.limit - steps)));
+    pending = l.pending ∙ ap (λ (x : List Pending). way_after told way x) inv.pending ∙ sym (entry-pending told way (last_pending [] inv.events) (m.limit - steps)) ∙
+        sym (last_pending-append [] inv.events (entries told way (m.limit - steps)));
+    since =
+        let e' = map-append (counted m.limit) inv.events (entries told way (m.limit - steps)) in
+        let f = last_count-append 0 (map (counted m.limit) inv.events) (map (counted m.limit) (entries told way (m.limit - steps))) in
+        let before : last_count 0 (map (counted m.limit) inv.events) ≤ steps = omega (arith, inv.since, l.paid) in
+        subst (λ (n : ℕ). n ≤ steps) (sym (ap (last_count 0) e' ∙ f)) (entry-count told way m.limit steps (last_count 0 (map (counted m.limit) inv.events)) before l.steps_in);
+    story = λ more. story more ∙ ap (emit (inv.events ++ entries told way (m.limit - steps))) (come count (after_move told) more (m.limit - steps));
+  }
 
--- after a refusal
-pub err_match : (nodes : List Node) (pattern : PatId) (s : List ℕ) (anchored : Bool) (limit : ℕ) (answers : List (Option PatId)) (told steps0 start0 : ℕ) (old : List Point) (way0 : List Pending) → IsMatch nodes pattern s anchored limit answers told steps0 start0 old S.Going way0 →
-    (steps start : ℕ) (points : List Point) (way : List Pending) → steps ≤ limit → start ≤ length s → IsStack nodes (length s) points → GoesOn nodes s anchored pattern limit start0 old steps0 start points steps →
-    IsMatch nodes pattern s anchored limit answers told steps start points S.Going way
-err_match nodes pattern s anchored limit answers told steps0 start0 old way0 inv steps start points way in_steps in_start stack goes = record {
-  pattern_in = inv.pattern_in;
-  steps_in = in_steps;
+-- an event was told
+
+module _ (m : Session) (start : ℕ) (points : List Point) (left : ℕ) where
+  -- what comes behind it
+  abbrev behind : Told → List (Event × ℕ)
+  behind V.Exhausted = []
+  behind V.Aborted = []
+  behind V.Limit = []
+  behind event = all_events (to_come (after event) m start points [] left)
+
+  entry-first : (event : Told) (way : List Pending) → entries (Some event) way left ++ all_events (to_come (after event) m start points [] left) ≡ (in_trace event way, left) ∷ behind event
+  entry-first (V.Way start end) way = refl
+  entry-first (V.Assign target start end) way = refl
+  entry-first (V.Cursor target at) way = refl
+  entry-first (V.Value prim expr) way = refl
+  entry-first V.Exhausted way = refl
+  entry-first V.Aborted way = refl
+  entry-first V.Limit way = refl
+
+pub waits_here : (m : Session) (start : ℕ) (points : List Point) (left : ℕ) → HasFirst points → to_come S.Waiting m start points [] left ≡ Gives [] [] left Waiting
+waits_here m start [] left h = elim h [ ]
+waits_here m start (point ∷ rest) left h =
+    ap (λ r. further r (later m start)) (resume-stop m.nodes m.subject start rest [] [] left Waiting tt) ∙ further-stop [] [] left Waiting (later m start) tt
+
+module _ (m : Session) (start : ℕ) (points : List Point) (left : ℕ) where
+  behind-stops : (event : Told) → IsTrue (is_last event || is_value event) → HasAsked (after event) points → behind m start points left event ≡ []
+  behind-stops (V.Way start' end) h k = absurd (cc)
+  behind-stops (V.Assign target start' end) h k = absurd (cc)
+  behind-stops (V.Cursor target at) h k = absurd (cc)
+  behind-stops (V.Value prim expr) h k = ap all_events (waits_here m start points left k)
+  behind-stops V.Exhausted h k = refl
+  behind-stops V.Aborted h k = refl
+  behind-stops V.Limit h k = refl
+
+module _ (m : Session) (start0 : ℕ) (old : List Point) (inv : IsMatch m start0 old S.Going) (event : Told) (steps start : ℕ) (points : List Point) (way : List Pending) (records : ℕ)
+    (l : Leads m start0 old (Some event) steps start points way records) where
+  abbrev next : Session
+  next = after_it m start0 old inv (Some event) steps start points way records l (m.told + 1)
+
+  abbrev rest : List (Event × ℕ)
+  rest = behind m start points (m.limit - steps) event
+
+  trace_next : trace_of next ≡ map (counted m.limit) (inv.events ++ (in_trace event way, m.limit - steps) ∷ rest)
+  trace_next =
+      let left = m.limit - steps in
+      ap (λ a. map (counted m.limit) (all_events (whole (tree m.nodes m.pattern.0) m.subject m.anchored a m.limit))) (sym (append-nil (answers_of m.nodes m.answers))) ∙
+      ap (λ r. map (counted m.limit) (all_events r)) (story m start0 old inv (Some event) steps start points way records l []) ∙
+      ap (map (counted m.limit)) (all_events-emit (inv.events ++ entries (Some event) way left) (to_come (after event) m start points [] left) ∙
+      append_assoc inv.events (entries (Some event) way left) (all_events (to_come (after event) m start points [] left)) ∙
+      ap (λ t. inv.events ++ t) (entry-first m start points left event way))
+
+  size : length (trace_of next) ≡ m.told + 1 + length rest
+  size = omega (arith, ap length trace_next, length-counted m.limit (inv.events ++ (in_trace event way, m.limit - steps) ∷ rest), length-append inv.events ((in_trace event way, m.limit - steps) ∷ rest), inv.told)
+
+  pub led_told : m.ended ≡ false → IsTold m next event
+  led_told e = record {
+    at =
+        let place : m.told + 1 - 1 ≡ length inv.events = omega (arith, inv.told) in
+        let back : m.limit - (m.limit - steps) ≡ steps = omega (arith, l.steps_in) in
+        ap (λ t. slice_get t (m.told + 1 - 1)) trace_next ∙
+        ap (slice_get (map (counted m.limit) (inv.events ++ (in_trace event way, m.limit - steps) ∷ rest))) place ∙
+        at_place m.limit inv.events rest (in_trace event way, m.limit - steps) ∙
+        ap (λ k. Some (in_trace event way, k)) back;
+    count = omega (arith, size);
+    grows = λ h. refl;
+    stops = λ h. omega (arith, size, ap length (behind-stops m start points (m.limit - steps) event h l.asked));
+    ended = after-ended event;
+    waits = after-waits event;
+    paid = l.paid;
+    way = l.pending;
+  }
+
+-- nothing was told
+
+module _ (m : Session) (start0 : ℕ) (old : List Point) (inv : IsMatch m start0 old S.Going) (steps start : ℕ) (points : List Point) (way : List Pending) (records : ℕ)
+    (l : Leads m start0 old None steps start points way records) where
+  pub led_on : GoesOn m (after_it m start0 old inv None steps start points way records l m.told)
+  led_on = record {
+    nodes = refl;
+    same = record { pattern = refl; subject = refl; anchored = refl; limit = refl; answers = refl; trace = refl };
+    stays = record { told = refl; way = l.pending; waits = refl; ended = refl; steps = omega (arith, l.paid) };
+  }
+
+-- a move of the stack is a move of the match
+
+module _ (m : Session) (start : ℕ) (points : List Point) (answers : List Answer) (left : ℕ) where
+  stand : (state : State) → (state ≡ S.Ended V.Exhausted → ⊥) → further (standing state m.nodes m.subject start points answers left) (later m start) ≡ to_come state m start points answers left
+  stand S.Going h = refl
+  stand S.Waiting h = refl
+  stand (S.Ended (V.Way start' end)) h = further-stop [] answers left Limit (later m start) tt
+  stand (S.Ended (V.Assign target start' end)) h = further-stop [] answers left Limit (later m start) tt
+  stand (S.Ended (V.Cursor target at)) h = further-stop [] answers left Limit (later m start) tt
+  stand (S.Ended (V.Value prim expr)) h = further-stop [] answers left Limit (later m start) tt
+  stand (S.Ended V.Exhausted) h = absurd (h refl)
+  stand (S.Ended V.Aborted) h = further-stop [] answers left Aborted (later m start) tt
+  stand (S.Ended V.Limit) h = further-stop [] answers left Limit (later m start) tt
+
+not_exhausted : (told : Option Told) → (told ≡ Some V.Exhausted → ⊥) → after_move told ≡ S.Ended V.Exhausted → ⊥
+not_exhausted None h e = cc
+not_exhausted (Some (V.Way start end)) h e = cc
+not_exhausted (Some (V.Assign target start end)) h e = cc
+not_exhausted (Some (V.Cursor target at)) h e = cc
+not_exhausted (Some (V.Value prim expr)) h e = cc
+not_exhausted (Some V.Exhausted) h e = h refl
+not_exhausted (Some V.Aborted) h e = cc
+not_exhausted (Some V.Limit) h e = cc
+
+pub move_leads : (m : Session) (start : ℕ) (old : List Point) (told : Option Told) (steps : ℕ) (points : List Point) (way : List Pending) (records : ℕ) → start ≤ length m.subject → IsStack m.nodes m.subject points →
+    records + 2 * m.steps + owed (after_move told) ≤ m.records + 2 * steps → Makes m.nodes m.subject start m.limit old m.steps m.way told points steps way →
+    Leads m start old told steps start points way records
+move_leads m start old told steps points way records in_start stack few made = record {
+  steps_in = made.steps_in;
+  paid = made.paid;
   start_in = in_start;
   stack = stack;
-  answered = inv.answered;
-  events = inv.events;
-  count = inv.count;
-  story = λ more. inv.story more ∙ ap (emit inv.events) (goes.1 more);
+  asked = made.asked;
+  points_in = made.grows;
+  records_in = few;
+  pending = made.pending;
+  leads = λ more.
+      ap (λ r. further r (later m start)) (made.leads more) ∙
+      further-emit (entries told way (m.limit - steps)) (standing (after_move told) m.nodes m.subject start points more (m.limit - steps)) (later m start) ∙
+      ap (emit (entries told way (m.limit - steps))) (stand m start points more (m.limit - steps) (after_move told) (not_exhausted told made.more));
 }
 
-pub min_here : (told n : ℕ) → n ≡ told → told ≡ min told n
-min_here told n e = omega arith
+-- no point is left
 
-pub min_past : (told n : ℕ) → n ≡ told → told ≡ min (told + 1) n
-min_past told n e = omega arith
+no_points : (points : List Point) → length points ≡ 0 → points ≡ []
+no_points [] h = refl
+no_points (p ∷ ps) h = absurd (omega arith)
 
-pub ended_by : (v o new : Session) (event : Shown) (full : Event) → v ≡ o → shown full ≡ event → slice_get (trace_of new) (new.told - 1) ≡ Some (full, new.steps) → new.told ≡ v.told → length (trace_of new) ≡ new.told → IsTold o new event
-ended_by v o new event full e looks at n l = subst (λ (x : Session). IsTold x new event) e (record {
-  full = full;
-  looks = looks;
-  at = at;
-  count = rw (← n) (min_past new.told (length (trace_of new)) l);
-})
+pub anchored_once : (anchored : Bool) (s : List ℕ) (start : ℕ) → anchored ≡ true → later_starts anchored s start ≡ []
+anchored_once true s start h = refl
+anchored_once false s start h = absurd (cc)
 
--- an answer takes the place of the deferred part
+pub last_start : (anchored : Bool) (s : List ℕ) (start : ℕ) → start ≡ length s → later_starts anchored s start ≡ []
+last_start true s start h = refl
+last_start false s start h = let z : length s - start ≡ 0 = omega arith in ap (count_from (start + 1)) z
 
-pub answered_pattern : (nodes : List Node) (s : List ℕ) (anchored : Bool) (pattern : PatId) (start : ℕ) (id : PatId) (point : Point) (rest : List Point) (more : List Answer) (left : ℕ) →
-    coming_after_answer nodes s anchored pattern start (point ∷ rest) (Some (tree nodes id.0) ∷ more) left ≡ coming nodes s anchored pattern start (with_front (N.Match id ∷ []) point.cursor point ∷ rest) more left
-answered_pattern nodes s anchored pattern start id point rest more left = refl
+module _ (m : Session) (start : ℕ) (points : List Point) (inv : IsMatch m start points S.Going) (empty : length points ≡ 0) where
+  bare : (more : List Answer) (left : ℕ) → to_come S.Going m start points more left ≡ to_come S.Going m start [] more left
+  bare more left = ap (λ (ps : List Point). to_come S.Going m start ps more left) (no_points points empty)
 
-pub answered_none : (nodes : List Node) (s : List ℕ) (anchored : Bool) (pattern : PatId) (start : ℕ) (point : Point) (rest : List Point) (more : List Answer) (left : ℕ) → AllMarked rest →
-    coming_after_answer nodes s anchored pattern start (point ∷ rest) (None ∷ more) left ≡ coming nodes s anchored pattern start rest more left
-answered_none nodes s anchored pattern start point rest more left h =
-    ap (λ r. further r (later nodes s anchored pattern start)) (resume-exhausted nodes s start rest more left h)
+  -- and no start
+  pub exhausted_leads : later_starts m.anchored m.subject start ≡ [] → Leads m start points (Some V.Exhausted) m.steps start points m.way m.records
+  exhausted_leads none = record {
+    steps_in = inv.steps_in;
+    paid = omega arith;
+    start_in = inv.start_in;
+    stack = inv.stack;
+    asked = tt;
+    points_in = omega arith;
+    records_in = omega arith;
+    pending = refl;
+    leads = λ more. bare more (m.limit - m.steps) ∙ ap (λ (bs : List ℕ). further (Gives [] more (m.limit - m.steps) Exhausted) (map (λ b. search m.subject b (Match (tree m.nodes m.pattern.0) ∷ []) b []) bs)) none;
+  }
 
--- a match that waits tells nothing more till it is answered
-pub waits_here : (nodes : List Node) (s : List ℕ) (anchored : Bool) (pattern : PatId) (start : ℕ) (point : Point) (rest : List Point) (left : ℕ) →
-    coming_after_answer nodes s anchored pattern start (point ∷ rest) [] left ≡ Gives [] [] left Waiting
-waits_here nodes s anchored pattern start point rest left =
-    ap (λ r. further r (later nodes s anchored pattern start)) (resume-stop nodes s start rest [] [] left Waiting tt) ∙ further-stop [] [] left Waiting (later nodes s anchored pattern start) tt
+  module _ (a : m.anchored ≡ false) (room : start < length m.subject) where
+    abbrev farther : List Search
+    farther = map (λ b. search m.subject b (Match (tree m.nodes m.pattern.0) ∷ []) b []) (count_from (start + 1 + 1) (length m.subject - (start + 1)))
 
--- few enough events were told to be counted
-pub count_fits : (nodes : List Node) (pattern : PatId) (s : List ℕ) (anchored : Bool) (limit : ℕ) (answers : List (Option PatId)) (told steps start : ℕ) (points : List Point) (state : State) (way : List Pending) →
-    IsMatch nodes pattern s anchored limit answers told steps start points state way → told ≤ 2 * limit + 1 + ended state
-count_fits nodes pattern s anchored limit answers told steps start points state way inv =
-    omega (arith, inv.count, few_told (tree nodes pattern.0) s anchored limit (answers_of nodes answers ++ []) inv.events (to_come state nodes s anchored pattern start points [] (limit - steps)) (inv.story []))
+    abbrev from_next : Search
+    from_next = search m.subject (start + 1) (Match (tree m.nodes m.pattern.0) ∷ []) (start + 1) []
 
-pub ended_at_most : (state : State) → ended state ≤ 1
-ended_at_most S.Going = omega arith
-ended_at_most S.Waiting = omega arith
-ended_at_most (S.Ended end) = omega arith
+    later_some : later m start ≡ from_next ∷ farther
+    later_some =
+        let e : length m.subject - start ≡ suc (length m.subject - (start + 1)) = omega (arith, room) in
+        ap (λ b. map (λ b. search m.subject b (Match (tree m.nodes m.pattern.0) ∷ []) b []) (later_starts b m.subject start)) a ∙
+        ap (λ n. map (λ b. search m.subject b (Match (tree m.nodes m.pattern.0) ∷ []) b []) (count_from (start + 1) n)) e
+
+    -- a start is due, and no step is left
+    pub limit_leads : m.steps ≡ m.limit → Leads m start points (Some V.Limit) m.steps start points m.way m.records
+    limit_leads z =
+        let none : m.limit - m.steps ≡ 0 = omega (arith, z) in
+        record {
+          steps_in = inv.steps_in;
+          paid = omega arith;
+          start_in = inv.start_in;
+          stack = inv.stack;
+          asked = tt;
+          points_in = omega arith;
+          records_in = omega arith;
+          pending = refl;
+          leads = λ more.
+              bare more (m.limit - m.steps) ∙ ap (λ n. to_come S.Going m start [] more n) none ∙
+              ap (further (Gives [] more 0 Exhausted)) later_some ∙
+              further-stop [] more 0 Limit farther tt ∙
+              ap (λ n. Gives [] more n Limit) (sym none);
+        }
+
+    -- the next start is taken up
+    pub start_leads : (new : List Point) (records : ℕ) → (m.steps ≡ m.limit → ⊥) → new ≡ first_point (N.Match m.pattern) (start + 1) ∷ [] → records ≤ m.records + 1 → Leads m start points None (m.steps + 1) (start + 1) new m.way records
+    start_leads new records z is few =
+        let n : m.limit - m.steps ≡ suc (m.limit - (m.steps + 1)) = omega (arith, z, inv.steps_in) in
+        record {
+          steps_in = omega (arith, z, inv.steps_in);
+          paid = omega arith;
+          start_in = omega (arith, room);
+          stack = first_stack m.nodes m.subject m.pattern (start + 1) new inv.pattern_in (omega (arith, room)) is;
+          asked = tt;
+          points_in = omega (arith, ap length is);
+          records_in = omega (arith, few);
+          pending = refl;
+          leads = λ more.
+              bare more (m.limit - m.steps) ∙ ap (λ k. to_come S.Going m start [] more k) n ∙
+              ap (further (Gives [] more (suc (m.limit - (m.steps + 1))) Exhausted)) later_some ∙
+              ap (λ r. further r farther) (emit-none (from_next more (m.limit - (m.steps + 1)))) ∙
+              ap (λ b. further (from_next more (m.limit - (m.steps + 1))) (map (λ b. search m.subject b (Match (tree m.nodes m.pattern.0) ∷ []) b []) (later_starts b m.subject (start + 1)))) (sym a) ∙
+              ap (λ ps. to_come S.Going m (start + 1) ps more (m.limit - (m.steps + 1))) (sym is) ∙
+              sym (emit-none (to_come S.Going m (start + 1) new more (m.limit - (m.steps + 1))));
+        }

@@ -4,8 +4,8 @@ pub mod Top
 pub mod Reading
 pub mod Plan
 pub mod Move
-pub mod Coming
-pub mod EventShown
+pub mod State
+pub mod Events
 pub mod Session
 pub mod Running
 pub mod Copied

@@ -1,52 +1,66 @@
 -- What a move of the matcher does to the searches still to come.
-use Rattle.std.specs.Prelude.{ℕ, zero, suc, ◌≡◌, ◌<◌, ◌≤◌, List, [], ◌∷◌, Option, length}
+use Rattle.std.specs.Prelude.{ℕ, zero, suc, ◌≡◌, ◌<◌, ◌≤◌, ◌+◌, ◌-◌, ◌*◌, List, [], ◌∷◌, Option, None, Some, length}
 use Rattle.sno_pattern.specs.Table.{Node}
+use Rattle.sno_match.specs.declared.event.Event.{Event as Told}
+use Rattle.sno_match.specs.declared.event.Event.TheVariants as V
 use Rattle.sno_match.specs.declared.event.Pending.{Pending}
-use Rattle.sno_match.specs.declared.moves.Move.{Move}
-use Rattle.sno_match.specs.declared.moves.Move.TheVariants as M
-use Rattle.sno_match.specs.Search.{Verdict, Exhausted, Aborted, Limit, Event, Way, Assign, Cursor, Value, Answer, Outcome, Gives, Search, emit}
+use Rattle.sno_match.specs.declared.engine.State.{State}
+use Rattle.sno_match.specs.declared.engine.State.TheVariants as S
 use Rattle.sno_match.specs.declared.plan.Plan.{Plan}
 use Rattle.sno_match.specs.declared.plan.Plan.TheVariants as P
+use Rattle.sno_match.specs.Search.{Event, Answer, Outcome, Gives, Search, emit}
+use Rattle.sno_match.specs.Events.{in_trace, cost, pending_after}
 use Rattle.sno_match.specs.Point.{Point, replaced, branched, closed, below}
+use Rattle.sno_match.specs.State.{verdict_of, after_move, HasAsked}
 use Rattle.sno_match.specs.Plan.{goals_in}
 use Rattle.sno_match.specs.Reading.{reading, waiting}
 
-abbrev pub Makes : List Node → List ℕ → List Point → ℕ → Move → List Point → List Pending → List Pending → Type 0
-Makes nodes s old left M.Step new was way =
-    (n : ℕ) × (left ≡ suc n) × (way ≡ was) × ((start : ℕ) (answers : List Answer) → reading nodes s start old answers left ≡ reading nodes s start new answers n) × (length new ≤ suc (length old))
-Makes nodes s old left M.Spent new was way =
-    (length new < length old) × (way ≡ was) × ((start : ℕ) (answers : List Answer) → reading nodes s start old answers left ≡ reading nodes s start new answers left)
-Makes nodes s old left (M.Way cursor) new was way =
-    (start : ℕ) (answers : List Answer) → reading nodes s start old answers left ≡ emit ((Way start cursor way, left) ∷ []) (reading nodes s start new answers left)
-Makes nodes s old left (M.Assign a) new was way =
-    (n : ℕ) × (left ≡ suc n) × (way ≡ was) × ((start : ℕ) (answers : List Answer) → reading nodes s start old answers left ≡ emit ((Assign a.target a.start a.end, n) ∷ []) (reading nodes s start new answers n))
-Makes nodes s old left (M.Cursor target at) new was way =
-    (n : ℕ) × (left ≡ suc n) × (way ≡ was) × ((start : ℕ) (answers : List Answer) → reading nodes s start old answers left ≡ emit ((Cursor target at, n) ∷ []) (reading nodes s start new answers n))
-Makes nodes s old left (M.Value primitive expression) new was way =
-    (n : ℕ) × (left ≡ suc n) × (way ≡ was) × (new ≡ old) × ((start : ℕ) (answers : List Answer) → reading nodes s start old answers left ≡ emit ((Value primitive expression.0, n) ∷ []) (waiting nodes s start new answers n))
-Makes nodes s old left M.Exhausted new was way = (old ≡ []) × (new ≡ []) × (way ≡ was)
-Makes nodes s old left M.Cut new was way =
-    (way ≡ was) × ((start : ℕ) (answers : List Answer) → reading nodes s start old answers left ≡ Gives [] answers left Aborted)
-Makes nodes s old left M.Abort new was way =
-    (n : ℕ) × (left ≡ suc n) × (way ≡ was) × ((start : ℕ) (answers : List Answer) → reading nodes s start old answers left ≡ Gives [] answers n Aborted)
-Makes nodes s old left M.Limit new was way =
-    (left ≡ 0) × (way ≡ was) × (new ≡ old) × ((start : ℕ) (answers : List Answer) → reading nodes s start old answers zero ≡ Gives [] answers zero Limit)
+-- what a move adds to the events; a last event is a verdict, and stands behind them
+abbrev pub entries : Option Told → List Pending → ℕ → List (Event × ℕ)
+entries None way left = []
+entries (Some V.Exhausted) way left = []
+entries (Some V.Aborted) way left = []
+entries (Some V.Limit) way left = []
+entries (Some event) way left = (in_trace event way, left) ∷ []
+
+abbrev pub price : Option Told → ℕ
+price None = 0
+price (Some event) = cost event
+
+abbrev pub way_after : Option Told → List Pending → List Pending → List Pending
+way_after None way was = was
+way_after (Some event) way was = pending_after (in_trace event way) was
+
+-- the searches that a stack is, in a state
+abbrev pub standing : State → List Node → (s : List ℕ) (start : ℕ) → List Point → Search
+standing S.Going nodes s start points answers left = reading nodes s start points answers left
+standing S.Waiting nodes s start points answers left = waiting nodes s start points answers left
+standing (S.Ended event) nodes s start points answers left = Gives [] answers left (verdict_of event)
+
+-- One move at a stack with a point: the steps taken, the pending list of the last way, and the event, if one is told.
+pub record Makes (nodes : List Node) (s : List ℕ) (start limit : ℕ) (old : List Point) (steps0 : ℕ) (was : List Pending) (told : Option Told) (new : List Point) (steps : ℕ) (way : List Pending) : Type 0 where
+  pub steps_in : steps ≤ limit
+  pub paid : steps0 + price told ≤ steps
+  pub grows : length new + steps0 ≤ length old + steps
+  pub falls : told ≡ None → 2 * (limit - steps) + length new < 2 * (limit - steps0) + length old
+  pub more : told ≡ Some V.Exhausted → ⊥
+  pub asked : HasAsked (after_move told) new
+  pub pending : way ≡ way_after told way was
+  pub leads : (answers : List Answer) → reading nodes s start old answers (limit - steps0) ≡ emit (entries told way (limit - steps)) (standing (after_move told) nodes s start new answers (limit - steps))
 
 -- the plan takes a step
 abbrev pub Costs : Plan → Type 0
-Costs P.Spent = ⊥
 Costs P.Cut = ⊥
 Costs plan = Unit {0}
 
--- what a plan does to the stack
-abbrev pub CarriesOut : Plan → ℕ → List Point → Move → List Point → Type 0
-CarriesOut (P.Replace front at) c old move new = (move ≡ M.Step) × (new ≡ replaced (goals_in front) at old)
-CarriesOut (P.Branch front at next) c old move new = (move ≡ M.Step) × (new ≡ branched (goals_in front) at next old)
-CarriesOut (P.Close assignment) c old move new = (move ≡ M.Step) × (new ≡ closed assignment old)
-CarriesOut (P.Assign assignment) c old move new = (move ≡ M.Assign assignment) × (new ≡ replaced [] c old)
-CarriesOut (P.Cursor target) c old move new = (move ≡ M.Cursor target c) × (new ≡ replaced [] c old)
-CarriesOut (P.Ask primitive expression) c old move new = (move ≡ M.Value primitive expression) × (new ≡ old)
-CarriesOut P.Fail c old move new = (move ≡ M.Step) × (new ≡ below old)
-CarriesOut P.Abort c old move new = (move ≡ M.Abort) × (new ≡ old)
-CarriesOut P.Spent c old move new = ⊥
-CarriesOut P.Cut c old move new = ⊥
+-- what a plan does to the stack, and what it tells
+abbrev pub CarriesOut : Plan → ℕ → List Point → Option Told → List Point → Type 0
+CarriesOut (P.Replace front at) c old told new = (told ≡ None) × (new ≡ replaced (goals_in front) at old)
+CarriesOut (P.Branch front at next) c old told new = (told ≡ None) × (new ≡ branched (goals_in front) at next old)
+CarriesOut (P.Close assignment) c old told new = (told ≡ None) × (new ≡ closed assignment old)
+CarriesOut (P.Assign a) c old told new = (told ≡ Some (V.Assign a.target a.start a.end)) × (new ≡ replaced [] c old)
+CarriesOut (P.Cursor target) c old told new = (told ≡ Some (V.Cursor target c)) × (new ≡ replaced [] c old)
+CarriesOut (P.Ask prim expr) c old told new = (told ≡ Some (V.Value prim expr)) × (new ≡ old)
+CarriesOut P.Fail c old told new = (told ≡ None) × (new ≡ below old)
+CarriesOut P.Abort c old told new = (told ≡ Some V.Aborted) × (new ≡ old)
+CarriesOut P.Cut c old told new = ⊥

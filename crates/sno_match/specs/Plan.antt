@@ -12,7 +12,7 @@ use Rattle.sno_match.specs.declared.plan.Plan.{Plan}
 use Rattle.sno_match.specs.declared.plan.Plan.TheVariants as P
 use Rattle.sno_match.specs.Search.{Verdict, Aborted, Limit, Event, Assign, Cursor, Value, Answer, Outcome, Gives, emit}
 use Rattle.sno_match.specs.Point.{Point, with_front, closed, rest_of}
-use Rattle.sno_match.specs.Reading.{reading, waiting, AllMarked, AllKnown, IsKnown}
+use Rattle.sno_match.specs.Reading.{reading, waiting, AllMarked, AllKnown, IsKnown, MarkFits}
 
 abbrev pub goals_in : Front → List Numbered
 goals_in Nothing = []
@@ -39,9 +39,9 @@ abbrev pub IsPlan : List Node → List ℕ → Numbered → ℕ → Mark → Pla
 IsPlan nodes s goal cursor mark (P.Replace front at) =
     Goes nodes s goal cursor mark (λ left. []) (λ point below. with_front (goals_in front) at point ∷ below) × IsDue nodes s goal cursor mark × AllKnown nodes (goals_in front) × (at ≤ length s)
 IsPlan nodes s goal cursor mark (P.Branch front at next) =
-    Goes nodes s goal cursor mark (λ left. []) (λ point below. with_front (goals_in front) at point ∷ record point { mark = Next next } ∷ below) × IsDue nodes s goal cursor mark × AllKnown nodes (goals_in front) × (at ≤ length s)
+    Goes nodes s goal cursor mark (λ left. []) (λ point below. with_front (goals_in front) at point ∷ record point { mark = Next next } ∷ below) × IsDue nodes s goal cursor mark × AllKnown nodes (goals_in front) × (at ≤ length s) × MarkFits nodes s (Next next) (goal ∷ []) cursor
 IsPlan nodes s goal cursor mark (P.Close assignment) =
-    Goes nodes s goal cursor mark (λ left. []) (λ point below. record point { goals = rest_of point.goals; pending = point.pending ++ assignment ∷ [] } ∷ below) × IsDue nodes s goal cursor mark
+    Goes nodes s goal cursor mark (λ left. []) (λ point below. record { goals = rest_of point.goals; cursor = point.cursor; pending = point.pending ++ assignment ∷ []; mark = Enter } ∷ below) × IsDue nodes s goal cursor mark
 IsPlan nodes s goal cursor mark (P.Assign a) =
     Goes nodes s goal cursor mark (λ left. (Assign a.target a.start a.end, left) ∷ []) (λ point below. with_front [] cursor point ∷ below) × IsDue nodes s goal cursor mark
 IsPlan nodes s goal cursor mark (P.Cursor target) =
@@ -52,9 +52,6 @@ IsPlan nodes s goal cursor mark (P.Ask primitive expression) =
     emit ((Value primitive expression.0, left) ∷ []) (waiting nodes s start (point_at goal rest cursor pending mark ∷ below) answers left)) × IsDue nodes s goal cursor mark
 IsPlan nodes s goal cursor mark P.Fail =
     Goes nodes s goal cursor mark (λ left. []) (λ point below. below) × IsDue nodes s goal cursor mark
-IsPlan nodes s goal cursor mark P.Spent =
-    (start : ℕ) (rest : List Numbered) (pending : List Pending) (below : List Point) (answers : List Answer) (left : ℕ) → AllMarked below →
-    reading nodes s start (point_at goal rest cursor pending mark ∷ below) answers left ≡ reading nodes s start below answers left
 IsPlan nodes s goal cursor mark P.Abort =
     ((start : ℕ) (rest : List Numbered) (pending : List Pending) (below : List Point) (answers : List Answer) (left : ℕ) →
     reading nodes s start (point_at goal rest cursor pending mark ∷ below) answers (suc left) ≡ Gives [] answers left Aborted) × IsDue nodes s goal cursor mark

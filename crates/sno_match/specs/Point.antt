@@ -31,7 +31,7 @@ branched front cursor next (point ∷ below) = with_front front cursor point ∷
 abbrev pub closed : Pending → List Point → List Point
 closed assignment [] = []
 closed assignment (point ∷ below) =
-    record point { goals = rest_of point.goals; pending = point.pending ++ assignment ∷ [] } ∷ below
+    record { goals = rest_of point.goals; cursor = point.cursor; pending = point.pending ++ assignment ∷ []; mark = Enter } ∷ below
 
 abbrev pub HasFirst : List Point → Type 0
 HasFirst [] = ⊥

@@ -85,10 +85,30 @@ abbrev pub AllKnown : List Node → List Numbered → Type 0
 AllKnown nodes [] = Unit {0}
 AllKnown nodes (goal ∷ rest) = IsKnown nodes goal × AllKnown nodes rest
 
--- each point is of this table and has its cursor in the subject
-abbrev pub AllFit : List Node → ℕ → List Point → Type 0
-AllFit nodes z [] = Unit {0}
-AllFit nodes z (point ∷ rest) = AllKnown nodes point.goals × (point.cursor ≤ z) × AllFit nodes z rest
+-- the pattern has an alternative with this number, which is not the first
+abbrev pub HasNext : Pattern → List ℕ → ℕ → ℕ → Type 0
+HasNext (Leaf a) s c i = i < length (ends a s c)
+HasNext (Alt p q) s c i = Unit {0}
+HasNext (Arbno p) s c i = Unit {0}
+HasNext Succeed s c i = Unit {0}
+HasNext Fence s c i = Unit {0}
+HasNext pattern s c i = ⊥
+
+-- a point stays only under the number of an alternative that its first goal has
+abbrev pub MarkFits : List Node → List ℕ → Mark → List Numbered → ℕ → Type 0
+MarkFits nodes s Enter goals c = Unit {0}
+MarkFits nodes s (Next i) (N.Match id ∷ rest) c = HasNext (tree nodes id.0) s c i
+MarkFits nodes s (Next i) goals c = ⊥
+
+-- the point is of this table and has its cursor in the subject
+pub record Fits (nodes : List Node) (s : List ℕ) (point : Point) : Type 0 where
+  pub known : AllKnown nodes point.goals
+  pub inside : point.cursor ≤ length s
+  pub next : MarkFits nodes s point.mark point.goals point.cursor
+
+abbrev pub AllFit : List Node → List ℕ → List Point → Type 0
+AllFit nodes s [] = Unit {0}
+AllFit nodes s (point ∷ rest) = Fits nodes s point × AllFit nodes s rest
 
 -- the whole stack, whose top waits for the answer of its deferred part
 abbrev pub waiting : List Node → (s : List ℕ) (start : ℕ) → List Point → Search
@@ -97,6 +117,10 @@ waiting nodes s start (point ∷ rest) answers left =
     resume nodes s start rest (with_answer (search s start) (goals_of nodes (rest_of point.goals)) point.cursor point.pending answers left)
 
 -- only the newest point may be still to be entered
-pub record IsStack (nodes : List Node) (z : ℕ) (points : List Point) : Type 0 where
-  pub fit : AllFit nodes z points
+pub record IsStack (nodes : List Node) (s : List ℕ) (points : List Point) : Type 0 where
+  pub fit : AllFit nodes s points
   pub marked : AllMarked (below points)
+
+abbrev pub HasPoint : List Point → Type 0
+HasPoint [] = ⊥
+HasPoint (point ∷ rest) = Unit {0}

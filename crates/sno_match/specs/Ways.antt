@@ -102,21 +102,25 @@ IsCalm (Ended Waiting) = ⊥
 IsCalm event = Unit {0}
 
 -- These are the first events of a match. Their ways are those that the match relation admits, each once and in rising
--- order; none is left out before the last of them, and none at all where they end in Exhausted.
-pub record AreWays (p : Pattern) (s : List ℕ) (anchored : Bool) (events : List (Event × ℕ)) : Type 0 where
+-- order; none is left out before the last of them, and none at all where the search is over.
+pub record AreWays (p : Pattern) (s : List ℕ) (anchored : Bool) (events : List (Event × ℕ)) (IsOver : Type 0) : Type 0 where
   pub ways : List Taken
   pub told : ways_in events ≡ map event_of ways
   pub rising : AllPairs (λ v w. Before v.way w.way) ways
   pub admitted : All (IsAdmitted p s anchored) ways
   pub below : (v w : Taken) → IsAdmitted p s anchored v → Contains ways w → Before v.way w.way → Contains ways v
-  pub all : Contains (map (λ told. told.0) events) (Ended Exhausted) → (v : Taken) → IsAdmitted p s anchored v → Contains ways v
+  pub all : IsOver → (v : Taken) → IsAdmitted p s anchored v → Contains ways v
   pub calm : All (λ told. IsCalm told.0) events
+
+-- the search that told these events is over
+abbrev pub AreExhausted : List (Event × ℕ) → Type 0
+AreExhausted events = Contains (map (λ told. told.0) events) (Ended Exhausted)
 
 -- whatever the subject, the mode, the limit and the answers, and however many of the events are told
 abbrev pub QuietWays : Type 0
 QuietWays =
     (p : Pattern) (s : List ℕ) (anchored : Bool) (limit : ℕ) (answers : List Answer) (k : ℕ) →
-    IsQuiet p → AreWays p s anchored (take k (trace p s anchored limit answers))
+    IsQuiet p → AreWays p s anchored (take k (trace p s anchored limit answers)) (AreExhausted (take k (trace p s anchored limit answers)))
 
 -- a way that begins another is that other
 abbrev pub NoneBegins : Type 0

@@ -29,6 +29,8 @@ impl Points for CopiedGoals {
 
     ghost points = { λ c. points_of c.top c.below.items };
 
+    ghost records = { λ c. 0 };
+
     fn empty(alloc: Global) -> CopiedGoals {
         CopiedGoals {
             top: None,
@@ -42,6 +44,10 @@ impl Points for CopiedGoals {
             None => 0,
             Some(_) => self.below.len() + 1,
         }
+    }
+
+    fn count_records(&self) -> usize {
+        0
     }
 
     fn top(&self) -> Top {
@@ -89,6 +95,7 @@ impl Points for CopiedGoals {
             let goals = joined(alloc, &[], &point.goals)?;
             point.pending.push(assignment)?;
             point.goals = goals;
+            point.mark = Mark::Enter;
         }
         Ok(())
     }

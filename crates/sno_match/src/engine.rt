@@ -1,13 +1,13 @@
 //! A match that is asked for one event after another.
-ghost use Rattle.std.specs.Prelude.{◌≡◌, ◌<◌, ◌+◌, ◌^◌, ◌-◌, [], ◌∷◌, ◌++◌, false, true, length, IfOk, OnOk, OnErr, Option};
-ghost use Rattle.sno_match.specs.Session.{SameMatch, IsTold, StaysAt, TellsWays, Begins, begins};
-ghost use Rattle.sno_match.specs.EventShown.{shown};
-ghost use Rattle.sno_match.specs.Search.{Ended};
-ghost use Rattle.sno_match.specs.Coming.{verdict_of};
+ghost use Rattle.std.specs.Prelude.{◌≡◌, ◌<◌, ◌≤◌, ◌+◌, ◌-◌, ◌*◌, ◌++◌, [], ◌∷◌, false, true, length, drop, take, IfOk, IsOk, OnOk, OnErr};
+ghost use Rattle.sno_match.specs.Session.{SameMatch, IsTold, StaysAt, IsCounted, TellsWays, Begins, begins, told_of};
+ghost use Rattle.sno_match.specs.Events.{last_pending};
+ghost use Rattle.sno_match.specs.State.{after};
+ghost use Rattle.sno_match.specs.Running.{Advances};
 
-use crate::advance::{End, Told, tell_next};
 use crate::event::{Event, Pending};
 use crate::goal::Goal;
+use crate::moves::make_move;
 use crate::points::Points;
 use crate::snapshot::Snapshot;
 use sno_pattern::Patterns;
@@ -15,14 +15,19 @@ use sno_value::PatId;
 use std::alloc::{AllocError, Global};
 use std::marker::Model;
 
+/// What the next call may be.
 #[derive(Clone, Copy, Debug, Drop)]
 pub(crate) enum State {
+    /// `next`.
     Going,
+    /// `answer`, to the Value that was told.
     Waiting,
-    Ended(End),
+    /// `next`, which tells the last event again.
+    Ended(Event),
 }
 
-/// A match over any stack of resumption points.
+/// A match over any stack of resumption points. It is asked for its events one after another, and does no more of the
+/// search than each needs.
 #[derive(Drop)]
 pub struct Engine<P: Points> {
     points: P,
@@ -31,26 +36,30 @@ pub struct Engine<P: Points> {
     subject: Vec<u8>,
     anchored: bool,
     limit: u32,
+    /// Where the search under way began.
     start: usize,
     steps: u32,
     told: u64,
+    /// The pending list of the last way.
     way: Vec<Pending>,
     answers: Vec<Option<PatId>>,
     state: State,
 }
 
 impl<P: Points> Model for Engine<P> {
-    ghost use Rattle.sno_match.specs.Session.{Session, waits};
-    ghost use Rattle.sno_match.specs.Running.{IsMatch};
+    ghost use Rattle.sno_match.specs.Session.{Session};
+    ghost use Rattle.sno_match.specs.Running.{IsMatch, seen};
 
     ghost Value = { Session };
 
-    ghost view = { λ m. record { nodes = m.lent.value; pattern = m.pattern; subject = m.subject.items; anchored = m.anchored; limit = m.limit; answers = m.answers.items; told = m.told; steps = m.steps; waits = waits m.state; way = m.way.items } };
+    ghost view = { λ m. seen m.lent.value m.pattern m.subject.items m.anchored m.limit m.answers.items m.told m.steps m.state m.way.items (P.points m.points) (P.records m.points) };
 
-    ghost invariant = { λ m. IsMatch m.lent.value m.pattern m.subject.items m.anchored m.limit m.answers.items m.told m.steps m.start (P.points m.points) m.state m.way.items };
+    ghost invariant = { λ m. IsMatch (seen m.lent.value m.pattern m.subject.items m.anchored m.limit m.answers.items m.told m.steps m.state m.way.items (P.points m.points) (P.records m.points)) m.start (P.points m.points) m.state };
 }
 
 impl<P: Points> Engine<P> {
+    /// A match of a pattern in a subject: from every start in rising order or, where it is anchored, from 0 alone; with
+    /// at most `limit` steps. It copies the subject.
     pub fn new(
         alloc: Global,
         patterns: &Patterns,
@@ -60,7 +69,8 @@ impl<P: Points> Engine<P> {
         limit: u32,
     ) -> Result<Engine<P>, AllocError>
         requires { pattern.0 < length patterns.now }
-        ensures { IfOk result (λ m. m ≡ begins patterns.now pattern subject.now anchored limit) }
+        ensures begins { IfOk result (λ m. m ≡ begins patterns.now pattern subject.now anchored limit m.records) }
+        ensures counts { IfOk result (λ m. IsCounted m) }
     {
         let mut points = P::empty(alloc);
         let subject = subject.to_vec(alloc)?;
@@ -81,76 +91,158 @@ impl<P: Points> Engine<P> {
         })
     }
 
-    /// The next event. Where memory is refused no event was told, and the call may be made again.
+    /// The next event. Behind one of the last three it is that event again, and no memory is taken. Where memory is
+    /// refused no event was told, and the call may be made again.
+    ///
+    /// The table is that of the call before, at first that of `new`; builders may have made it longer.
     pub fn next(&mut self, patterns: &Patterns) -> Result<Event, AllocError>
         requires table { Begins self.old.nodes patterns.now }
         requires asked { self.old.waits ≡ false }
         ensures table { self.new.nodes ≡ patterns.now }
         ensures same { SameMatch self.old self.new }
-        ensures ok { IfOk result (λ e. IsTold self.old self.new e) }
+        ensures ok { IfOk result (λ event. IsTold self.old self.new event) }
         ensures err { OnErr result (StaysAt self.old self.new) }
-        ensures ways { TellsWays self.new }
+        ensures again { self.old.ended ≡ true → IsOk result × (self.new ≡ record self.old { nodes = patterns.now }) }
+        ensures counts { IsCounted self.new }
+        ensures ways { TellsWays self.new result }
     {
         self.lent = Snapshot::of(patterns);
-        if let State::Ended(end) = self.state {
-            return Ok(last_event(end));
+        if let State::Ended(event) = self.state {
+            return Ok(event);
         }
-        let told = tell_next(
-            &mut self.points,
-            patterns,
-            &self.subject,
-            self.pattern,
-            self.anchored,
-            self.limit,
-            &mut self.start,
-            &mut self.steps,
-            &mut self.way,
-        )?;
-        self.told += 1;
-        match told {
-            Told::Way(end) => Ok(Event::Way {
-                start: self.start,
-                end,
-            }),
-            Told::Assign(assignment) => Ok(Event::Assign {
-                target: assignment.target,
-                start: assignment.start,
-                end: assignment.end,
-            }),
-            Told::Cursor(target, at) => Ok(Event::Cursor { target, at }),
-            Told::Value(primitive, expression) => {
-                self.state = State::Waiting;
-                Ok(Event::Value {
-                    prim: primitive,
-                    expr: expression,
-                })
-            }
-            Told::Ended(end) => {
-                self.state = State::Ended(end);
-                Ok(last_event(end))
+        loop {
+            if let Some(event) = self.advance(patterns)? {
+                return Ok(event);
             }
         }
     }
 
+    /// One move or, where no point is left, the next start: the event that is told, if there is one.
+    fn advance(&mut self, patterns: &Patterns) -> Result<Option<Event>, AllocError>
+        requires table { self.old.nodes ≡ patterns.now }
+        requires going { self.old.waits ≡ false }
+        requires on { self.old.ended ≡ false }
+        ensures ok { IfOk result (λ told. Advances self.old told self.new) }
+        ensures err { OnErr result (self.new ≡ self.old) }
+        ensures counts { IsCounted self.new }
+    {
+        if self.points.depth() == 0 {
+            let told = self.take_start()?;
+            return Ok(told);
+        }
+        let told = make_move(
+            &mut self.points,
+            &mut self.steps,
+            &mut self.way,
+            patterns,
+            &self.subject,
+            self.start,
+            self.limit,
+        )?;
+        if let Some(event) = told {
+            self.told += 1;
+            self.state = state_behind(event);
+        }
+        Ok(told)
+    }
+
+    /// The search from a start is exhausted: the next start is taken up, which is a step, if there is one.
+    fn take_start(&mut self) -> Result<Option<Event>, AllocError>
+        requires going { self.old.waits ≡ false }
+        requires on { self.old.ended ≡ false }
+        requires none { self.old.points ≡ 0 }
+        ensures ok { IfOk result (λ told. Advances self.old told self.new) }
+        ensures err { OnErr result (self.new ≡ self.old) }
+        ensures counts { IsCounted self.new }
+    {
+        if self.anchored || self.start == self.subject.len() {
+            self.told += 1;
+            self.state = State::Ended(Event::Exhausted);
+            return Ok(Some(Event::Exhausted));
+        }
+        if self.steps == self.limit {
+            self.told += 1;
+            self.state = State::Ended(Event::Limit);
+            return Ok(Some(Event::Limit));
+        }
+        self.points
+            .begin(Goal::Match(self.pattern), self.start + 1)?;
+        self.start += 1;
+        self.steps += 1;
+        Ok(None)
+    }
+
+    /// Whether a Value was told and not yet answered.
+    pub fn is_waiting(&self) -> bool
+        ensures { result ≡ self.now.waits }
+    {
+        matches!(self.state, State::Waiting)
+    }
+
+    /// How many events were told, a last one once.
     pub fn told(&self) -> u64
-        ensures { result ≡ self.now.told }
+        ensures value { result ≡ self.now.told }
+        ensures few { self.now.told ≤ 2 * self.now.limit + 2 }
     {
         self.told
     }
 
+    /// How many steps were taken. Behind an event it is the event's count.
     pub fn steps(&self) -> u32
-        ensures { result ≡ self.now.steps }
+        ensures value { result ≡ self.now.steps }
+        ensures limit { self.now.steps ≤ self.now.limit }
     {
         self.steps
     }
+
+    /// How many resumption points are held: at most one more than steps were taken.
+    pub fn points(&self) -> usize
+        ensures value { result ≡ self.now.points }
+        ensures bound { self.now.points ≤ self.now.steps + 1 }
+    {
+        self.points.depth()
+    }
+
+    /// How many continuation records the points share: at most two more than twice the steps.
+    pub fn records(&self) -> usize
+        ensures value { result ≡ self.now.records }
+        ensures bound { self.now.records ≤ 2 * self.now.steps + 2 }
+    {
+        self.points.count_records()
+    }
+
+    /// The pending list of the last way that was told, empty before the first.
+    pub fn pending(&self) -> &[Pending]
+        ensures value { result.now ≡ self.now.way }
+        ensures last { self.now.way ≡ last_pending [] (told_of self.now) }
+    {
+        &self.way
+    }
+
+    /// The answers given so far, in order.
+    pub fn answers(&self) -> &[Option<PatId>]
+        ensures { result.now ≡ self.now.answers }
+    {
+        &self.answers
+    }
+
+    /// The bytes of the subject from `start` to `end`.
+    pub fn part(&self, start: usize, end: usize) -> &[u8]
+        requires order { start ≤ end }
+        requires inside { end ≤ length self.now.subject }
+        ensures { result.now ≡ take (end - start) (drop start self.now.subject) }
+    {
+        &self.subject[start..end]
+    }
 }
 
-fn last_event(end: End) -> Event
-    ensures { result ≡ shown (Ended (verdict_of end)) }
+/// The state behind an event.
+fn state_behind(event: Event) -> State
+    ensures { result ≡ after event }
 {
-    match end {
-        End::Exhausted => Event::Exhausted,
-        End::Aborted => Event::Aborted,
-        End::Limit => Event::Limit,
+    match event {
+        Event::Value { .. } => State::Waiting,
+        Event::Exhausted | Event::Aborted | Event::Limit => State::Ended(event),
+        _ => State::Going,
     }
 }

@@ -1,7 +1,6 @@
 //! The resumable matcher: one event after another of the search for a pattern in a subject.
 #![tactic(auto)]
 
-mod advance;
 mod copied;
 mod engine;
 mod event;

@@ -1,119 +1,97 @@
-//! One move of the matcher.
-ghost use Rattle.std.specs.Prelude.{◌≡◌, length, IfOk, OnOk, OnErr};
+//! One move of the search: what is due at the newest resumption point is done.
+ghost use Rattle.std.specs.Prelude.{◌≡◌, ◌≤◌, ◌+◌, ◌*◌, length, IfOk, OnOk, OnErr};
 ghost use Rattle.sno_match.specs.Point.{HasFirst, replaced, branched};
-ghost use Rattle.sno_match.specs.Reading.{IsStack};
+ghost use Rattle.sno_match.specs.Reading.{IsStack, HasPoint};
 ghost use Rattle.sno_match.specs.Plan.{goals_in};
+ghost use Rattle.sno_match.specs.State.{after_move, owed};
 ghost use Rattle.sno_match.specs.Move.{Makes, CarriesOut, Costs};
 
-use crate::event::Pending;
+use crate::event::{Event, Pending};
 use crate::goal::{Mark, Top};
 use crate::plan::{Front, Plan, plan_of};
 use crate::points::Points;
 use sno_pattern::Patterns;
-use sno_value::{ExprId, Name, Prim};
 use std::alloc::AllocError;
 
-/// What a move told, and whether it took a step.
-#[derive(Clone, Copy, Debug, Drop)]
-pub(crate) enum Move {
-    /// One step.
-    Step,
-    /// A point had nothing left, at no cost.
-    Spent,
-    /// A way to this cursor, at no cost.
-    Way(usize),
-    /// One step, and an event.
-    Assign(Pending),
-    Cursor(Name, usize),
-    /// One step, and the search waits.
-    Value(Option<Prim>, ExprId),
-    /// The stack is empty.
-    Exhausted,
-    /// FENCE was backed into, at no cost.
-    Cut,
-    /// One step, for ABORT.
-    Abort,
-    /// A step is due, and none is left.
-    Limit,
-}
-
-/// Does what is due at the newest point, or nothing where memory is refused.
+/// Does what is due at the newest point: at most one step, and at most one event. Where memory is refused nothing has
+/// changed. Where a step is due and none is left, the event is `Limit`.
 pub(crate) fn make_move<P: Points>(
     points: &mut P,
+    steps: &mut u32,
+    way: &mut Vec<Pending>,
     patterns: &Patterns,
     subject: &[u8],
-    way: &mut Vec<Pending>,
-    left: u32,
-) -> Result<Move, AllocError>
-    requires { IsStack patterns.now (length subject.now) (P.points points.old) }
-    ensures stack { IsStack patterns.now (length subject.now) (P.points points.new) }
-    ensures ok { IfOk result (λ m. Makes patterns.now subject.now (P.points points.old) left m (P.points points.new) way.old.items way.new.items) }
-    ensures err { OnErr result ((P.points points.new ≡ P.points points.old) × (way.new.items ≡ way.old.items)) }
+    start: usize,
+    limit: u32,
+) -> Result<Option<Event>, AllocError>
+    requires stack { IsStack patterns.now subject.now (P.points points.old) }
+    requires some { HasPoint (P.points points.old) }
+    requires steps { steps.old ≤ limit }
+    ensures stack { IsStack patterns.now subject.now (P.points points.new) }
+    ensures ok { IfOk result (λ told. Makes patterns.now subject.now start limit (P.points points.old) steps.old way.old.items told (P.points points.new) steps.new way.new.items) }
+    ensures records { IfOk result (λ told. P.records points.new + 2 * steps.old + owed (after_move told) ≤ P.records points.old + 2 * steps.new) }
+    ensures err { OnErr result ((P.points points.new ≡ P.points points.old) × (P.records points.new ≡ P.records points.old) × (steps.new ≡ steps.old) × (way.new.items ≡ way.old.items)) }
 {
     match points.top() {
-        Top::Empty => Ok(Move::Exhausted),
-        Top::Complete(_cursor, Mark::Next(_i)) => {
-            points.pop();
-            Ok(Move::Spent)
-        }
-        Top::Complete(cursor, Mark::Enter) => {
+        Top::Empty => unreachable!(),
+        Top::Complete(end, _mark) => {
             points.finish(way)?;
-            Ok(Move::Way(cursor))
+            Ok(Some(Event::Way { start, end }))
         }
         Top::Open(goal, cursor, mark) => {
-            match plan_of(patterns, subject, goal, cursor, mark) {
-                Plan::Spent => {
-                    points.pop();
-                    Ok(Move::Spent)
-                }
-                Plan::Cut => Ok(Move::Cut),
-                plan => {
-                    if left == 0 {
-                        return Ok(Move::Limit);
-                    }
-                    let made = carry_out(points, plan, cursor)?;
-                    Ok(made)
-                }
+            let plan = plan_of(patterns, subject, goal, cursor, mark);
+            if let Plan::Cut = plan {
+                return Ok(Some(Event::Aborted));
             }
+            if *steps == limit {
+                return Ok(Some(Event::Limit));
+            }
+            let told = carry_out(points, plan, cursor)?;
+            *steps += 1;
+            Ok(told)
         }
     }
 }
 
-/// Carries out a plan that costs a step.
-fn carry_out<P: Points>(points: &mut P, plan: Plan, cursor: usize) -> Result<Move, AllocError>
+/// Carries out a plan that costs a step, and gives the event that it tells.
+fn carry_out<P: Points>(
+    points: &mut P,
+    plan: Plan,
+    cursor: usize,
+) -> Result<Option<Event>, AllocError>
     requires costs { Costs plan }
     requires first { HasFirst (P.points points.old) }
-    ensures ok { IfOk result (λ m. CarriesOut plan cursor (P.points points.old) m (P.points points.new)) }
-    ensures err { OnErr result (P.points points.new ≡ P.points points.old) }
+    ensures ok { IfOk result (λ told. CarriesOut plan cursor (P.points points.old) told (P.points points.new)) }
+    ensures records { IfOk result (λ told. P.records points.new + owed (after_move told) ≤ P.records points.old + 2) }
+    ensures err { OnErr result ((P.points points.new ≡ P.points points.old) × (P.records points.new ≡ P.records points.old)) }
 {
     match plan {
         Plan::Replace(front, at) => {
             replace_by(points, front, at)?;
-            Ok(Move::Step)
+            Ok(None)
         }
         Plan::Branch(front, at, next) => {
             branch_by(points, front, at, next)?;
-            Ok(Move::Step)
+            Ok(None)
         }
         Plan::Close(assignment) => {
             points.close(assignment)?;
-            Ok(Move::Step)
+            Ok(None)
         }
-        Plan::Assign(assignment) => {
+        Plan::Assign(Pending { target, start, end }) => {
             points.replace(&[], cursor)?;
-            Ok(Move::Assign(assignment))
+            Ok(Some(Event::Assign { target, start, end }))
         }
         Plan::Cursor(target) => {
             points.replace(&[], cursor)?;
-            Ok(Move::Cursor(target, cursor))
+            Ok(Some(Event::Cursor { target, at: cursor }))
         }
-        Plan::Ask(primitive, expression) => Ok(Move::Value(primitive, expression)),
+        Plan::Ask(prim, expr) => Ok(Some(Event::Value { prim, expr })),
         Plan::Fail => {
             points.pop();
-            Ok(Move::Step)
+            Ok(None)
         }
-        Plan::Abort => Ok(Move::Abort),
-        Plan::Spent => unreachable!(),
+        Plan::Abort => Ok(Some(Event::Aborted)),
         Plan::Cut => unreachable!(),
     }
 }
@@ -121,7 +99,8 @@ fn carry_out<P: Points>(points: &mut P, plan: Plan, cursor: usize) -> Result<Mov
 fn replace_by<P: Points>(points: &mut P, front: Front, at: usize) -> Result<(), AllocError>
     requires { HasFirst (P.points points.old) }
     ensures ok { OnOk result (P.points points.new ≡ replaced (goals_in front) at (P.points points.old)) }
-    ensures err { OnErr result (P.points points.new ≡ P.points points.old) }
+    ensures records { P.records points.new ≤ P.records points.old + 2 }
+    ensures err { OnErr result ((P.points points.new ≡ P.points points.old) × (P.records points.new ≡ P.records points.old)) }
 {
     match front {
         Front::Nothing => points.replace(&[], at),
@@ -138,7 +117,8 @@ fn branch_by<P: Points>(
 ) -> Result<(), AllocError>
     requires { HasFirst (P.points points.old) }
     ensures ok { OnOk result (P.points points.new ≡ branched (goals_in front) at next (P.points points.old)) }
-    ensures err { OnErr result (P.points points.new ≡ P.points points.old) }
+    ensures records { P.records points.new ≤ P.records points.old + 2 }
+    ensures err { OnErr result ((P.points points.new ≡ P.points points.old) × (P.records points.new ≡ P.records points.old)) }
 {
     match front {
         Front::Nothing => points.branch(&[], at, next),

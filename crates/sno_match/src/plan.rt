@@ -1,8 +1,8 @@
 //! What is to be done at the newest resumption point.
-ghost use Rattle.std.specs.Prelude.{◌≡◌, ◌<◌, ◌≤◌, length};
+ghost use Rattle.std.specs.Prelude.{◌≡◌, ◌<◌, ◌≤◌, [], ◌∷◌, length};
 ghost use Rattle.sno_pattern.specs.Table.{tree};
 ghost use Rattle.sno_pattern.specs.Shape.{IsPrimitive};
-ghost use Rattle.sno_match.specs.Reading.{IsKnown};
+ghost use Rattle.sno_match.specs.Reading.{IsKnown, MarkFits, HasNext};
 ghost use Rattle.sno_match.specs.Plan.{IsPlan};
 
 use crate::event::Pending;
@@ -12,15 +12,16 @@ use sno_value::{ExprId, Name, PatId, Prim};
 
 /// At most two goals.
 #[derive(Clone, Copy, Debug, Drop)]
-pub(crate) enum Front {
+pub enum Front {
     Nothing,
     One(Goal),
     Two(Goal, Goal),
 }
 
+/// What is to be done at a point. All but `Cut` is one step.
 #[derive(Clone, Copy, Debug, Drop)]
 pub(crate) enum Plan {
-    /// The first goal gives way to these, at this cursor.
+    /// The first goal gives way to these, from this cursor.
     Replace(Front, usize),
     /// The point stays under the number of its next alternative, and above it these take the place of the first goal.
     Branch(Front, usize, usize),
@@ -32,10 +33,8 @@ pub(crate) enum Plan {
     Cursor(Name),
     /// The deferred part waits for an answer.
     Ask(Option<Prim>, ExprId),
-    /// The goal fails: a step was taken, and the point is dropped.
+    /// The goal fails, and the point is dropped.
     Fail,
-    /// No alternative is left, which costs nothing.
-    Spent,
     /// ABORT was entered.
     Abort,
     /// FENCE was backed into, which costs nothing.
@@ -52,35 +51,44 @@ pub(crate) fn plan_of(
 ) -> Plan
     requires known { IsKnown patterns.now goal }
     requires inside { cursor ≤ length subject.now }
+    requires next { MarkFits patterns.now subject.now mark (goal ∷ []) cursor }
     ensures { IsPlan patterns.now subject.now goal cursor mark result }
 {
     match mark {
-        Mark::Enter => match goal {
-            Goal::Match(id) => enter_pattern(patterns, subject, id, cursor),
-            Goal::CloseCond { target, start } => Plan::Close(Pending {
-                target,
-                start,
-                end: cursor,
-            }),
-            Goal::CloseImm { target, start } => Plan::Assign(Pending {
-                target,
-                start,
-                end: cursor,
-            }),
-            Goal::CloseRepeat { arbno, start } => {
-                if cursor == start {
-                    Plan::Fail
-                } else {
-                    Plan::Replace(Front::One(Goal::Match(arbno)), cursor)
-                }
-            }
-        },
+        Mark::Enter => enter_goal(patterns, subject, goal, cursor),
         Mark::Next(i) => match goal {
             Goal::Match(id) => next_of_pattern(patterns, subject, id, cursor, i),
-            Goal::CloseCond { .. } => Plan::Spent,
-            Goal::CloseImm { .. } => Plan::Spent,
-            Goal::CloseRepeat { .. } => Plan::Spent,
+            Goal::CloseCond { .. } => unreachable!(),
+            Goal::CloseImm { .. } => unreachable!(),
+            Goal::CloseRepeat { .. } => unreachable!(),
         },
+    }
+}
+
+fn enter_goal(patterns: &Patterns, subject: &[u8], goal: Goal, cursor: usize) -> Plan
+    requires known { IsKnown patterns.now goal }
+    requires inside { cursor ≤ length subject.now }
+    ensures { IsPlan patterns.now subject.now goal cursor Mark.Enter result }
+{
+    match goal {
+        Goal::Match(id) => enter_pattern(patterns, subject, id, cursor),
+        Goal::CloseCond { target, start } => Plan::Close(Pending {
+            target,
+            start,
+            end: cursor,
+        }),
+        Goal::CloseImm { target, start } => Plan::Assign(Pending {
+            target,
+            start,
+            end: cursor,
+        }),
+        Goal::CloseRepeat { arbno, start } => {
+            if cursor == start {
+                Plan::Fail
+            } else {
+                Plan::Replace(Front::One(Goal::Match(arbno)), cursor)
+            }
+        }
     }
 }
 
@@ -94,26 +102,20 @@ fn enter_pattern(patterns: &Patterns, subject: &[u8], id: PatId, cursor: usize) 
         Shape::Cat(p, q) => Plan::Replace(Front::Two(Goal::Match(p), Goal::Match(q)), cursor),
         Shape::Alt(p, _q) => Plan::Branch(Front::One(Goal::Match(p)), cursor, 1),
         Shape::Arbno(_p) => Plan::Branch(Front::Nothing, cursor, 1),
-        Shape::Cond(p, target) => Plan::Replace(
-            Front::Two(
-                Goal::Match(p),
-                Goal::CloseCond {
-                    target,
-                    start: cursor,
-                },
-            ),
-            cursor,
-        ),
-        Shape::Imm(p, target) => Plan::Replace(
-            Front::Two(
-                Goal::Match(p),
-                Goal::CloseImm {
-                    target,
-                    start: cursor,
-                },
-            ),
-            cursor,
-        ),
+        Shape::Cond(p, target) => {
+            let close = Goal::CloseCond {
+                target,
+                start: cursor,
+            };
+            Plan::Replace(Front::Two(Goal::Match(p), close), cursor)
+        }
+        Shape::Imm(p, target) => {
+            let close = Goal::CloseImm {
+                target,
+                start: cursor,
+            };
+            Plan::Replace(Front::Two(Goal::Match(p), close), cursor)
+        }
         Shape::Cursor(target) => Plan::Cursor(target),
         Shape::Fence => Plan::Branch(Front::Nothing, cursor, 1),
         Shape::Abort => Plan::Abort,
@@ -123,6 +125,7 @@ fn enter_pattern(patterns: &Patterns, subject: &[u8], id: PatId, cursor: usize) 
     }
 }
 
+/// A primitive's point stays only where the primitive has a further end.
 fn enter_primitive(patterns: &Patterns, subject: &[u8], id: PatId, cursor: usize) -> Plan
     requires known { id.0 < length patterns.now }
     requires primitive { IsPrimitive (tree patterns.now id.0) }
@@ -141,24 +144,22 @@ fn enter_primitive(patterns: &Patterns, subject: &[u8], id: PatId, cursor: usize
 fn next_of_pattern(patterns: &Patterns, subject: &[u8], id: PatId, cursor: usize, i: usize) -> Plan
     requires known { id.0 < length patterns.now }
     requires inside { cursor ≤ length subject.now }
+    requires next { HasNext (tree patterns.now id.0) subject.now cursor i }
     ensures { IsPlan patterns.now subject.now (Goal.Match id) cursor (Mark.Next i) result }
 {
     match patterns.shape(id) {
         Shape::Primitive => next_of_primitive(patterns, subject, id, cursor, i),
         Shape::Alt(_p, q) => Plan::Replace(Front::One(Goal::Match(q)), cursor),
-        Shape::Arbno(p) => Plan::Replace(
-            Front::Two(
-                Goal::Match(p),
-                Goal::CloseRepeat {
-                    arbno: id,
-                    start: cursor,
-                },
-            ),
-            cursor,
-        ),
+        Shape::Arbno(p) => {
+            let close = Goal::CloseRepeat {
+                arbno: id,
+                start: cursor,
+            };
+            Plan::Replace(Front::Two(Goal::Match(p), close), cursor)
+        }
         Shape::Succeed => Plan::Branch(Front::Nothing, cursor, 1),
         Shape::Fence => Plan::Cut,
-        _ => Plan::Spent,
+        _ => unreachable!(),
     }
 }
 
@@ -172,10 +173,11 @@ fn next_of_primitive(
     requires known { id.0 < length patterns.now }
     requires primitive { IsPrimitive (tree patterns.now id.0) }
     requires inside { cursor ≤ length subject.now }
+    requires next { HasNext (tree patterns.now id.0) subject.now cursor i }
     ensures { IsPlan patterns.now subject.now (Goal.Match id) cursor (Mark.Next i) result }
 {
     let Some(end) = patterns.end_at(id, subject, cursor, i) else {
-        return Plan::Spent;
+        unreachable!();
     };
     if patterns.end_at(id, subject, cursor, i + 1).is_none() {
         return Plan::Replace(Front::Nothing, end);

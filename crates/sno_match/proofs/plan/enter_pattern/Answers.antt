@@ -1,4 +1,5 @@
 use Rattle.std.proofs.Common.{arith, ◌<◌, length, Some, None}
+use Rattle.sno_pattern.specs.Pattern.{Alt, Arbno, Fence, Succeed}
 use Rattle.sno_pattern.specs.Table.{tree}
 use Rattle.sno_match.specs.declared.goal.Goal.TheVariants as N
 use Rattle.sno_match.proofs.PlanLaws as plans
@@ -21,6 +22,7 @@ returns-in-Alt c =
       plans.due-enter c.args.patterns.now c.args.subject.now (N.Match c.args.id) c.args.cursor,
       (p, tt),
       c.requires.inside,
+      plans.next_in c.args.patterns.now c.args.id.0 (Alt (tree c.args.patterns.now c.in-Alt.p.0) (tree c.args.patterns.now c.in-Alt._q.0)) c.args.subject.now c.args.cursor 1 c.in-Alt.ensures.2 tt,
     )
 
 pub returns-in-Arbno : goal.returns-in-Arbno
@@ -29,6 +31,7 @@ returns-in-Arbno c = (
   plans.due-enter c.args.patterns.now c.args.subject.now (N.Match c.args.id) c.args.cursor,
   tt,
   c.requires.inside,
+  plans.next_in c.args.patterns.now c.args.id.0 (Arbno (tree c.args.patterns.now c.in-Arbno._p.0)) c.args.subject.now c.args.cursor 1 c.in-Arbno.ensures.1 tt,
 )
 
 pub returns-in-Cond : goal.returns-in-Cond
@@ -61,6 +64,7 @@ returns-in-Fence c = (
   plans.due-enter c.args.patterns.now c.args.subject.now (N.Match c.args.id) c.args.cursor,
   tt,
   c.requires.inside,
+  plans.next_in c.args.patterns.now c.args.id.0 Fence c.args.subject.now c.args.cursor 1 c.in-Fence.ensures tt,
 )
 
 pub returns-in-Abort : goal.returns-in-Abort
@@ -75,6 +79,7 @@ returns-in-Succeed c = (
   plans.due-enter c.args.patterns.now c.args.subject.now (N.Match c.args.id) c.args.cursor,
   tt,
   c.requires.inside,
+  plans.next_in c.args.patterns.now c.args.id.0 Succeed c.args.subject.now c.args.cursor 1 c.in-Succeed.ensures tt,
 )
 
 pub returns-in-Defer : goal.returns-in-Defer

@@ -24,4 +24,5 @@ returns c = (
   plans.due-enter c.args.patterns.now c.args.subject.now (N.Match c.args.id) c.args.cursor,
   tt,
   c.in-Some.ensures.inside,
+  plans.more_in c.args.patterns.now c.args.id.0 c.requires.primitive.0 c.args.subject.now c.args.cursor 1 c.requires.primitive.1 c.end_at-2.result c.is_none.result (sym c.end_at-2.ensures.value) c.is_none.ensures c.if-is_none.false,
 )

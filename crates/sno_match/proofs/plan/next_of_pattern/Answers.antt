@@ -1,5 +1,5 @@
 use Rattle.std.proofs.Common.{arith, ◌≡◌, ◌<◌, length, ap, sym, ◌∙◌}
-use Rattle.sno_pattern.specs.Pattern.{Arbno}
+use Rattle.sno_pattern.specs.Pattern.{Arbno, Succeed}
 use Rattle.sno_pattern.specs.Table.{tree}
 use Rattle.sno_match.specs.Reading.{body_of}
 use Rattle.sno_match.proofs.PlanLaws as plans
@@ -31,7 +31,13 @@ returns-in-Succeed c = (
   plans.succeed_due c.args.patterns.now c.args.subject.now c.args.id c.args.cursor c.args.i c.in-Succeed.ensures,
   tt,
   c.requires.inside,
+  plans.next_in c.args.patterns.now c.args.id.0 Succeed c.args.subject.now c.args.cursor 1 c.in-Succeed.ensures tt,
 )
 
 pub returns-in-Fence : goal.returns-in-Fence
 returns-in-Fence c = plans.cut c.args.patterns.now c.args.subject.now c.args.id c.args.cursor c.args.i c.in-Fence.ensures
+
+pub unreachable-requires : goal.unreachable-requires
+unreachable-requires c =
+    plans.no_next c.args.patterns.now c.args.id.0 c.args.subject.now c.args.cursor c.args.i c.shape.result c.shape.ensures c.requires.next
+    c.in_default.not-Primitive c.in_default.not-Alt c.in_default.not-Arbno c.in_default.not-Succeed c.in_default.not-Fence

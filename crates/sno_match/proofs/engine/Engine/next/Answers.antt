@@ -1,237 +1,92 @@
-use Rattle.std.proofs.Common.{rules, ◌≡◌, ◌<◌, ◌≤◌, ◌+◌, ◌^◌, ◌-◌, [], ◌∷◌, ◌++◌, false, true, length, arith, refl, sym, ◌∙◌, ap, subst, Option, Some, None, List, ℕ}
-use Rattle.std.proofs.lemmas.Grind.{common_steps}
-use Rattle.sno_pattern.specs.Table.{Node}
-use Rattle.sno_match.specs.declared.engine.State.{State}
-use Rattle.sno_match.specs.declared.engine.State.TheVariants as S
-use Rattle.sno_match.specs.declared.advance.Told.TheVariants as T
-use Rattle.sno_match.specs.Search.{Event, Way, Assign, Cursor, Value, Ended}
-use Rattle.sno_match.specs.Reading.{IsStack}
-use Rattle.sno_match.specs.Coming.{Runs, GoesOn, verdict_of}
-use Rattle.sno_match.specs.Running.{IsMatch}
-use Rattle.sno_match.specs.Session.{Session, IsTold, Begins}
-use Rattle.sno_match.proofs.SessionLaws as laws
-use Rattle.sno_match.proofs.GrowLaws.{grown}
-use Rattle.sno_match.proofs.SessionWays.{session-ways}
+use Rattle.std.proofs.Common.{◌≡◌, ◌<◌, ◌≤◌, length, arith, refl, sym, ◌∙◌, ap, subst}
+use Rattle.std.proofs.lemmas.Result.{err_from_is_err_and}
+use Rattle.sno_match.specs.Session.{IsCounted}
+use Rattle.sno_match.proofs.CountLaws.{match_counted}
+use Rattle.sno_match.proofs.NextLaws as laws
+use Rattle.sno_match.proofs.SessionWays.{told-ways, refused-ways}
 use Rattle.sno_match.proofs.engine.Engine.next.Goals as goal
-
-pub invariant_of-self-in-Way : goal.invariant_of-self-in-Way
-invariant_of-self-in-Way g c =
-    let begins : Begins c.self.inside.lent.value c.of-self-inside.result.value = (c.requires.table.0, c.of-self-inside.ensures ∙ c.requires.table.1 ∙ ap (λ (m : Session). m.nodes ++ c.requires.table.0) (sym c.self.view_is)) in
-    let wide = grown c.self.inside.lent.value c.of-self-inside.result.value begins c.self.inside.pattern c.self.inside.subject.items c.self.inside.anchored c.self.inside.limit c.self.inside.answers.items c.self.inside.told c.self.inside.steps c.self.inside.start (g.P.Points.points c.self.inside.points) c.self.inside.state c.self.inside.way.items c.self.invariant in
-    let asked = ap (λ (m : Session). m.waits) c.self.view_is ∙ c.requires.asked in
-    let going : c.self.inside.state ≡ S.Going = laws.going_of c.self.inside.state asked c.in_default.not-Ended in
-    let inv = subst (λ (st : State). IsMatch c.of-self-inside.result.value c.self.inside.pattern c.self.inside.subject.items c.self.inside.anchored c.self.inside.limit c.self.inside.answers.items c.self.inside.told c.self.inside.steps c.self.inside.start (g.P.Points.points c.self.inside.points) st c.self.inside.way.items) going wide in
-    let e : c.args.patterns.now ≡ c.of-self-inside.result.value = sym c.of-self-inside.ensures in
-    let f : c.deref.result.now ≡ c.self.inside.subject.items = c.deref.ensures.value in
-    let stack = laws.moved (λ n t. IsStack n (length t) (g.P.Points.points c.tell_next.new.points)) c.args.patterns.now c.of-self-inside.result.value c.deref.result.now c.self.inside.subject.items e f c.in_ok-told.ensures.stack in
-    let start_in = laws.moved (λ n t. c.tell_next.new.start ≤ length t) c.args.patterns.now c.of-self-inside.result.value c.deref.result.now c.self.inside.subject.items e f c.in_ok-told.ensures.start in
-    let runs = laws.moved (λ n t. Runs n t c.self.inside.anchored c.self.inside.pattern c.self.inside.limit c.self.inside.start (g.P.Points.points c.self.inside.points) c.self.inside.steps (T.Way c.in-Way.end) c.tell_next.new.start (g.P.Points.points c.tell_next.new.points) c.tell_next.new.steps c.self.inside.way.items c.tell_next.new.way.items) c.args.patterns.now c.of-self-inside.result.value c.deref.result.now c.self.inside.subject.items e f (rw c.in-Way.is at c.in_ok-told.ensures.ok) in
-    subst (λ (st : State). IsMatch c.of-self-inside.result.value c.self.inside.pattern c.self.inside.subject.items c.self.inside.anchored c.self.inside.limit c.self.inside.answers.items (c.self.inside.told + 1) c.tell_next.new.steps c.tell_next.new.start (g.P.Points.points c.tell_next.new.points) st c.tell_next.new.way.items) (sym going) (laws.next_match c.of-self-inside.result.value c.self.inside.pattern c.self.inside.subject.items c.self.inside.anchored c.self.inside.limit c.self.inside.answers.items c.self.inside.told c.self.inside.steps c.self.inside.start (g.P.Points.points c.self.inside.points) c.self.inside.way.items inv c.tell_next.new.steps c.tell_next.new.start (g.P.Points.points c.tell_next.new.points) (Way c.tell_next.new.start c.in-Way.end c.tell_next.new.way.items) S.Going c.tell_next.new.way.items refl c.in_ok-told.ensures.steps start_in stack runs.1)
-
-pub returns-in-Way : goal.returns-in-Way
-returns-in-Way g c =
-    let begins : Begins c.self.inside.lent.value c.of-self-inside.result.value = (c.requires.table.0, c.of-self-inside.ensures ∙ c.requires.table.1 ∙ ap (λ (m : Session). m.nodes ++ c.requires.table.0) (sym c.self.view_is)) in
-    let wide = grown c.self.inside.lent.value c.of-self-inside.result.value begins c.self.inside.pattern c.self.inside.subject.items c.self.inside.anchored c.self.inside.limit c.self.inside.answers.items c.self.inside.told c.self.inside.steps c.self.inside.start (g.P.Points.points c.self.inside.points) c.self.inside.state c.self.inside.way.items c.self.invariant in
-    let asked = ap (λ (m : Session). m.waits) c.self.view_is ∙ c.requires.asked in
-    let going : c.self.inside.state ≡ S.Going = laws.going_of c.self.inside.state asked c.in_default.not-Ended in
-    let inv = subst (λ (st : State). IsMatch c.of-self-inside.result.value c.self.inside.pattern c.self.inside.subject.items c.self.inside.anchored c.self.inside.limit c.self.inside.answers.items c.self.inside.told c.self.inside.steps c.self.inside.start (g.P.Points.points c.self.inside.points) st c.self.inside.way.items) going wide in
-    let e : c.args.patterns.now ≡ c.of-self-inside.result.value = sym c.of-self-inside.ensures in
-    let f : c.deref.result.now ≡ c.self.inside.subject.items = c.deref.ensures.value in
-    let runs = laws.moved (λ n t. Runs n t c.self.inside.anchored c.self.inside.pattern c.self.inside.limit c.self.inside.start (g.P.Points.points c.self.inside.points) c.self.inside.steps (T.Way c.in-Way.end) c.tell_next.new.start (g.P.Points.points c.tell_next.new.points) c.tell_next.new.steps c.self.inside.way.items c.tell_next.new.way.items) c.args.patterns.now c.of-self-inside.result.value c.deref.result.now c.self.inside.subject.items e f (rw c.in-Way.is at c.in_ok-told.ensures.ok) in
-    record {
-      table = c.of-self-inside.ensures;
-      same = laws.same_by _ c.args.self.now _ c.self.view_is refl refl refl refl refl;
-      ok = laws.told_by _ c.args.self.now _ _ (Way c.tell_next.new.start c.in-Way.end c.tell_next.new.way.items) c.self.view_is refl (laws.next_at c.of-self-inside.result.value c.self.inside.pattern c.self.inside.subject.items c.self.inside.anchored c.self.inside.limit c.self.inside.answers.items c.self.inside.told c.self.inside.steps c.self.inside.start (g.P.Points.points c.self.inside.points) c.self.inside.way.items inv c.tell_next.new.steps c.tell_next.new.start (g.P.Points.points c.tell_next.new.points) (Way c.tell_next.new.start c.in-Way.end c.tell_next.new.way.items) S.Going c.in_ok-told.ensures.steps runs.1) (laws.next_count c.of-self-inside.result.value c.self.inside.pattern c.self.inside.subject.items c.self.inside.anchored c.self.inside.limit c.self.inside.answers.items c.self.inside.told c.self.inside.steps c.self.inside.start (g.P.Points.points c.self.inside.points) c.self.inside.way.items inv c.tell_next.new.steps c.tell_next.new.start (g.P.Points.points c.tell_next.new.points) (Way c.tell_next.new.start c.in-Way.end c.tell_next.new.way.items) S.Going runs.1) refl;
-      err = tt;
-      ways = session-ways _;
-    }
-
-pub invariant_of-self-in-Assign : goal.invariant_of-self-in-Assign
-invariant_of-self-in-Assign g c =
-    let begins : Begins c.self.inside.lent.value c.of-self-inside.result.value = (c.requires.table.0, c.of-self-inside.ensures ∙ c.requires.table.1 ∙ ap (λ (m : Session). m.nodes ++ c.requires.table.0) (sym c.self.view_is)) in
-    let wide = grown c.self.inside.lent.value c.of-self-inside.result.value begins c.self.inside.pattern c.self.inside.subject.items c.self.inside.anchored c.self.inside.limit c.self.inside.answers.items c.self.inside.told c.self.inside.steps c.self.inside.start (g.P.Points.points c.self.inside.points) c.self.inside.state c.self.inside.way.items c.self.invariant in
-    let asked = ap (λ (m : Session). m.waits) c.self.view_is ∙ c.requires.asked in
-    let going : c.self.inside.state ≡ S.Going = laws.going_of c.self.inside.state asked c.in_default.not-Ended in
-    let inv = subst (λ (st : State). IsMatch c.of-self-inside.result.value c.self.inside.pattern c.self.inside.subject.items c.self.inside.anchored c.self.inside.limit c.self.inside.answers.items c.self.inside.told c.self.inside.steps c.self.inside.start (g.P.Points.points c.self.inside.points) st c.self.inside.way.items) going wide in
-    let e : c.args.patterns.now ≡ c.of-self-inside.result.value = sym c.of-self-inside.ensures in
-    let f : c.deref.result.now ≡ c.self.inside.subject.items = c.deref.ensures.value in
-    let stack = laws.moved (λ n t. IsStack n (length t) (g.P.Points.points c.tell_next.new.points)) c.args.patterns.now c.of-self-inside.result.value c.deref.result.now c.self.inside.subject.items e f c.in_ok-told.ensures.stack in
-    let start_in = laws.moved (λ n t. c.tell_next.new.start ≤ length t) c.args.patterns.now c.of-self-inside.result.value c.deref.result.now c.self.inside.subject.items e f c.in_ok-told.ensures.start in
-    let runs = laws.moved (λ n t. Runs n t c.self.inside.anchored c.self.inside.pattern c.self.inside.limit c.self.inside.start (g.P.Points.points c.self.inside.points) c.self.inside.steps (T.Assign c.in-Assign.assignment) c.tell_next.new.start (g.P.Points.points c.tell_next.new.points) c.tell_next.new.steps c.self.inside.way.items c.tell_next.new.way.items) c.args.patterns.now c.of-self-inside.result.value c.deref.result.now c.self.inside.subject.items e f (rw c.in-Assign.is at c.in_ok-told.ensures.ok) in
-    subst (λ (st : State). IsMatch c.of-self-inside.result.value c.self.inside.pattern c.self.inside.subject.items c.self.inside.anchored c.self.inside.limit c.self.inside.answers.items (c.self.inside.told + 1) c.tell_next.new.steps c.tell_next.new.start (g.P.Points.points c.tell_next.new.points) st c.tell_next.new.way.items) (sym going) (laws.next_match c.of-self-inside.result.value c.self.inside.pattern c.self.inside.subject.items c.self.inside.anchored c.self.inside.limit c.self.inside.answers.items c.self.inside.told c.self.inside.steps c.self.inside.start (g.P.Points.points c.self.inside.points) c.self.inside.way.items inv c.tell_next.new.steps c.tell_next.new.start (g.P.Points.points c.tell_next.new.points) (Assign c.in-Assign.assignment.target c.in-Assign.assignment.start c.in-Assign.assignment.end) S.Going c.tell_next.new.way.items refl c.in_ok-told.ensures.steps start_in stack runs.0.1)
-
-pub returns-in-Assign : goal.returns-in-Assign
-returns-in-Assign g c =
-    let begins : Begins c.self.inside.lent.value c.of-self-inside.result.value = (c.requires.table.0, c.of-self-inside.ensures ∙ c.requires.table.1 ∙ ap (λ (m : Session). m.nodes ++ c.requires.table.0) (sym c.self.view_is)) in
-    let wide = grown c.self.inside.lent.value c.of-self-inside.result.value begins c.self.inside.pattern c.self.inside.subject.items c.self.inside.anchored c.self.inside.limit c.self.inside.answers.items c.self.inside.told c.self.inside.steps c.self.inside.start (g.P.Points.points c.self.inside.points) c.self.inside.state c.self.inside.way.items c.self.invariant in
-    let asked = ap (λ (m : Session). m.waits) c.self.view_is ∙ c.requires.asked in
-    let going : c.self.inside.state ≡ S.Going = laws.going_of c.self.inside.state asked c.in_default.not-Ended in
-    let inv = subst (λ (st : State). IsMatch c.of-self-inside.result.value c.self.inside.pattern c.self.inside.subject.items c.self.inside.anchored c.self.inside.limit c.self.inside.answers.items c.self.inside.told c.self.inside.steps c.self.inside.start (g.P.Points.points c.self.inside.points) st c.self.inside.way.items) going wide in
-    let e : c.args.patterns.now ≡ c.of-self-inside.result.value = sym c.of-self-inside.ensures in
-    let f : c.deref.result.now ≡ c.self.inside.subject.items = c.deref.ensures.value in
-    let runs = laws.moved (λ n t. Runs n t c.self.inside.anchored c.self.inside.pattern c.self.inside.limit c.self.inside.start (g.P.Points.points c.self.inside.points) c.self.inside.steps (T.Assign c.in-Assign.assignment) c.tell_next.new.start (g.P.Points.points c.tell_next.new.points) c.tell_next.new.steps c.self.inside.way.items c.tell_next.new.way.items) c.args.patterns.now c.of-self-inside.result.value c.deref.result.now c.self.inside.subject.items e f (rw c.in-Assign.is at c.in_ok-told.ensures.ok) in
-    record {
-      table = c.of-self-inside.ensures;
-      same = laws.same_by _ c.args.self.now _ c.self.view_is refl refl refl refl refl;
-      ok = laws.told_by _ c.args.self.now _ _ (Assign c.in-Assign.assignment.target c.in-Assign.assignment.start c.in-Assign.assignment.end) c.self.view_is refl (laws.next_at c.of-self-inside.result.value c.self.inside.pattern c.self.inside.subject.items c.self.inside.anchored c.self.inside.limit c.self.inside.answers.items c.self.inside.told c.self.inside.steps c.self.inside.start (g.P.Points.points c.self.inside.points) c.self.inside.way.items inv c.tell_next.new.steps c.tell_next.new.start (g.P.Points.points c.tell_next.new.points) (Assign c.in-Assign.assignment.target c.in-Assign.assignment.start c.in-Assign.assignment.end) S.Going c.in_ok-told.ensures.steps runs.0.1) (laws.next_count c.of-self-inside.result.value c.self.inside.pattern c.self.inside.subject.items c.self.inside.anchored c.self.inside.limit c.self.inside.answers.items c.self.inside.told c.self.inside.steps c.self.inside.start (g.P.Points.points c.self.inside.points) c.self.inside.way.items inv c.tell_next.new.steps c.tell_next.new.start (g.P.Points.points c.tell_next.new.points) (Assign c.in-Assign.assignment.target c.in-Assign.assignment.start c.in-Assign.assignment.end) S.Going runs.0.1) refl;
-      err = tt;
-      ways = session-ways _;
-    }
-
-pub invariant_of-self-in-Cursor : goal.invariant_of-self-in-Cursor
-invariant_of-self-in-Cursor g c =
-    let begins : Begins c.self.inside.lent.value c.of-self-inside.result.value = (c.requires.table.0, c.of-self-inside.ensures ∙ c.requires.table.1 ∙ ap (λ (m : Session). m.nodes ++ c.requires.table.0) (sym c.self.view_is)) in
-    let wide = grown c.self.inside.lent.value c.of-self-inside.result.value begins c.self.inside.pattern c.self.inside.subject.items c.self.inside.anchored c.self.inside.limit c.self.inside.answers.items c.self.inside.told c.self.inside.steps c.self.inside.start (g.P.Points.points c.self.inside.points) c.self.inside.state c.self.inside.way.items c.self.invariant in
-    let asked = ap (λ (m : Session). m.waits) c.self.view_is ∙ c.requires.asked in
-    let going : c.self.inside.state ≡ S.Going = laws.going_of c.self.inside.state asked c.in_default.not-Ended in
-    let inv = subst (λ (st : State). IsMatch c.of-self-inside.result.value c.self.inside.pattern c.self.inside.subject.items c.self.inside.anchored c.self.inside.limit c.self.inside.answers.items c.self.inside.told c.self.inside.steps c.self.inside.start (g.P.Points.points c.self.inside.points) st c.self.inside.way.items) going wide in
-    let e : c.args.patterns.now ≡ c.of-self-inside.result.value = sym c.of-self-inside.ensures in
-    let f : c.deref.result.now ≡ c.self.inside.subject.items = c.deref.ensures.value in
-    let stack = laws.moved (λ n t. IsStack n (length t) (g.P.Points.points c.tell_next.new.points)) c.args.patterns.now c.of-self-inside.result.value c.deref.result.now c.self.inside.subject.items e f c.in_ok-told.ensures.stack in
-    let start_in = laws.moved (λ n t. c.tell_next.new.start ≤ length t) c.args.patterns.now c.of-self-inside.result.value c.deref.result.now c.self.inside.subject.items e f c.in_ok-told.ensures.start in
-    let runs = laws.moved (λ n t. Runs n t c.self.inside.anchored c.self.inside.pattern c.self.inside.limit c.self.inside.start (g.P.Points.points c.self.inside.points) c.self.inside.steps (T.Cursor c.in-Cursor.target c.in-Cursor.at) c.tell_next.new.start (g.P.Points.points c.tell_next.new.points) c.tell_next.new.steps c.self.inside.way.items c.tell_next.new.way.items) c.args.patterns.now c.of-self-inside.result.value c.deref.result.now c.self.inside.subject.items e f (rw c.in-Cursor.is at c.in_ok-told.ensures.ok) in
-    subst (λ (st : State). IsMatch c.of-self-inside.result.value c.self.inside.pattern c.self.inside.subject.items c.self.inside.anchored c.self.inside.limit c.self.inside.answers.items (c.self.inside.told + 1) c.tell_next.new.steps c.tell_next.new.start (g.P.Points.points c.tell_next.new.points) st c.tell_next.new.way.items) (sym going) (laws.next_match c.of-self-inside.result.value c.self.inside.pattern c.self.inside.subject.items c.self.inside.anchored c.self.inside.limit c.self.inside.answers.items c.self.inside.told c.self.inside.steps c.self.inside.start (g.P.Points.points c.self.inside.points) c.self.inside.way.items inv c.tell_next.new.steps c.tell_next.new.start (g.P.Points.points c.tell_next.new.points) (Cursor c.in-Cursor.target c.in-Cursor.at) S.Going c.tell_next.new.way.items refl c.in_ok-told.ensures.steps start_in stack runs.0.1)
-
-pub returns-in-Cursor : goal.returns-in-Cursor
-returns-in-Cursor g c =
-    let begins : Begins c.self.inside.lent.value c.of-self-inside.result.value = (c.requires.table.0, c.of-self-inside.ensures ∙ c.requires.table.1 ∙ ap (λ (m : Session). m.nodes ++ c.requires.table.0) (sym c.self.view_is)) in
-    let wide = grown c.self.inside.lent.value c.of-self-inside.result.value begins c.self.inside.pattern c.self.inside.subject.items c.self.inside.anchored c.self.inside.limit c.self.inside.answers.items c.self.inside.told c.self.inside.steps c.self.inside.start (g.P.Points.points c.self.inside.points) c.self.inside.state c.self.inside.way.items c.self.invariant in
-    let asked = ap (λ (m : Session). m.waits) c.self.view_is ∙ c.requires.asked in
-    let going : c.self.inside.state ≡ S.Going = laws.going_of c.self.inside.state asked c.in_default.not-Ended in
-    let inv = subst (λ (st : State). IsMatch c.of-self-inside.result.value c.self.inside.pattern c.self.inside.subject.items c.self.inside.anchored c.self.inside.limit c.self.inside.answers.items c.self.inside.told c.self.inside.steps c.self.inside.start (g.P.Points.points c.self.inside.points) st c.self.inside.way.items) going wide in
-    let e : c.args.patterns.now ≡ c.of-self-inside.result.value = sym c.of-self-inside.ensures in
-    let f : c.deref.result.now ≡ c.self.inside.subject.items = c.deref.ensures.value in
-    let runs = laws.moved (λ n t. Runs n t c.self.inside.anchored c.self.inside.pattern c.self.inside.limit c.self.inside.start (g.P.Points.points c.self.inside.points) c.self.inside.steps (T.Cursor c.in-Cursor.target c.in-Cursor.at) c.tell_next.new.start (g.P.Points.points c.tell_next.new.points) c.tell_next.new.steps c.self.inside.way.items c.tell_next.new.way.items) c.args.patterns.now c.of-self-inside.result.value c.deref.result.now c.self.inside.subject.items e f (rw c.in-Cursor.is at c.in_ok-told.ensures.ok) in
-    record {
-      table = c.of-self-inside.ensures;
-      same = laws.same_by _ c.args.self.now _ c.self.view_is refl refl refl refl refl;
-      ok = laws.told_by _ c.args.self.now _ _ (Cursor c.in-Cursor.target c.in-Cursor.at) c.self.view_is refl (laws.next_at c.of-self-inside.result.value c.self.inside.pattern c.self.inside.subject.items c.self.inside.anchored c.self.inside.limit c.self.inside.answers.items c.self.inside.told c.self.inside.steps c.self.inside.start (g.P.Points.points c.self.inside.points) c.self.inside.way.items inv c.tell_next.new.steps c.tell_next.new.start (g.P.Points.points c.tell_next.new.points) (Cursor c.in-Cursor.target c.in-Cursor.at) S.Going c.in_ok-told.ensures.steps runs.0.1) (laws.next_count c.of-self-inside.result.value c.self.inside.pattern c.self.inside.subject.items c.self.inside.anchored c.self.inside.limit c.self.inside.answers.items c.self.inside.told c.self.inside.steps c.self.inside.start (g.P.Points.points c.self.inside.points) c.self.inside.way.items inv c.tell_next.new.steps c.tell_next.new.start (g.P.Points.points c.tell_next.new.points) (Cursor c.in-Cursor.target c.in-Cursor.at) S.Going runs.0.1) refl;
-      err = tt;
-      ways = session-ways _;
-    }
-
-pub invariant_of-self-in-Value : goal.invariant_of-self-in-Value
-invariant_of-self-in-Value g c =
-    let begins : Begins c.self.inside.lent.value c.of-self-inside.result.value = (c.requires.table.0, c.of-self-inside.ensures ∙ c.requires.table.1 ∙ ap (λ (m : Session). m.nodes ++ c.requires.table.0) (sym c.self.view_is)) in
-    let wide = grown c.self.inside.lent.value c.of-self-inside.result.value begins c.self.inside.pattern c.self.inside.subject.items c.self.inside.anchored c.self.inside.limit c.self.inside.answers.items c.self.inside.told c.self.inside.steps c.self.inside.start (g.P.Points.points c.self.inside.points) c.self.inside.state c.self.inside.way.items c.self.invariant in
-    let asked = ap (λ (m : Session). m.waits) c.self.view_is ∙ c.requires.asked in
-    let going : c.self.inside.state ≡ S.Going = laws.going_of c.self.inside.state asked c.in_default.not-Ended in
-    let inv = subst (λ (st : State). IsMatch c.of-self-inside.result.value c.self.inside.pattern c.self.inside.subject.items c.self.inside.anchored c.self.inside.limit c.self.inside.answers.items c.self.inside.told c.self.inside.steps c.self.inside.start (g.P.Points.points c.self.inside.points) st c.self.inside.way.items) going wide in
-    let e : c.args.patterns.now ≡ c.of-self-inside.result.value = sym c.of-self-inside.ensures in
-    let f : c.deref.result.now ≡ c.self.inside.subject.items = c.deref.ensures.value in
-    let stack = laws.moved (λ n t. IsStack n (length t) (g.P.Points.points c.tell_next.new.points)) c.args.patterns.now c.of-self-inside.result.value c.deref.result.now c.self.inside.subject.items e f c.in_ok-told.ensures.stack in
-    let start_in = laws.moved (λ n t. c.tell_next.new.start ≤ length t) c.args.patterns.now c.of-self-inside.result.value c.deref.result.now c.self.inside.subject.items e f c.in_ok-told.ensures.start in
-    let runs = laws.moved (λ n t. Runs n t c.self.inside.anchored c.self.inside.pattern c.self.inside.limit c.self.inside.start (g.P.Points.points c.self.inside.points) c.self.inside.steps (T.Value c.in-Value.primitive c.in-Value.expression) c.tell_next.new.start (g.P.Points.points c.tell_next.new.points) c.tell_next.new.steps c.self.inside.way.items c.tell_next.new.way.items) c.args.patterns.now c.of-self-inside.result.value c.deref.result.now c.self.inside.subject.items e f (rw c.in-Value.is at c.in_ok-told.ensures.ok) in
-    laws.next_match c.of-self-inside.result.value c.self.inside.pattern c.self.inside.subject.items c.self.inside.anchored c.self.inside.limit c.self.inside.answers.items c.self.inside.told c.self.inside.steps c.self.inside.start (g.P.Points.points c.self.inside.points) c.self.inside.way.items inv c.tell_next.new.steps c.tell_next.new.start (g.P.Points.points c.tell_next.new.points) (Value c.in-Value.primitive c.in-Value.expression.0) S.Waiting c.tell_next.new.way.items refl c.in_ok-told.ensures.steps start_in stack runs.1
-
-pub returns-in-Value : goal.returns-in-Value
-returns-in-Value g c =
-    let begins : Begins c.self.inside.lent.value c.of-self-inside.result.value = (c.requires.table.0, c.of-self-inside.ensures ∙ c.requires.table.1 ∙ ap (λ (m : Session). m.nodes ++ c.requires.table.0) (sym c.self.view_is)) in
-    let wide = grown c.self.inside.lent.value c.of-self-inside.result.value begins c.self.inside.pattern c.self.inside.subject.items c.self.inside.anchored c.self.inside.limit c.self.inside.answers.items c.self.inside.told c.self.inside.steps c.self.inside.start (g.P.Points.points c.self.inside.points) c.self.inside.state c.self.inside.way.items c.self.invariant in
-    let asked = ap (λ (m : Session). m.waits) c.self.view_is ∙ c.requires.asked in
-    let going : c.self.inside.state ≡ S.Going = laws.going_of c.self.inside.state asked c.in_default.not-Ended in
-    let inv = subst (λ (st : State). IsMatch c.of-self-inside.result.value c.self.inside.pattern c.self.inside.subject.items c.self.inside.anchored c.self.inside.limit c.self.inside.answers.items c.self.inside.told c.self.inside.steps c.self.inside.start (g.P.Points.points c.self.inside.points) st c.self.inside.way.items) going wide in
-    let e : c.args.patterns.now ≡ c.of-self-inside.result.value = sym c.of-self-inside.ensures in
-    let f : c.deref.result.now ≡ c.self.inside.subject.items = c.deref.ensures.value in
-    let runs = laws.moved (λ n t. Runs n t c.self.inside.anchored c.self.inside.pattern c.self.inside.limit c.self.inside.start (g.P.Points.points c.self.inside.points) c.self.inside.steps (T.Value c.in-Value.primitive c.in-Value.expression) c.tell_next.new.start (g.P.Points.points c.tell_next.new.points) c.tell_next.new.steps c.self.inside.way.items c.tell_next.new.way.items) c.args.patterns.now c.of-self-inside.result.value c.deref.result.now c.self.inside.subject.items e f (rw c.in-Value.is at c.in_ok-told.ensures.ok) in
-    record {
-      table = c.of-self-inside.ensures;
-      same = laws.same_by _ c.args.self.now _ c.self.view_is refl refl refl refl refl;
-      ok = laws.told_by _ c.args.self.now _ _ (Value c.in-Value.primitive c.in-Value.expression.0) c.self.view_is refl (laws.next_at c.of-self-inside.result.value c.self.inside.pattern c.self.inside.subject.items c.self.inside.anchored c.self.inside.limit c.self.inside.answers.items c.self.inside.told c.self.inside.steps c.self.inside.start (g.P.Points.points c.self.inside.points) c.self.inside.way.items inv c.tell_next.new.steps c.tell_next.new.start (g.P.Points.points c.tell_next.new.points) (Value c.in-Value.primitive c.in-Value.expression.0) S.Waiting c.in_ok-told.ensures.steps runs.1) (laws.next_count c.of-self-inside.result.value c.self.inside.pattern c.self.inside.subject.items c.self.inside.anchored c.self.inside.limit c.self.inside.answers.items c.self.inside.told c.self.inside.steps c.self.inside.start (g.P.Points.points c.self.inside.points) c.self.inside.way.items inv c.tell_next.new.steps c.tell_next.new.start (g.P.Points.points c.tell_next.new.points) (Value c.in-Value.primitive c.in-Value.expression.0) S.Waiting runs.1) refl;
-      err = tt;
-      ways = session-ways _;
-    }
-
-pub invariant_of-self-in-Ended-told : goal.invariant_of-self-in-Ended-told
-invariant_of-self-in-Ended-told g c =
-    let begins : Begins c.self.inside.lent.value c.of-self-inside.result.value = (c.requires.table.0, c.of-self-inside.ensures ∙ c.requires.table.1 ∙ ap (λ (m : Session). m.nodes ++ c.requires.table.0) (sym c.self.view_is)) in
-    let wide = grown c.self.inside.lent.value c.of-self-inside.result.value begins c.self.inside.pattern c.self.inside.subject.items c.self.inside.anchored c.self.inside.limit c.self.inside.answers.items c.self.inside.told c.self.inside.steps c.self.inside.start (g.P.Points.points c.self.inside.points) c.self.inside.state c.self.inside.way.items c.self.invariant in
-    let asked = ap (λ (m : Session). m.waits) c.self.view_is ∙ c.requires.asked in
-    let going : c.self.inside.state ≡ S.Going = laws.going_of c.self.inside.state asked c.in_default.not-Ended in
-    let inv = subst (λ (st : State). IsMatch c.of-self-inside.result.value c.self.inside.pattern c.self.inside.subject.items c.self.inside.anchored c.self.inside.limit c.self.inside.answers.items c.self.inside.told c.self.inside.steps c.self.inside.start (g.P.Points.points c.self.inside.points) st c.self.inside.way.items) going wide in
-    let e : c.args.patterns.now ≡ c.of-self-inside.result.value = sym c.of-self-inside.ensures in
-    let f : c.deref.result.now ≡ c.self.inside.subject.items = c.deref.ensures.value in
-    let stack = laws.moved (λ n t. IsStack n (length t) (g.P.Points.points c.tell_next.new.points)) c.args.patterns.now c.of-self-inside.result.value c.deref.result.now c.self.inside.subject.items e f c.in_ok-told.ensures.stack in
-    let start_in = laws.moved (λ n t. c.tell_next.new.start ≤ length t) c.args.patterns.now c.of-self-inside.result.value c.deref.result.now c.self.inside.subject.items e f c.in_ok-told.ensures.start in
-    let runs = laws.moved (λ n t. Runs n t c.self.inside.anchored c.self.inside.pattern c.self.inside.limit c.self.inside.start (g.P.Points.points c.self.inside.points) c.self.inside.steps (T.Ended c.in-Ended-told.end) c.tell_next.new.start (g.P.Points.points c.tell_next.new.points) c.tell_next.new.steps c.self.inside.way.items c.tell_next.new.way.items) c.args.patterns.now c.of-self-inside.result.value c.deref.result.now c.self.inside.subject.items e f (rw c.in-Ended-told.is at c.in_ok-told.ensures.ok) in
-    laws.last_match c.of-self-inside.result.value c.self.inside.pattern c.self.inside.subject.items c.self.inside.anchored c.self.inside.limit c.self.inside.answers.items c.self.inside.told c.self.inside.steps c.self.inside.start (g.P.Points.points c.self.inside.points) c.self.inside.way.items inv c.tell_next.new.steps c.tell_next.new.start (g.P.Points.points c.tell_next.new.points) c.in-Ended-told.end runs.1 c.tell_next.new.way.items c.in_ok-told.ensures.steps start_in stack
-
-pub returns-in-Ended-told : goal.returns-in-Ended-told
-returns-in-Ended-told g c =
-    let begins : Begins c.self.inside.lent.value c.of-self-inside.result.value = (c.requires.table.0, c.of-self-inside.ensures ∙ c.requires.table.1 ∙ ap (λ (m : Session). m.nodes ++ c.requires.table.0) (sym c.self.view_is)) in
-    let wide = grown c.self.inside.lent.value c.of-self-inside.result.value begins c.self.inside.pattern c.self.inside.subject.items c.self.inside.anchored c.self.inside.limit c.self.inside.answers.items c.self.inside.told c.self.inside.steps c.self.inside.start (g.P.Points.points c.self.inside.points) c.self.inside.state c.self.inside.way.items c.self.invariant in
-    let asked = ap (λ (m : Session). m.waits) c.self.view_is ∙ c.requires.asked in
-    let going : c.self.inside.state ≡ S.Going = laws.going_of c.self.inside.state asked c.in_default.not-Ended in
-    let inv = subst (λ (st : State). IsMatch c.of-self-inside.result.value c.self.inside.pattern c.self.inside.subject.items c.self.inside.anchored c.self.inside.limit c.self.inside.answers.items c.self.inside.told c.self.inside.steps c.self.inside.start (g.P.Points.points c.self.inside.points) st c.self.inside.way.items) going wide in
-    let e : c.args.patterns.now ≡ c.of-self-inside.result.value = sym c.of-self-inside.ensures in
-    let f : c.deref.result.now ≡ c.self.inside.subject.items = c.deref.ensures.value in
-    let stack = laws.moved (λ n t. IsStack n (length t) (g.P.Points.points c.tell_next.new.points)) c.args.patterns.now c.of-self-inside.result.value c.deref.result.now c.self.inside.subject.items e f c.in_ok-told.ensures.stack in
-    let start_in = laws.moved (λ n t. c.tell_next.new.start ≤ length t) c.args.patterns.now c.of-self-inside.result.value c.deref.result.now c.self.inside.subject.items e f c.in_ok-told.ensures.start in
-    let runs = laws.moved (λ n t. Runs n t c.self.inside.anchored c.self.inside.pattern c.self.inside.limit c.self.inside.start (g.P.Points.points c.self.inside.points) c.self.inside.steps (T.Ended c.in-Ended-told.end) c.tell_next.new.start (g.P.Points.points c.tell_next.new.points) c.tell_next.new.steps c.self.inside.way.items c.tell_next.new.way.items) c.args.patterns.now c.of-self-inside.result.value c.deref.result.now c.self.inside.subject.items e f (rw c.in-Ended-told.is at c.in_ok-told.ensures.ok) in
-    let over = laws.last_match c.of-self-inside.result.value c.self.inside.pattern c.self.inside.subject.items c.self.inside.anchored c.self.inside.limit c.self.inside.answers.items c.self.inside.told c.self.inside.steps c.self.inside.start (g.P.Points.points c.self.inside.points) c.self.inside.way.items inv c.tell_next.new.steps c.tell_next.new.start (g.P.Points.points c.tell_next.new.points) c.in-Ended-told.end runs.1 c.tell_next.new.way.items c.in_ok-told.ensures.steps start_in stack in
-    record {
-      table = c.of-self-inside.ensures;
-      same = laws.same_by _ c.args.self.now _ c.self.view_is refl refl refl refl refl;
-      ok = laws.told_by _ c.args.self.now _ _ (Ended (verdict_of c.in-Ended-told.end)) c.self.view_is (sym c.last_event-in-Ended-told.ensures) (laws.last_at c.of-self-inside.result.value c.self.inside.pattern c.self.inside.subject.items c.self.inside.anchored c.self.inside.limit c.self.inside.answers.items (c.self.inside.told + 1) c.tell_next.new.steps c.tell_next.new.start (g.P.Points.points c.tell_next.new.points) c.tell_next.new.way.items c.in-Ended-told.end over)
-          (laws.min_here (c.self.inside.told + 1) _ (laws.last_length c.of-self-inside.result.value c.self.inside.pattern c.self.inside.subject.items c.self.inside.anchored c.self.inside.limit c.self.inside.answers.items (c.self.inside.told + 1) c.tell_next.new.steps c.tell_next.new.start (g.P.Points.points c.tell_next.new.points) c.tell_next.new.way.items c.in-Ended-told.end over)) refl;
-      err = tt;
-      ways = session-ways _;
-    }
-
-pub returns-in-Ended-clause-ok : goal.returns-in-Ended-clause-ok
-returns-in-Ended-clause-ok g c =
-    let begins : Begins c.self.inside.lent.value c.of-self-inside.result.value = (c.requires.table.0, c.of-self-inside.ensures ∙ c.requires.table.1 ∙ ap (λ (m : Session). m.nodes ++ c.requires.table.0) (sym c.self.view_is)) in
-    let wide = grown c.self.inside.lent.value c.of-self-inside.result.value begins c.self.inside.pattern c.self.inside.subject.items c.self.inside.anchored c.self.inside.limit c.self.inside.answers.items c.self.inside.told c.self.inside.steps c.self.inside.start (g.P.Points.points c.self.inside.points) c.self.inside.state c.self.inside.way.items c.self.invariant in
-    let over = subst (λ (st : State). IsMatch c.of-self-inside.result.value c.self.inside.pattern c.self.inside.subject.items c.self.inside.anchored c.self.inside.limit c.self.inside.answers.items c.self.inside.told c.self.inside.steps c.self.inside.start (g.P.Points.points c.self.inside.points) st c.self.inside.way.items) c.in-Ended.is wide in
-    laws.ended_by _ c.args.self.now _ _ (Ended (verdict_of c.in-Ended.end)) c.self.view_is (sym c.last_event.ensures)
-    (laws.last_at c.of-self-inside.result.value c.self.inside.pattern c.self.inside.subject.items c.self.inside.anchored c.self.inside.limit c.self.inside.answers.items c.self.inside.told c.self.inside.steps c.self.inside.start (g.P.Points.points c.self.inside.points) c.self.inside.way.items c.in-Ended.end over) refl (laws.last_length c.of-self-inside.result.value c.self.inside.pattern c.self.inside.subject.items c.self.inside.anchored c.self.inside.limit c.self.inside.answers.items c.self.inside.told c.self.inside.steps c.self.inside.start (g.P.Points.points c.self.inside.points) c.self.inside.way.items c.in-Ended.end over)
 
 pub invariant_of-self : goal.invariant_of-self
 invariant_of-self g c =
-    let begins : Begins c.self.inside.lent.value c.of-self-inside.result.value = (c.requires.table.0, c.of-self-inside.ensures ∙ c.requires.table.1 ∙ ap (λ (m : Session). m.nodes ++ c.requires.table.0) (sym c.self.view_is)) in
-    let wide = grown c.self.inside.lent.value c.of-self-inside.result.value begins c.self.inside.pattern c.self.inside.subject.items c.self.inside.anchored c.self.inside.limit c.self.inside.answers.items c.self.inside.told c.self.inside.steps c.self.inside.start (g.P.Points.points c.self.inside.points) c.self.inside.state c.self.inside.way.items c.self.invariant in
-    wide
+    laws.lent_match c.args.self.now c.self.inside.lent.value c.self.inside.pattern c.self.inside.subject.items c.self.inside.anchored c.self.inside.limit c.self.inside.answers.items c.self.inside.told c.self.inside.steps c.self.inside.state c.self.inside.way.items (g.P.Points.points c.self.inside.points) (g.P.Points.records c.self.inside.points) c.self.inside.start c.self.view_is c.self.invariant
+    c.of-self-inside.result.value c.args.patterns.now c.of-self-inside.ensures c.requires.table
 
-pub tell_next-requires : goal.tell_next-requires
-tell_next-requires g c =
-    let begins : Begins c.self.inside.lent.value c.of-self-inside.result.value = (c.requires.table.0, c.of-self-inside.ensures ∙ c.requires.table.1 ∙ ap (λ (m : Session). m.nodes ++ c.requires.table.0) (sym c.self.view_is)) in
-    let wide = grown c.self.inside.lent.value c.of-self-inside.result.value begins c.self.inside.pattern c.self.inside.subject.items c.self.inside.anchored c.self.inside.limit c.self.inside.answers.items c.self.inside.told c.self.inside.steps c.self.inside.start (g.P.Points.points c.self.inside.points) c.self.inside.state c.self.inside.way.items c.self.invariant in
-    let asked = ap (λ (m : Session). m.waits) c.self.view_is ∙ c.requires.asked in
-    let going : c.self.inside.state ≡ S.Going = laws.going_of c.self.inside.state asked c.in_default.not-Ended in
-    let inv = subst (λ (st : State). IsMatch c.of-self-inside.result.value c.self.inside.pattern c.self.inside.subject.items c.self.inside.anchored c.self.inside.limit c.self.inside.answers.items c.self.inside.told c.self.inside.steps c.self.inside.start (g.P.Points.points c.self.inside.points) st c.self.inside.way.items) going wide in
-    let e : c.args.patterns.now ≡ c.of-self-inside.result.value = sym c.of-self-inside.ensures in
-    let f : c.deref.result.now ≡ c.self.inside.subject.items = c.deref.ensures.value in
-    record {
-      stack = laws.moved (λ n t. IsStack n (length t) (g.P.Points.points c.self.inside.points)) c.of-self-inside.result.value c.args.patterns.now c.self.inside.subject.items c.deref.result.now (sym e) (sym f) inv.stack;
-      pattern = laws.moved (λ n t. c.self.inside.pattern.0 < length n) c.of-self-inside.result.value c.args.patterns.now c.self.inside.subject.items c.deref.result.now (sym e) (sym f) inv.pattern_in;
-      start = laws.moved (λ n t. c.self.inside.start ≤ length t) c.of-self-inside.result.value c.args.patterns.now c.self.inside.subject.items c.deref.result.now (sym e) (sym f) inv.start_in;
-      steps = inv.steps_in;
-    }
+pub invariant_of-self-2 : goal.invariant_of-self-2
+invariant_of-self-2 g c =
+    laws.lent_match c.args.self.now c.self.inside.lent.value c.self.inside.pattern c.self.inside.subject.items c.self.inside.anchored c.self.inside.limit c.self.inside.answers.items c.self.inside.told c.self.inside.steps c.self.inside.state c.self.inside.way.items (g.P.Points.points c.self.inside.points) (g.P.Points.records c.self.inside.points) c.self.inside.start c.self.view_is c.self.invariant
+    c.of-self-inside.result.value c.args.patterns.now c.of-self-inside.ensures c.requires.table
 
-pub invariant_of-self-in_err-told : goal.invariant_of-self-in_err-told
-invariant_of-self-in_err-told g c =
-    let begins : Begins c.self.inside.lent.value c.of-self-inside.result.value = (c.requires.table.0, c.of-self-inside.ensures ∙ c.requires.table.1 ∙ ap (λ (m : Session). m.nodes ++ c.requires.table.0) (sym c.self.view_is)) in
-    let wide = grown c.self.inside.lent.value c.of-self-inside.result.value begins c.self.inside.pattern c.self.inside.subject.items c.self.inside.anchored c.self.inside.limit c.self.inside.answers.items c.self.inside.told c.self.inside.steps c.self.inside.start (g.P.Points.points c.self.inside.points) c.self.inside.state c.self.inside.way.items c.self.invariant in
-    let asked = ap (λ (m : Session). m.waits) c.self.view_is ∙ c.requires.asked in
-    let going : c.self.inside.state ≡ S.Going = laws.going_of c.self.inside.state asked c.in_default.not-Ended in
-    let inv = subst (λ (st : State). IsMatch c.of-self-inside.result.value c.self.inside.pattern c.self.inside.subject.items c.self.inside.anchored c.self.inside.limit c.self.inside.answers.items c.self.inside.told c.self.inside.steps c.self.inside.start (g.P.Points.points c.self.inside.points) st c.self.inside.way.items) going wide in
-    let e : c.args.patterns.now ≡ c.of-self-inside.result.value = sym c.of-self-inside.ensures in
-    let f : c.deref.result.now ≡ c.self.inside.subject.items = c.deref.ensures.value in
-    let stack = laws.moved (λ n t. IsStack n (length t) (g.P.Points.points c.tell_next.new.points)) c.args.patterns.now c.of-self-inside.result.value c.deref.result.now c.self.inside.subject.items e f c.in_err-told.ensures.stack in
-    let start_in = laws.moved (λ n t. c.tell_next.new.start ≤ length t) c.args.patterns.now c.of-self-inside.result.value c.deref.result.now c.self.inside.subject.items e f c.in_err-told.ensures.start in
-    let goes = laws.moved (λ n t. GoesOn n t c.self.inside.anchored c.self.inside.pattern c.self.inside.limit c.self.inside.start (g.P.Points.points c.self.inside.points) c.self.inside.steps c.tell_next.new.start (g.P.Points.points c.tell_next.new.points) c.tell_next.new.steps) c.args.patterns.now c.of-self-inside.result.value c.deref.result.now c.self.inside.subject.items e f c.in_err-told.ensures.err.0 in
-    subst (λ (st : State). IsMatch c.of-self-inside.result.value c.self.inside.pattern c.self.inside.subject.items c.self.inside.anchored c.self.inside.limit c.self.inside.answers.items c.self.inside.told c.tell_next.new.steps c.tell_next.new.start (g.P.Points.points c.tell_next.new.points) st c.tell_next.new.way.items) (sym going)
-    (laws.err_match c.of-self-inside.result.value c.self.inside.pattern c.self.inside.subject.items c.self.inside.anchored c.self.inside.limit c.self.inside.answers.items c.self.inside.told c.self.inside.steps c.self.inside.start (g.P.Points.points c.self.inside.points) c.self.inside.way.items inv c.tell_next.new.steps c.tell_next.new.start (g.P.Points.points c.tell_next.new.points) c.tell_next.new.way.items c.in_err-told.ensures.steps start_in stack goes)
+pub returns-in-Ended-clause-same : goal.returns-in-Ended-clause-same
+returns-in-Ended-clause-same g c =
+    laws.lent_same c.args.self.now c.self.inside.lent.value c.self.inside.pattern c.self.inside.subject.items c.self.inside.anchored c.self.inside.limit c.self.inside.answers.items c.self.inside.told c.self.inside.steps c.self.inside.state c.self.inside.way.items (g.P.Points.points c.self.inside.points) (g.P.Points.records c.self.inside.points) c.self.inside.start c.self.view_is c.self.invariant
+    c.of-self-inside.result.value c.args.patterns.now c.of-self-inside.ensures c.requires.table
 
-pub overflow_add-self : goal.overflow_add-self
-overflow_add-self g c =
-    let few = laws.count_fits c.self.inside.lent.value c.self.inside.pattern c.self.inside.subject.items c.self.inside.anchored c.self.inside.limit c.self.inside.answers.items c.self.inside.told c.self.inside.steps c.self.inside.start (g.P.Points.points c.self.inside.points) c.self.inside.state c.self.inside.way.items c.self.invariant in
-    let one = laws.ended_at_most c.self.inside.state in
-    let ranges = c.self.ranges in
-    first_of (omega (arith, few, one), omega (arith, few, one, ranges), grind (arith, common_steps), search rules)
+pub returns-in-Ended-clause-ok : goal.returns-in-Ended-clause-ok
+returns-in-Ended-clause-ok g c =
+    laws.lent_again c.args.self.now c.self.inside.lent.value c.self.inside.pattern c.self.inside.subject.items c.self.inside.anchored c.self.inside.limit c.self.inside.answers.items c.self.inside.told c.self.inside.steps c.self.inside.state c.self.inside.way.items (g.P.Points.points c.self.inside.points) (g.P.Points.records c.self.inside.points) c.self.inside.start c.self.view_is c.self.invariant
+    c.of-self-inside.result.value c.args.patterns.now c.of-self-inside.ensures c.requires.table
+    c.in-Ended.event c.in-Ended.is
+
+pub returns-in-Ended-clause-counts : goal.returns-in-Ended-clause-counts
+returns-in-Ended-clause-counts g c =
+    let kept = laws.lent_match c.args.self.now c.self.inside.lent.value c.self.inside.pattern c.self.inside.subject.items c.self.inside.anchored c.self.inside.limit c.self.inside.answers.items c.self.inside.told c.self.inside.steps c.self.inside.state c.self.inside.way.items (g.P.Points.points c.self.inside.points) (g.P.Points.records c.self.inside.points) c.self.inside.start c.self.view_is c.self.invariant
+    c.of-self-inside.result.value c.args.patterns.now c.of-self-inside.ensures c.requires.table in
+    match_counted _ _ _ _ kept refl
 
 pub returns-in-Ended-clause-ways : goal.returns-in-Ended-clause-ways
-returns-in-Ended-clause-ways g c = session-ways _
+returns-in-Ended-clause-ways g c =
+    let told = laws.lent_again c.args.self.now c.self.inside.lent.value c.self.inside.pattern c.self.inside.subject.items c.self.inside.anchored c.self.inside.limit c.self.inside.answers.items c.self.inside.told c.self.inside.steps c.self.inside.state c.self.inside.way.items (g.P.Points.points c.self.inside.points) (g.P.Points.records c.self.inside.points) c.self.inside.start c.self.view_is c.self.invariant
+    c.of-self-inside.result.value c.args.patterns.now c.of-self-inside.ensures c.requires.table
+    c.in-Ended.event c.in-Ended.is in
+    told-ways _ _ _ told
 
-pub returns-in_err-told-clause-ways : goal.returns-in_err-told-clause-ways
-returns-in_err-told-clause-ways g c = session-ways _
+pub returns-in_err-event-clause-same : goal.returns-in_err-event-clause-same
+returns-in_err-event-clause-same g c =
+    let same = laws.lent_same c.args.self.now c.self.inside.lent.value c.self.inside.pattern c.self.inside.subject.items c.self.inside.anchored c.self.inside.limit c.self.inside.answers.items c.self.inside.told c.self.inside.steps c.self.inside.state c.self.inside.way.items (g.P.Points.points c.self.inside.points) (g.P.Points.records c.self.inside.points) c.self.inside.start c.self.view_is c.self.invariant
+    c.of-self-inside.result.value c.args.patterns.now c.of-self-inside.ensures c.requires.table in
+    let goes = c.loop-event.invariant in
+    rw c.in_err-event.ensures.err (laws.same_then _ _ _ same goes.same)
+
+pub returns-in_err-event-clause-err : goal.returns-in_err-event-clause-err
+returns-in_err-event-clause-err g c =
+    let stays = laws.lent_stays c.args.self.now c.self.inside.lent.value c.self.inside.pattern c.self.inside.subject.items c.self.inside.anchored c.self.inside.limit c.self.inside.answers.items c.self.inside.told c.self.inside.steps c.self.inside.state c.self.inside.way.items (g.P.Points.points c.self.inside.points) (g.P.Points.records c.self.inside.points) c.self.inside.start c.self.view_is c.self.invariant
+    c.of-self-inside.result.value c.args.patterns.now c.of-self-inside.ensures c.requires.table
+    c.requires.asked c.in_default.not-Ended in
+    let goes = c.loop-event.invariant in
+    let far = laws.stays_then _ _ _ stays goes.stays in
+    let p = err_from_is_err_and c.from_residual.result c.from_residual.ensures.1 in
+    rw (p.1, c.in_err-event.ensures.err) far
+
+pub returns-in_err-event-clause-again : goal.returns-in_err-event-clause-again
+returns-in_err-event-clause-again g c =
+    λ h. absurd (laws.never_again c.args.self.now c.self.inside.lent.value c.self.inside.pattern c.self.inside.subject.items c.self.inside.anchored c.self.inside.limit c.self.inside.answers.items c.self.inside.told c.self.inside.steps c.self.inside.state c.self.inside.way.items (g.P.Points.points c.self.inside.points) (g.P.Points.records c.self.inside.points) c.self.inside.start c.self.view_is c.self.invariant
+    c.of-self-inside.result.value c.args.patterns.now c.of-self-inside.ensures c.requires.table
+    c.requires.asked c.in_default.not-Ended h)
+
+pub returns-in_err-event-clause-ways : goal.returns-in_err-event-clause-ways
+returns-in_err-event-clause-ways g c =
+    let p = err_from_is_err_and c.from_residual.result c.from_residual.ensures.1 in
+    rw p.1 (refused-ways _ _)
+
+pub returns-in-Some : goal.returns-in-Some
+returns-in-Some g c =
+    let moves = rw c.in-Some.is at c.in_ok-event.ensures.ok in
+    let same = laws.lent_same c.args.self.now c.self.inside.lent.value c.self.inside.pattern c.self.inside.subject.items c.self.inside.anchored c.self.inside.limit c.self.inside.answers.items c.self.inside.told c.self.inside.steps c.self.inside.state c.self.inside.way.items (g.P.Points.points c.self.inside.points) (g.P.Points.records c.self.inside.points) c.self.inside.start c.self.view_is c.self.invariant
+    c.of-self-inside.result.value c.args.patterns.now c.of-self-inside.ensures c.requires.table in
+    let stays = laws.lent_stays c.args.self.now c.self.inside.lent.value c.self.inside.pattern c.self.inside.subject.items c.self.inside.anchored c.self.inside.limit c.self.inside.answers.items c.self.inside.told c.self.inside.steps c.self.inside.state c.self.inside.way.items (g.P.Points.points c.self.inside.points) (g.P.Points.records c.self.inside.points) c.self.inside.start c.self.view_is c.self.invariant
+    c.of-self-inside.result.value c.args.patterns.now c.of-self-inside.ensures c.requires.table
+    c.requires.asked c.in_default.not-Ended in
+    let goes = c.loop-event.invariant in
+    let far = laws.stays_then _ _ _ stays goes.stays in
+    let told = laws.told_then _ _ _ c.in-Some.event far moves.2 in
+    record {
+      table = moves.0 ∙ goes.nodes ∙ c.of-self-inside.ensures;
+      same = laws.same_then _ _ _ (laws.same_then _ _ _ same goes.same) moves.1;
+      ok = told;
+      err = tt;
+      again = λ h. absurd (laws.never_again c.args.self.now c.self.inside.lent.value c.self.inside.pattern c.self.inside.subject.items c.self.inside.anchored c.self.inside.limit c.self.inside.answers.items c.self.inside.told c.self.inside.steps c.self.inside.state c.self.inside.way.items (g.P.Points.points c.self.inside.points) (g.P.Points.records c.self.inside.points) c.self.inside.start c.self.view_is c.self.invariant
+          c.of-self-inside.result.value c.args.patterns.now c.of-self-inside.ensures c.requires.table
+          c.requires.asked c.in_default.not-Ended h);
+      counts = c.in_ok-event.ensures.counts;
+      ways = told-ways _ _ _ told;
+    }
