@@ -1,6 +1,7 @@
 //! A string of bytes.
-ghost use Rattle.std.specs.Prelude.{◌≡◌};
+ghost use Rattle.std.specs.Prelude.{◌≡◌, IfOk};
 
+use std::alloc::{AllocError, Global};
 use std::marker::Model;
 
 /// A string of bytes, which contracts see as a list.
@@ -37,5 +38,13 @@ impl Text {
         ensures { result.items ≡ self }
     {
         self.bytes
+    }
+
+    /// An equal string.
+    pub fn copy(&self, alloc: Global) -> Result<Text, AllocError>
+        ensures { IfOk result (λ text. text ≡ self.now) }
+    {
+        let bytes = Vec::from_slice(alloc, self.as_slice())?;
+        Ok(Text { bytes })
     }
 }

@@ -1,6 +1,9 @@
 //! Values, and the names that can be assigned to.
+ghost use Rattle.std.specs.Prelude.{◌≡◌, IfOk};
+
 use crate::ids::{ExprId, ObjId, PatId, SymId};
 use crate::text::Text;
+use std::alloc::{AllocError, Global};
 
 /// What can be assigned to: a variable, an element of an array, or an entry of a table. Elements and entries are
 /// counted from 0.
@@ -21,4 +24,21 @@ pub enum Value {
     Name(Name),
     Array(ObjId),
     Table(ObjId),
+}
+
+impl Value {
+    /// An equal value. Only a string takes memory.
+    pub fn copy(&self, alloc: Global) -> Result<Value, AllocError>
+        ensures { IfOk result (λ value. value ≡ self.now) }
+    {
+        Ok(match self {
+            Value::Str(text) => Value::Str(text.copy(alloc)?),
+            Value::Int(n) => Value::Int(*n),
+            Value::Pat(pattern) => Value::Pat(*pattern),
+            Value::Expr(expression) => Value::Expr(*expression),
+            Value::Name(name) => Value::Name(*name),
+            Value::Array(array) => Value::Array(*array),
+            Value::Table(table) => Value::Table(*table),
+        })
+    }
 }
