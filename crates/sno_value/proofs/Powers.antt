@@ -1,10 +1,11 @@
 -- The power to a large exponent, by one that is small.
-use Rattle.std.proofs.Common.{◌≡◌, ℕ, zero, suc, ◌+◌, ◌%◌, ◌^◌, ◌<◌, ◌≤◌, ◌⊎◌, pos, neg_ℤ, negsuc, ℤ, refl, sym, ◌∙◌, ap, cond, ◌==◌, Err, arith, le_trans, inl, inr, Bool, true, false}
-use Rattle.std.proofs.Math.Nat.{pow-suc, pow-le-pow_left, pow-le-pow_right, mul-one, mul-zero}
+use Rattle.std.proofs.Common.{◌≡◌, ℕ, zero, suc, ◌+◌, ◌%◌, ◌^◌, ◌<◌, ◌≤◌, ◌⊎◌, pos, neg_ℤ, ◌*ℤ◌, negsuc, ℤ, refl, sym, ◌∙◌, ap, ap₂, cond, not, ◌*◌, ◌==◌, Err, arith, le_trans, inl, inr, Bool, true, false}
+use Rattle.std.proofs.Math.Nat.{pow-zero, pow-suc, pow-succ', pow-le-pow_left, pow-le-pow_right, mul-one, mul-zero}
 use Rattle.std.proofs.lemmas.Grind.{common_steps}
+use Rattle.std.proofs.lemmas.Bool.Decides.{nat_tests}
 use Rattle.std.specs.Int.{int_pow}
 use Rattle.sno_value.specs.declared.arithmetic.Arith.TheVariants.{Overflow}
-use Rattle.sno_value.specs.Arithmetic.{fitted}
+use Rattle.sno_value.specs.Arithmetic.{fitted, power}
 
 one_power : (n : ℕ) → 1 ^ n ≡ 1
 one_power zero = refl
@@ -40,5 +41,24 @@ power_by_parity (negsuc a) m n h k e =
     same_answer (m % 2 == 0) (suc a ^ m) (suc a ^ n) (same_or_large (suc a) m n h k)
     ∙ ap (λ r. fitted (cond (r == 0) (pos (suc a ^ n)) (neg_ℤ (pos (suc a ^ n))))) e
 
-pub power_of_large : (n : ℕ) → 64 ≤ n → (x : ℤ) → fitted (int_pow x (64 + n % 2)) ≡ fitted (int_pow x n)
-power_of_large n h x = power_by_parity x (64 + n % 2) n (omega arith) h (omega arith)
+next_parity : (n : ℕ) → (suc n % 2 == 0) ≡ not (n % 2 == 0)
+next_parity n = grind (arith, nat_tests)
+
+sign_turns : (a : ℕ) (even : Bool) (p : ℕ)
+    → negsuc a *ℤ cond even (pos p) (neg_ℤ (pos p)) ≡ cond (not even) (pos (suc a * p)) (neg_ℤ (pos (suc a * p)))
+sign_turns a true p = refl
+sign_turns a false zero = ap (λ k. neg_ℤ (pos k)) (mul-zero (suc a)) ∙ sym (ap pos (mul-zero (suc a)))
+sign_turns a false (suc p) = refl
+
+-- std's power, by sign and parity, is the product
+pub int_pow_is : (x : ℤ) (n : ℕ) → int_pow x n ≡ power x n
+unfolding power
+int_pow_is (pos a) zero = ap pos (pow-zero a)
+int_pow_is (pos a) (suc n) = ap pos (pow-succ' a n) ∙ ap (λ z. pos a *ℤ z) (int_pow_is (pos a) n)
+int_pow_is (negsuc a) zero = ap pos (pow-zero (suc a))
+int_pow_is (negsuc a) (suc n) =
+    ap₂ (λ even q. cond even (pos q) (neg_ℤ (pos q))) (next_parity n) (pow-succ' (suc a) n)
+    ∙ sym (sign_turns a (n % 2 == 0) (suc a ^ n)) ∙ ap (λ z. negsuc a *ℤ z) (int_pow_is (negsuc a) n)
+
+pub power_of_large : (n : ℕ) → 64 ≤ n → (x : ℤ) → fitted (int_pow x (64 + n % 2)) ≡ fitted (power x n)
+power_of_large n h x = power_by_parity x (64 + n % 2) n (omega arith) h (omega arith) ∙ ap fitted (int_pow_is x n)

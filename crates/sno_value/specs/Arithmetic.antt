@@ -1,6 +1,5 @@
 -- What each operation on integers answers: the mathematical result in ℤ, where it fits 64 bits.
-use Rattle.std.specs.Prelude.{ℤ, pos, negsuc, ◌+ℤ◌, ◌-ℤ◌, ◌*ℤ◌, neg_ℤ, int_div, int_rem, int_le, int_lt, ◌^◌, Bool, ◌&&◌, Result, Ok, Err, if◌then◌else◌}
-use Rattle.std.specs.Int.{int_pow}
+use Rattle.std.specs.Prelude.{ℕ, zero, suc, ℤ, pos, negsuc, ◌+ℤ◌, ◌-ℤ◌, ◌*ℤ◌, neg_ℤ, int_div, int_rem, int_le, int_lt, ◌^◌, Bool, ◌&&◌, Result, Ok, Err, if◌then◌else◌}
 use Rattle.std.specs.Ordering.{int_eq}
 use Rattle.sno_value.specs.declared.arithmetic.Arith.{Arith}
 use Rattle.sno_value.specs.declared.arithmetic.Arith.TheVariants.{Overflow, DivisionByZero, BadExponent}
@@ -30,7 +29,11 @@ quotient_of x y = if int_eq y (pos 0) then Err DivisionByZero else fitted (int_d
 abbrev pub remainder_of : ℤ → ℤ → Result ℤ Arith
 remainder_of x y = if int_eq y (pos 0) then Err DivisionByZero else Ok (int_rem x y)
 
--- x ^ 0 is 1, that of 0 too
+-- x multiplied by itself n times; the empty product is 1, that of 0 too
+unfoldable pub power : ℤ → ℕ → ℤ
+power x zero = pos 1
+power x (suc n) = x *ℤ power x n
+
 abbrev pub power_of : ℤ → ℤ → Result ℤ Arith
-power_of x (pos n) = fitted (int_pow x n)
+power_of x (pos n) = fitted (power x n)
 power_of x (negsuc n) = Err BadExponent

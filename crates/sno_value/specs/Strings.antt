@@ -1,5 +1,5 @@
 -- What the functions on strings give.
-use Rattle.std.specs.Prelude.{ℕ, zero, suc, ◌*◌, ℤ, pos, negsuc, Bool, true, false, nat_lt, ◌==◌, List, [], ◌∷◌, ◌++◌, length, Option, Some, None, Result, Ok, Err, ◌&&◌, Vec, option_map, if◌then◌else◌}
+use Rattle.std.specs.Prelude.{ℕ, zero, suc, ◌*◌, ℤ, pos, negsuc, Bool, true, false, nat_lt, ◌==◌, List, [], ◌∷◌, ◌++◌, map, length, Option, Some, None, Result, Ok, Err, ◌&&◌, Vec, option_map, if◌then◌else◌}
 use Rattle.std.specs.Global.{Global}
 use Rattle.std.specs.List.{list_any, list_all}
 use Rattle.sno_value.specs.declared.strings.TextError.{TextError}
@@ -27,15 +27,19 @@ replacement (from ∷ froms) [] b = b
 replacement (from ∷ froms) (to ∷ tos) b =
     if list_any (λ c. c == b) froms then replacement froms tos b else (if from == b then to else b)
 
+-- there is something to replace, and a byte for each
+abbrev pub can_replace : List ℕ → List ℕ → Bool
+can_replace froms tos = nat_lt 0 (length froms) && length froms == length tos
+
+-- the text with each byte replaced
+abbrev pub replaced : List ℕ → List ℕ → List ℕ → Option (List ℕ)
+replaced text froms tos = if can_replace froms tos then Some (map (replacement froms tos) text) else None
+
 -- x is after y in byte order: at the first difference it has the greater byte, or y is the beginning of it
 abbrev pub is_after : List ℕ → List ℕ → Bool
 is_after [] ys = false
 is_after (x ∷ xs) [] = true
 is_after (x ∷ xs) (y ∷ ys) = if x == y then is_after xs ys else nat_lt y x
-
--- there is something to replace, and a byte for each
-abbrev pub can_replace : List ℕ → List ℕ → Bool
-can_replace froms tos = nat_lt 0 (length froms) && length froms == length tos
 
 -- an answer, as the list of its bytes
 abbrev pub items_of : Option (Vec ℕ Global) → Option (List ℕ)

@@ -1,7 +1,7 @@
 //! Arithmetic on integers of 64 bits.
 ghost use Rattle.std.specs.Prelude.{◌≡◌, ℤ};
 ghost use Rattle.std.specs.Int.{int_pow};
-ghost use Rattle.sno_value.specs.Arithmetic.{fitted, sum_of, difference_of, product_of, quotient_of, remainder_of, power_of};
+ghost use Rattle.sno_value.specs.Arithmetic.{fitted, sum_of, difference_of, product_of, quotient_of, remainder_of, power, power_of};
 
 /// Why an operation has no result.
 #[derive(Clone, Copy, Debug, PartialEq, Eq)]
@@ -72,9 +72,9 @@ pub fn pow(base: i64, exponent: i64) -> Result<i64, Arith>
 
 // An exponent that stands for a large one: from 64 on a power of -1, 0 or 1 goes by the exponent's parity, and that of
 // any other base overflows.
-#[tactic(auto, using(crate::proofs::Powers::power_of_large))]
+#[tactic(auto, using(crate::proofs::Powers::power_of_large, crate::proofs::Powers::int_pow_is))]
 fn small_exponent(exponent: u64) -> u32
-    ensures { (base : ℤ) → fitted (int_pow base result) ≡ fitted (int_pow base exponent) }
+    ensures { (base : ℤ) → fitted (int_pow base result) ≡ fitted (power base exponent) }
 {
     if exponent < 64 {
         exponent as u32
@@ -91,4 +91,106 @@ pub fn remdr(a: i64, b: i64) -> Result<i64, Arith>
         return Err(Arith::DivisionByZero);
     }
     Ok(a.wrapping_rem(b))
+}
+
+#[cfg(test)]
+mod tests {
+    use super::*;
+
+    #[test]
+    fn worked_rows(rt: HostRuntime) {
+        assert_eq!(rt; pow(2, 62), Ok(4_611_686_018_427_387_904));
+        assert_eq!(rt; pow(2, 63), Err(Arith::Overflow));
+        assert_eq!(rt; pow(-2, 63), Ok(i64::MIN));
+        assert_eq!(rt; pow(-1, i64::MAX), Ok(-1));
+        assert_eq!(rt; pow(0, -1), Err(Arith::BadExponent));
+        assert_eq!(rt; pow(0, 0), Ok(1));
+        assert_eq!(rt; pow(3, 2), Ok(9));
+        assert_eq!(rt; pow(2, 9), Ok(512));
+        assert_eq!(rt; div(-7, 2), Ok(-3));
+        assert_eq!(rt; remdr(-7, 2), Ok(-1));
+        assert_eq!(rt; remdr(7, 0), Err(Arith::DivisionByZero));
+        assert_eq!(rt; div(1, 0), Err(Arith::DivisionByZero));
+        assert_eq!(rt; mul(2, 3), Ok(6));
+        assert_eq!(rt; div(6, 4), Ok(1));
+        assert_eq!(rt; sub(1, 2), Ok(-1));
+        assert_eq!(rt; sub(-1, 3), Ok(-4));
+        assert_eq!(rt; add(i64::MIN, 0), Ok(i64::MIN));
+    }
+
+    // Each row: a, b, then a + b, a - b, a * b, a / b, the remainder and a ** b; None is an overflow.
+    #[test]
+    fn extremes(rt: HostRuntime) {
+        const MIN: i64 = i64::MIN;
+        const MAX: i64 = i64::MAX;
+        let rows = [
+            (
+                MAX,
+                1,
+                None,
+                Some(MAX - 1),
+                Some(MAX),
+                Some(MAX),
+                0,
+                Some(MAX),
+            ),
+            (
+                MAX,
+                -1,
+                Some(MAX - 1),
+                None,
+                Some(-MAX),
+                Some(-MAX),
+                0,
+                None,
+            ),
+            (
+                MIN,
+                1,
+                Some(MIN + 1),
+                None,
+                Some(MIN),
+                Some(MIN),
+                0,
+                Some(MIN),
+            ),
+            (MIN, -1, None, Some(MIN + 1), None, None, 0, None),
+            (MIN, MIN, None, Some(0), None, Some(1), 0, None),
+            (MAX, MAX, None, Some(0), None, Some(1), 0, None),
+            (MIN, MAX, Some(-1), None, None, Some(-1), -1, None),
+            (MAX, MIN, Some(-1), None, None, Some(0), MAX, None),
+            (1, MAX, None, Some(-MAX + 1), Some(MAX), Some(0), 1, Some(1)),
+            (-1, MIN, None, Some(MAX), None, Some(0), -1, None),
+            (0, MIN, Some(MIN), None, Some(0), Some(0), 0, None),
+            (2, MAX, None, Some(-MAX + 2), None, Some(0), 2, None),
+        ];
+        for (a, b, sum, difference, product, quotient, remainder, power) in rows {
+            assert_eq!(rt; add(a, b), sum.ok_or(Arith::Overflow), "{a} + {b}");
+            assert_eq!(rt; sub(a, b), difference.ok_or(Arith::Overflow), "{a} - {b}");
+            assert_eq!(rt; mul(a, b), product.ok_or(Arith::Overflow), "{a} * {b}");
+            assert_eq!(rt; div(a, b), quotient.ok_or(Arith::Overflow), "{a} / {b}");
+            assert_eq!(rt; remdr(a, b), Ok(remainder), "REMDR({a},{b})");
+            let refusal = if b < 0 {
+                Arith::BadExponent
+            } else {
+                Arith::Overflow
+            };
+            assert_eq!(rt; pow(a, b), power.ok_or(refusal), "{a} ** {b}");
+        }
+    }
+
+    #[test]
+    fn large_exponents(rt: HostRuntime) {
+        for exponent in [64, 65, 1_000_000_000_000, i64::MAX - 1, i64::MAX] {
+            assert_eq!(rt; pow(0, exponent), Ok(0));
+            assert_eq!(rt; pow(1, exponent), Ok(1));
+            assert_eq!(rt;
+                pow(-1, exponent),
+                Ok(if exponent % 2 == 0 { 1 } else { -1 })
+            );
+            for base in [2, -2, 3, i64::MAX, i64::MIN] {
+                assert_eq!(rt; pow(base, exponent), Err(Arith::Overflow));
+            }
+        }
+    }
 }

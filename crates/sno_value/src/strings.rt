@@ -1,6 +1,6 @@
 //! Functions on strings.
-ghost use Rattle.std.specs.Prelude.{◌≡◌, ◌↔◌, ◌<ℤ◌, ◌<◌, ◌≤◌, ◌*◌, ℕ, pos, length, map, Ok, Err, Some, None, IfOk, IsNone, IsOkAnd, false, if◌then◌else◌, slice_index};
-ghost use Rattle.sno_value.specs.Strings.{trimmed, copies, duplicate, replacement, is_after, can_replace, items_of};
+ghost use Rattle.std.specs.Prelude.{◌≡◌, ◌↔◌, ◌<ℤ◌, ◌<◌, ◌≤◌, ◌*◌, ℕ, pos, length, Ok, Err, Some, None, IfOk, IsNone, IsOkAnd, slice_index};
+ghost use Rattle.sno_value.specs.Strings.{trimmed, copies, duplicate, replacement, replaced, is_after, items_of};
 ghost use Rattle.sno_value.specs.declared.strings.TextError.TheVariants.{NoMemory};
 
 use std::alloc::{AllocError, Global};
@@ -80,18 +80,18 @@ pub fn replace(
     from: &[u8],
     to: &[u8],
 ) -> Result<Option<Vec<u8>>, AllocError>
-    ensures ok { IfOk result (λ answer. items_of answer ≡ (if can_replace from.now to.now then Some (map (replacement from.now to.now) text.now) else None)) }
-    ensures refused { can_replace from.now to.now ≡ false → IsOkAnd result IsNone }
+    ensures ok { IfOk result (λ answer. items_of answer ≡ replaced text.now from.now to.now) }
+    ensures refused { replaced text.now from.now to.now ≡ None → IsOkAnd result IsNone }
 {
     if from.is_empty() || from.len() != to.len() {
         return Ok(None);
     }
     let table = replacement_table(from, to);
-    let mut replaced = Vec::with_capacity(alloc, text.len())?;
+    let mut output = Vec::with_capacity(alloc, text.len())?;
     for byte in text {
-        replaced.push(table[*byte as usize])?;
+        output.push(table[*byte as usize])?;
     }
-    Ok(Some(replaced))
+    Ok(Some(output))
 }
 
 // What stands for each byte: a later place in `from` overwrites an earlier one.
@@ -114,4 +114,167 @@ pub fn lgt(text: &[u8], other: &[u8]) -> bool
     ensures { result ≡ is_after text.now other.now }
 {
     text > other
+}
+
+#[cfg(test)]
+mod tests {
+    use super::*;
+    use std::test::Fail;
+
+    fn repeated(rt: &HostRuntime, byte: u8, count: usize) -> Result<Vec<u8>, AllocError> {
+        vec![in rt.alloc(); byte; count]
+    }
+
+    #[test]
+    fn trims(rt: HostRuntime) -> Result<(), Fail> {
+        let rows = [
+            ("", ""),
+            (" ", ""),
+            ("A", "A"),
+            ("A  ", "A"),
+            (" A B ", " A B"),
+            ("A\t ", "A\t"),
+            ("A \t", "A \t"),
+        ];
+        for (text, trimmed) in rows {
+            assert_eq!(rt; trim(text.as_bytes()), trimmed.as_bytes(), "{text}");
+        }
+        for byte in 0..=u8::MAX {
+            let kept = if byte == 32 { 0 } else { 1 };
+            assert_eq!(rt; trim(&[byte]).len(), kept, "byte {byte}");
+            assert_eq!(rt; trim(&[byte, 32]).len(), kept, "byte {byte}");
+        }
+        let mut spaces = repeated(&rt, b' ', 1_000_000)?;
+        assert_eq!(rt; trim(&spaces).len(), 0);
+        spaces.push(b'A')?;
+        assert_eq!(rt; trim(&spaces).len(), 1_000_001);
+        Ok(())
+    }
+
+    #[test]
+    fn duplicates(rt: HostRuntime) -> Result<(), Fail> {
+        let rows = [
+            ("AB", 3, Some("ABABAB")),
+            ("AB", 1, Some("AB")),
+            ("AB", 0, Some("")),
+            ("", i64::MAX, Some("")),
+            ("", 0, Some("")),
+            ("A", -1, None),
+            ("A", i64::MIN, None),
+            ("", -1, None),
+        ];
+        for (text, count, copies) in rows {
+            let answer = dupl(rt.alloc(), text.as_bytes(), count)?;
+            assert_eq!(rt;
+                answer.as_deref(),
+                copies.map(str::as_bytes),
+                "{count} times {text}"
+            );
+        }
+        Ok(())
+    }
+
+    #[test]
+    fn duplicates_up_to_the_limit(rt: HostRuntime) -> Result<(), Fail> {
+        let longest = repeated(&rt, b'A', 1_000_000)?;
+        let too_long = repeated(&rt, b'A', 1_000_001)?;
+        for (text, count) in [
+            ("AB".as_bytes(), 500_000),
+            (b"A".as_slice(), 1_000_000),
+            (longest.as_slice(), 1),
+        ] {
+            let Some(copies) = dupl(rt.alloc(), text, count)? else {
+                return Err(Fail::from("none"))
+            };
+            assert_eq!(rt; copies.len(), 1_000_000);
+        }
+        for (text, count) in [
+            ("AB".as_bytes(), 500_001),
+            (b"A".as_slice(), 1_000_001),
+            (b"A".as_slice(), i64::MAX),
+            (b"AB".as_slice(), i64::MAX),
+            (longest.as_slice(), 2),
+            (too_long.as_slice(), 1),
+        ] {
+            assert_eq!(rt;
+                dupl(rt.alloc(), text, count).err(),
+                Some(TextError::TooLong)
+            );
+        }
+        let Some(none_of_it) = dupl(rt.alloc(), &too_long, 0)? else {
+            return Err(Fail::from("none"))
+        };
+        assert_eq!(rt; none_of_it.len(), 0);
+        Ok(())
+    }
+
+    #[test]
+    fn replaces(rt: HostRuntime) -> Result<(), Fail> {
+        let rows = [
+            ("ABA", "AB", "XY", Some("XYX")),
+            ("A", "AA", "XY", Some("Y")),
+            ("A", "AB", "X", None),
+            ("A", "", "", None),
+            ("", "A", "X", Some("")),
+            ("AB", "BA", "AB", Some("BA")),
+            ("ABC", "BAB", "123", Some("23C")),
+        ];
+        for (text, from, to, replaced) in rows {
+            let answer = replace(rt.alloc(), text.as_bytes(), from.as_bytes(), to.as_bytes())?;
+            assert_eq!(rt;
+                answer.as_deref(),
+                replaced.map(str::as_bytes),
+                "{text} {from} {to}"
+            );
+        }
+        Ok(())
+    }
+
+    #[test]
+    fn replaces_every_byte(rt: HostRuntime) -> Result<(), Fail> {
+        for byte in 0..=u8::MAX {
+            let other = byte ^ 255;
+            let Some(answer) = replace(rt.alloc(), &[byte, other], &[byte], &[7])? else {
+                return Err(Fail::from("none"))
+            };
+            assert_eq!(rt; answer.as_slice(), [7, other].as_slice());
+        }
+        let text = repeated(&rt, b'A', 1_000_000)?;
+        let mut to = repeated(&rt, b'X', 999_999)?;
+        to.push(b'Z')?;
+        let Some(answer) = replace(rt.alloc(), &text, &text, &to)? else {
+            return Err(Fail::from("none"))
+        };
+        assert!(rt; answer.iter().all(|byte| *byte == b'Z'));
+        Ok(())
+    }
+
+    #[test]
+    fn compares(rt: HostRuntime) -> Result<(), Fail> {
+        let rows = [
+            ("A", "", true),
+            ("", "", false),
+            ("", "A", false),
+            ("B", "A", true),
+            ("A", "A", false),
+            ("AB", "A", true),
+            ("A", "AB", false),
+            ("a", "B", true),
+            ("B", "AZ", true),
+        ];
+        for (text, other, after) in rows {
+            assert_eq!(rt;
+                lgt(text.as_bytes(), other.as_bytes()),
+                after,
+                "{text} {other}"
+            );
+        }
+        assert!(rt; lgt(&[255], &[127]));
+        assert!(rt; lgt(&[0], &[]));
+        let shorter = repeated(&rt, b'A', 1_000_000)?;
+        let longer = repeated(&rt, b'A', 1_000_001)?;
+        assert!(rt; lgt(&longer, &shorter));
+        assert!(rt; !lgt(&shorter, &longer));
+        Ok(())
+    }
 }

@@ -3,4 +3,4 @@ use Rattle.sno_value.specs.Strings.{replacement}
 use Rattle.sno_value.proofs.strings.replace.Given as goal
 
 abbrev pub invariant-loop-byte : goal.invariant-loop-byte
-invariant-loop-byte l = l.replaced.items ≡ map (replacement l.from l.to) (take l.byte-index l.text)
+invariant-loop-byte l = l.output.items ≡ map (replacement l.from l.to) (take l.byte-index l.text)
