@@ -26,6 +26,7 @@ impl From<AllocError> for TextError {
 }
 
 /// The text without its trailing spaces (byte 32 alone, this profile).
+#[tactic(auto, using(crate::proofs::TrailingSpaces::trim_step, crate::proofs::TrailingSpaces::trim_end))]
 pub fn trim(text: &[u8]) -> &[u8]
     ensures { result.now ≡ trimmed text.now }
 {
@@ -110,6 +111,7 @@ fn replacement_table(from: &[u8], to: &[u8]) -> [u8; 256]
 }
 
 /// Whether the text is after the other in byte order.
+#[tactic(auto, using(crate::proofs::ByteOrder::greater_is_after))]
 pub fn lgt(text: &[u8], other: &[u8]) -> bool
     ensures { result ≡ is_after text.now other.now }
 {
