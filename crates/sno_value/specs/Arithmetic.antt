@@ -1,5 +1,5 @@
 -- What each operation on integers answers: the mathematical result in ℤ, where it fits 64 bits.
-use Rattle.std.specs.Prelude.{ℕ, zero, suc, ℤ, pos, negsuc, ◌+ℤ◌, ◌-ℤ◌, ◌*ℤ◌, neg_ℤ, int_div, int_rem, int_le, int_lt, ◌^◌, Bool, ◌&&◌, Result, Ok, Err, if◌then◌else◌}
+use Rattle.std.specs.Prelude.{ℕ, zero, suc, ℤ, pos, negsuc, ◌+ℤ◌, ◌-ℤ◌, ◌*ℤ◌, neg_ℤ, int_div, int_rem, int_le, int_lt, ◌^◌, Bool, ◌&&◌, List, codes, Result, Ok, Err, if◌then◌else◌}
 use Rattle.std.specs.Ordering.{int_eq}
 use Rattle.sno_value.specs.declared.arithmetic.Arith.{Arith}
 use Rattle.sno_value.specs.declared.arithmetic.Arith.TheVariants.{Overflow, DivisionByZero, BadExponent}
@@ -37,3 +37,9 @@ power x (suc n) = x *ℤ power x n
 abbrev pub power_of : ℤ → ℤ → Result ℤ Arith
 power_of x (pos n) = fitted (power x n)
 power_of x (negsuc n) = Err BadExponent
+
+-- the error's text
+abbrev pub message_of : Arith → List ℕ
+message_of Overflow = codes "overflow"
+message_of DivisionByZero = codes "division by zero"
+message_of BadExponent = codes "negative exponent"

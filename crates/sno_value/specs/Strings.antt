@@ -1,9 +1,9 @@
 -- What the functions on strings give.
-use Rattle.std.specs.Prelude.{ℕ, zero, suc, ◌*◌, ℤ, pos, negsuc, Bool, true, false, nat_lt, ◌==◌, List, [], ◌∷◌, ◌++◌, map, length, Option, Some, None, Result, Ok, Err, ◌&&◌, Vec, option_map, if◌then◌else◌}
+use Rattle.std.specs.Prelude.{ℕ, zero, suc, ◌*◌, ℤ, pos, negsuc, Bool, true, false, nat_lt, ◌==◌, List, codes, [], ◌∷◌, ◌++◌, map, length, Option, Some, None, Result, Ok, Err, ◌&&◌, Vec, option_map, if◌then◌else◌}
 use Rattle.std.specs.Global.{Global}
 use Rattle.std.specs.List.{list_any, list_all}
 use Rattle.sno_value.specs.declared.strings.TextError.{TextError}
-use Rattle.sno_value.specs.declared.strings.TextError.TheVariants.{TooLong}
+use Rattle.sno_value.specs.declared.strings.TextError.TheVariants.{TooLong, NoMemory}
 
 -- the text up to its last byte that is no space (32)
 abbrev pub trimmed : List ℕ → List ℕ
@@ -44,3 +44,8 @@ is_after (x ∷ xs) (y ∷ ys) = if x == y then is_after xs ys else nat_lt y x
 -- an answer, as the list of its bytes
 abbrev pub items_of : Option (Vec ℕ Global) → Option (List ℕ)
 items_of answer = option_map (λ v. v.items) answer
+
+-- the error's text
+abbrev pub message_of : TextError → List ℕ
+message_of TooLong = codes "string too long"
+message_of NoMemory = codes "no memory"

@@ -1,7 +1,10 @@
 //! Arithmetic on integers of 64 bits.
-ghost use Rattle.std.specs.Prelude.{◌≡◌, ℤ};
+ghost use Rattle.std.specs.Prelude.{◌≡◌, ℤ, Some};
 ghost use Rattle.std.specs.Int.{int_pow};
-ghost use Rattle.sno_value.specs.Arithmetic.{fitted, sum_of, difference_of, product_of, quotient_of, remainder_of, power, power_of};
+ghost use Rattle.sno_value.specs.Arithmetic.{message_of, fitted, sum_of, difference_of, product_of, quotient_of, remainder_of, power, power_of};
+
+use std::error::Error;
+use std::fmt;
 
 /// Why an operation has no result.
 #[derive(Clone, Copy, Debug, PartialEq, Eq)]
@@ -13,6 +16,20 @@ pub enum Arith {
     /// The exponent is negative (this profile).
     BadExponent,
 }
+
+impl fmt::Display for Arith {
+    ghost output = { λ e. Some (message_of e) };
+
+    fn fmt<W: fmt::Write>(&self, f: &mut fmt::Formatter<W>) -> fmt::Result {
+        f.write_str(match self {
+            Arith::Overflow => "overflow",
+            Arith::DivisionByZero => "division by zero",
+            Arith::BadExponent => "negative exponent",
+        })
+    }
+}
+
+impl Error for Arith {}
 
 /// `a + b`.
 pub fn add(a: i64, b: i64) -> Result<i64, Arith>
@@ -96,6 +113,7 @@ pub fn remdr(a: i64, b: i64) -> Result<i64, Arith>
 #[cfg(test)]
 mod tests {
     use super::*;
+    use std::test::Fail;
 
     #[test]
     fn worked_rows(rt: HostRuntime) {
@@ -177,6 +195,19 @@ mod tests {
             };
             assert_eq!(rt; pow(a, b), power.ok_or(refusal), "{a} ** {b}");
         }
+    }
+
+    #[test]
+    fn messages(rt: HostRuntime) -> Result<(), Fail> {
+        let rows = [
+            (Arith::Overflow, "overflow"),
+            (Arith::DivisionByZero, "division by zero"),
+            (Arith::BadExponent, "negative exponent"),
+        ];
+        for (error, text) in rows {
+            assert_eq!(rt; error.to_string(rt.alloc())?.as_str(), text);
+        }
+        Ok(())
     }
 
     #[test]

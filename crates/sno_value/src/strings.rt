@@ -1,9 +1,11 @@
 //! Functions on strings.
 ghost use Rattle.std.specs.Prelude.{◌≡◌, ◌↔◌, ◌<ℤ◌, ◌<◌, ◌≤◌, ◌*◌, ℕ, pos, length, Ok, Err, Some, None, IfOk, IsNone, IsOkAnd, slice_index};
-ghost use Rattle.sno_value.specs.Strings.{trimmed, copies, duplicate, replacement, replaced, is_after, items_of};
+ghost use Rattle.sno_value.specs.Strings.{trimmed, copies, duplicate, replacement, replaced, is_after, items_of, message_of};
 ghost use Rattle.sno_value.specs.declared.strings.TextError.TheVariants.{NoMemory};
 
 use std::alloc::{AllocError, Global};
+use std::error::Error;
+use std::fmt;
 
 /// The most bytes that a string may have (this profile).
 const MAX_TEXT: usize = 1_000_000;
@@ -20,10 +22,23 @@ pub enum TextError {
 impl From<AllocError> for TextError {
     ghost from_gives = { λ _ e. e ≡ NoMemory };
 
-    fn from(_e: AllocError) -> TextError {
-        TextError::NoMemory
+    fn from(_e: AllocError) -> Self {
+        Self::NoMemory
     }
 }
+
+impl fmt::Display for TextError {
+    ghost output = { λ e. Some (message_of e) };
+
+    fn fmt<W: fmt::Write>(&self, f: &mut fmt::Formatter<W>) -> fmt::Result {
+        f.write_str(match self {
+            TextError::TooLong => "string too long",
+            TextError::NoMemory => "no memory",
+        })
+    }
+}
+
+impl Error for TextError {}
 
 /// The text without its trailing spaces (byte 32 alone, this profile).
 #[tactic(auto, using(crate::proofs::TrailingSpaces::trim_step, crate::proofs::TrailingSpaces::trim_end))]
@@ -125,6 +140,19 @@ mod tests {
 
     fn repeated(rt: &HostRuntime, byte: u8, count: usize) -> Result<Vec<u8>, AllocError> {
         vec![in rt.alloc(); byte; count]
+    }
+
+    #[test]
+    fn messages(rt: HostRuntime) -> Result<(), Fail> {
+        assert_eq!(rt;
+            TextError::TooLong.to_string(rt.alloc())?.as_str(),
+            "string too long"
+        );
+        assert_eq!(rt;
+            TextError::from(AllocError).to_string(rt.alloc())?.as_str(),
+            "no memory"
+        );
+        Ok(())
     }
 
     #[test]

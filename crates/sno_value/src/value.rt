@@ -50,11 +50,21 @@ mod tests {
 
     #[test]
     fn copies_each_value(rt: HostRuntime) -> Result<(), Fail> {
-        let names = [Name::Var(SymId(3)), Name::Elem(ObjId(1), 2), Name::Entry(ObjId(4), 0)];
+        let names = [
+            Name::Var(SymId(3)),
+            Name::Elem(ObjId(1), 2),
+            Name::Entry(ObjId(4), 0),
+        ];
         for name in names {
             assert_eq!(rt; Value::Name(name).copy(rt.alloc())?, Value::Name(name));
         }
-        let numbers = [Value::Int(i64::MIN), Value::Pat(PatId(7)), Value::Expr(ExprId(8)), Value::Array(ObjId(0)), Value::Table(ObjId(0))];
+        let numbers = [
+            Value::Int(i64::MIN),
+            Value::Pat(PatId(7)),
+            Value::Expr(ExprId(8)),
+            Value::Array(ObjId(0)),
+            Value::Table(ObjId(0)),
+        ];
         for value in &numbers {
             assert_eq!(rt; value.copy(rt.alloc())?, *value);
         }
@@ -62,8 +72,11 @@ mod tests {
             let string = Value::Str(Text::new(Vec::from_slice(rt.alloc(), text.as_bytes())?));
             let copy = string.copy(rt.alloc())?;
             assert_eq!(rt; copy, string);
-            let Value::Str(copied) = copy else { return Err(Fail::from("no string")) };
+            let Value::Str(copied) = copy else {
+                return Err(Fail::from("no string"))
+            };
             assert_eq!(rt; copied.as_slice(), text.as_bytes());
+            assert_eq!(rt; copied.into_vec().as_slice(), text.as_bytes());
         }
         Ok(())
     }

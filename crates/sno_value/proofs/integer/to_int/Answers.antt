@@ -1,7 +1,7 @@
 use Rattle.std.proofs.Common.{arith, ◌∙◌, ap}
 use Rattle.std.proofs.lemmas.Grind.{common_steps}
 use Rattle.sno_value.specs.Integer.{integer_of}
-use Rattle.sno_value.proofs.Decimal.{parsed, no_text}
+use Rattle.sno_value.proofs.Decimal.{parsed}
 use Rattle.sno_value.proofs.integer.to_int.Goals as goal
 
 pub returns-in-Ok : goal.returns-in-Ok
@@ -10,6 +10,3 @@ returns-in-Ok c =
     c.ok.ensures.value
     ∙ parsed c.in-Ok.text.now c.parse.result c.parse.ensures.value.0 (grind (arith, common_steps))
     ∙ ap integer_of same
-
-pub returns-in-Err : goal.returns-in-Err
-returns-in-Err c = no_text c.args.text.now c.in-Err.ensures.cases.0 (grind (arith, common_steps))
