@@ -1,4 +1,4 @@
-//! Arithmetic on integers of 64 bits.
+//! Arithmetic on integers of 64 bits (the book, chapter 3, for the operations; this profile for their refusals).
 ghost use Rattle.std.specs.Prelude.{◌≡◌, ℤ, Some};
 ghost use Rattle.std.specs.Int.{int_pow};
 ghost use Rattle.sno_value.specs.Arithmetic.{message_of, fitted, sum_of, difference_of, product_of, quotient_of, remainder_of, power, power_of};
@@ -31,60 +31,47 @@ impl fmt::Display for Arith {
 
 impl Error for Arith {}
 
-/// `a + b`.
+/// `a + b`, or an overflow where it does not fit 64 bits.
 pub fn add(a: i64, b: i64) -> Result<i64, Arith>
     ensures { result ≡ sum_of a b }
 {
-    match a.checked_add(b) {
-        Some(sum) => Ok(sum),
-        None => Err(Arith::Overflow),
-    }
+    a.checked_add(b).ok_or(Arith::Overflow)
 }
 
-/// `a - b`.
+/// `a - b`, or an overflow where it does not fit 64 bits.
 pub fn sub(a: i64, b: i64) -> Result<i64, Arith>
     ensures { result ≡ difference_of a b }
 {
-    match a.checked_sub(b) {
-        Some(difference) => Ok(difference),
-        None => Err(Arith::Overflow),
-    }
+    a.checked_sub(b).ok_or(Arith::Overflow)
 }
 
-/// `a * b`.
+/// `a * b`, or an overflow where it does not fit 64 bits.
 pub fn mul(a: i64, b: i64) -> Result<i64, Arith>
     ensures { result ≡ product_of a b }
 {
-    match a.checked_mul(b) {
-        Some(product) => Ok(product),
-        None => Err(Arith::Overflow),
-    }
+    a.checked_mul(b).ok_or(Arith::Overflow)
 }
 
-/// `a / b`, truncated toward zero. The least integer divided by -1 is an overflow.
+/// `a / b`, truncated toward zero. It is refused where `b` is 0, and the least integer divided by -1 is an overflow.
 pub fn div(a: i64, b: i64) -> Result<i64, Arith>
     ensures { result ≡ quotient_of a b }
 {
     if b == 0 {
         return Err(Arith::DivisionByZero);
     }
-    match a.checked_div(b) {
-        Some(quotient) => Ok(quotient),
-        None => Err(Arith::Overflow),
-    }
+    a.checked_div(b).ok_or(Arith::Overflow)
 }
 
-/// `a ** b`, where every number to the power 0 is 1, and 0 too (this profile). It takes no longer for a large exponent.
+/// `base ** exponent`, or an overflow where it does not fit 64 bits. A negative exponent is refused, and 0 to the power 0
+/// is 1 (both this profile). It multiplies at most 64 times, however large the exponent.
 pub fn pow(base: i64, exponent: i64) -> Result<i64, Arith>
     ensures { result ≡ power_of base exponent }
 {
     if exponent < 0 {
         return Err(Arith::BadExponent);
     }
-    match base.checked_pow(small_exponent(exponent.unsigned_abs())) {
-        Some(power) => Ok(power),
-        None => Err(Arith::Overflow),
-    }
+    base.checked_pow(small_exponent(exponent.unsigned_abs()))
+        .ok_or(Arith::Overflow)
 }
 
 // An exponent that stands for a large one: from 64 on a power of -1, 0 or 1 goes by the exponent's parity, and that of
@@ -100,7 +87,8 @@ fn small_exponent(exponent: u64) -> u32
     }
 }
 
-/// What is left of `a` after division by `b`. It has the sign of `a`.
+/// What is left of `a` after division by `b`, with the sign of `a`; 0 for the least integer and -1. It is refused where
+/// `b` is 0.
 pub fn remdr(a: i64, b: i64) -> Result<i64, Arith>
     ensures { result ≡ remainder_of a b }
 {

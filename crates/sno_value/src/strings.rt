@@ -1,4 +1,4 @@
-//! Functions on strings.
+//! The functions TRIM, DUPL, REPLACE and LGT on strings (the book, chapter 3).
 ghost use Rattle.std.specs.Prelude.{◌≡◌, ◌↔◌, ◌<ℤ◌, ◌<◌, ◌≤◌, ◌*◌, ℕ, pos, length, Ok, Err, Some, None, IfOk, IsNone, IsOkAnd, slice_index};
 ghost use Rattle.sno_value.specs.Strings.{trimmed, copies, duplicate, replacement, replaced, is_after, items_of, message_of};
 ghost use Rattle.sno_value.specs.declared.strings.TextError.TheVariants.{NoMemory};
@@ -40,7 +40,7 @@ impl fmt::Display for TextError {
 
 impl Error for TextError {}
 
-/// The text without its trailing spaces (byte 32 alone, this profile).
+/// TRIM: the text without its trailing spaces (byte 32 alone, this profile).
 #[tactic(auto, using(crate::proofs::TrailingSpaces::trim_step, crate::proofs::TrailingSpaces::trim_end))]
 pub fn trim(text: &[u8]) -> &[u8]
     ensures { result.now ≡ trimmed text.now }
@@ -52,7 +52,8 @@ pub fn trim(text: &[u8]) -> &[u8]
     kept
 }
 
-/// `count` copies of the text, one after another, or None for a negative count (this profile).
+/// DUPL: `count` copies of the text, one after another. It is None for a negative count, and too long where the copies
+/// have more than 1,000,000 bytes (both this profile).
 #[tactic(auto, using(crate::proofs::Copies::duplicate_at))]
 pub fn dupl(alloc: Global, text: &[u8], count: i64) -> Result<Option<Vec<u8>>, TextError>
     ensures ok { IfOk result (λ answer. Ok (items_of answer) ≡ duplicate text.now count) }
@@ -88,8 +89,8 @@ fn copies_of(alloc: Global, text: &[u8], count: usize) -> Result<Vec<u8>, AllocE
     Ok(copied)
 }
 
-/// The text with each byte that stands in `from` replaced by the byte of `to` at the last place where it stands in
-/// `from`. It is None where `from` is empty or not as long as `to` (this profile).
+/// REPLACE: the text with each byte that stands in `from` replaced by the byte of `to` at the last place where it stands
+/// in `from`. It is None where `from` is empty or not as long as `to` (this profile).
 pub fn replace(
     alloc: Global,
     text: &[u8],
@@ -125,7 +126,7 @@ fn replacement_table(from: &[u8], to: &[u8]) -> [u8; 256]
     table
 }
 
-/// Whether the text is after the other in byte order.
+/// LGT: whether the text is after the other in byte order.
 #[tactic(auto, using(crate::proofs::ByteOrder::greater_is_after))]
 pub fn lgt(text: &[u8], other: &[u8]) -> bool
     ensures { result ≡ is_after text.now other.now }
