@@ -10,6 +10,7 @@ first_pair : (x y : ℕ) (o : Option Ordering) (b : Bool) → is_some_and is_gt 
 first_pair x y o b h = grind (arith, nat_tests, h)
 
 pub greater_is_after : (xs ys : List ℕ) → is_some_and is_gt (slice_partial_cmp (λ x y. Some (nat_cmp x y)) xs ys) ≡ is_after xs ys
+unfolding is_after
 greater_is_after [] [] = refl
 greater_is_after [] (y ∷ ys) = refl
 greater_is_after (x ∷ xs) [] = refl

@@ -27,6 +27,7 @@ same_or_large (suc (suc a)) m n h k = inr (large (suc (suc a)) m (omega arith) h
 
 -- a number of 2 ^ 64 or more in size does not fit, with either sign
 too_large : (b : Bool) (m : ℕ) → 2 ^ 64 ≤ m → fitted (cond b (pos m) (neg_ℤ (pos m))) ≡ Err Overflow
+unfolding fitted
 too_large true m h = grind (arith, common_steps)
 too_large false zero h = absurd (omega arith)
 too_large false (suc m) h = grind (arith, common_steps)

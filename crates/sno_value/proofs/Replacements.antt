@@ -27,6 +27,7 @@ last_counts false false new old kept = refl
 
 replacement-more : (froms tos : List ℕ) (from to b : ℕ) → length froms ≡ length tos
     → replacement (froms ++ from ∷ []) (tos ++ to ∷ []) b ≡ cond (from == b) to (replacement froms tos b)
+unfolding replacement
 replacement-more [] [] from to b h = refl
 replacement-more [] (t ∷ tos) from to b h = absurd (omega arith)
 replacement-more (f ∷ froms) [] from to b h = absurd (omega arith)

@@ -4,12 +4,9 @@ use Rattle.std.specs.List.{list_all}
 use Rattle.std.proofs.lemmas.Grind.{common_steps}
 use Rattle.sno_value.specs.Strings.{trimmed}
 
-all_spaces : List ℕ → Bool
-all_spaces text = list_all (λ b. b == 32) text
-
-all-space : (xs : List ℕ) → list_all (λ b. b == 32) (xs ++ 32 ∷ []) ≡ list_all (λ b. b == 32) xs
-all-space [] = refl
-all-space (x ∷ xs) = ap (λ t. (x == 32) && t) (all-space xs)
+all_spaces-push : (xs : List ℕ) → list_all (λ b. b == 32) (xs ++ 32 ∷ []) ≡ list_all (λ b. b == 32) xs
+all_spaces-push [] = refl
+all_spaces-push (x ∷ xs) = ap (λ t. (x == 32) && t) (all_spaces-push xs)
 
 some_other : (xs : List ℕ) (b : ℕ) → (b == 32) ≡ false → list_all (λ c. c == 32) (xs ++ b ∷ []) ≡ false
 some_other [] b h = ap (λ t. t && true) h
@@ -20,12 +17,14 @@ some_other (x ∷ xs) b h = ap (λ t. (x == 32) && t) (some_other xs b h) ∙ ne
     never false = refl
 
 trimmed-space : (xs : List ℕ) → trimmed (xs ++ 32 ∷ []) ≡ trimmed xs
+unfolding trimmed
 trimmed-space [] = refl
 trimmed-space (x ∷ xs) =
-    ap (λ t. cond ((x == 32) && t) [] (x ∷ trimmed (xs ++ 32 ∷ []))) (all-space xs)
+    ap (λ t. cond ((x == 32) && t) [] (x ∷ trimmed (xs ++ 32 ∷ []))) (all_spaces-push xs)
     ∙ ap (λ r. cond ((x == 32) && list_all (λ b. b == 32) xs) [] (x ∷ r)) (trimmed-space xs)
 
 trimmed-other : (xs : List ℕ) (b : ℕ) → (b == 32) ≡ false → trimmed (xs ++ b ∷ []) ≡ xs ++ b ∷ []
+unfolding trimmed
 trimmed-other [] b h = ap (λ t. cond (t && true) [] (b ∷ [])) h
 trimmed-other (x ∷ xs) b h =
     ap (λ t. cond t [] (x ∷ trimmed (xs ++ b ∷ []))) (some_other (x ∷ xs) b h) ∙ ap (λ r. x ∷ r) (trimmed-other xs b h)

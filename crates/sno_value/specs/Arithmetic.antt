@@ -9,7 +9,7 @@ abbrev pub fits : ℤ → Bool
 fits z = int_le (neg_ℤ (pos (2 ^ 63))) z && int_lt z (pos (2 ^ 63))
 
 -- z where it fits, and else an overflow
-abbrev pub fitted : ℤ → Result ℤ Arith
+unfoldable pub fitted : ℤ → Result ℤ Arith
 fitted z = if fits z then Ok z else Err Overflow
 
 abbrev pub sum_of : ℤ → ℤ → Result ℤ Arith

@@ -12,14 +12,19 @@ abbrev pub number_of_digits : List ℕ → ℕ
 number_of_digits [] = 0
 number_of_digits (digit ∷ rest) = (digit - 48) * 10 ^ length rest + number_of_digits rest
 
--- the number z where the digits are some and z fits 64 bits
-abbrev pub integer_if : Bool → ℤ → Option ℤ
-integer_if numeral z = if numeral && fits z then Some z else None
+-- z, if the digits are a numeral and z fits 64 bits
+abbrev pub integer_from : List ℕ → ℤ → Option ℤ
+integer_from digits z = if is_numeral digits && fits z then Some z else None
 
--- the empty text is 0; else a sign or none, then a numeral
-abbrev pub integer_of : List ℕ → Option ℤ
+-- the number that a numeral writes, and that number after a minus
+abbrev pub positive_of : List ℕ → Option ℤ
+positive_of digits = integer_from digits (pos (number_of_digits digits))
+
+abbrev pub negative_of : List ℕ → Option ℤ
+negative_of digits = integer_from digits (neg_ℤ (pos (number_of_digits digits)))
+
+-- the empty text is 0; else a numeral, after `-` (45), `+` (43) or no sign
+unfoldable pub integer_of : List ℕ → Option ℤ
 integer_of [] = Some (pos 0)
 integer_of (byte ∷ rest) =
-    if byte == 45 then integer_if (is_numeral rest) (neg_ℤ (pos (number_of_digits rest)))
-    else (if byte == 43 then integer_if (is_numeral rest) (pos (number_of_digits rest))
-    else integer_if (is_numeral (byte ∷ rest)) (pos (number_of_digits (byte ∷ rest))))
+    if byte == 45 then negative_of rest else (if byte == 43 then positive_of rest else positive_of (byte ∷ rest))

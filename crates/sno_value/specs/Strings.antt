@@ -6,22 +6,22 @@ use Rattle.sno_value.specs.declared.strings.TextError.{TextError}
 use Rattle.sno_value.specs.declared.strings.TextError.TheVariants.{TooLong, NoMemory}
 
 -- the text up to its last byte that is no space (32)
-abbrev pub trimmed : List ℕ → List ℕ
+unfoldable pub trimmed : List ℕ → List ℕ
 trimmed [] = []
 trimmed (byte ∷ rest) = if list_all (λ b. b == 32) (byte ∷ rest) then [] else byte ∷ trimmed rest
 
 -- n copies of a text, one after another
-abbrev pub copies : ℕ → List ℕ → List ℕ
+unfoldable pub copies : ℕ → List ℕ → List ℕ
 copies zero text = []
 copies (suc n) text = text ++ copies n text
 
 -- no copies for a negative count, and none that have more than 1,000,000 bytes
-abbrev pub duplicate : List ℕ → ℤ → Result (Option (List ℕ)) TextError
+unfoldable pub duplicate : List ℕ → ℤ → Result (Option (List ℕ)) TextError
 duplicate text (pos n) = if nat_lt 1_000_000 (n * length text) then Err TooLong else Ok (Some (copies n text))
 duplicate text (negsuc n) = Ok None
 
 -- the byte of the second list at the last place where b stands in the first, and b itself where it stands nowhere
-abbrev pub replacement : List ℕ → List ℕ → ℕ → ℕ
+unfoldable pub replacement : List ℕ → List ℕ → ℕ → ℕ
 replacement [] tos b = b
 replacement (from ∷ froms) [] b = b
 replacement (from ∷ froms) (to ∷ tos) b =
@@ -32,11 +32,11 @@ abbrev pub can_replace : List ℕ → List ℕ → Bool
 can_replace froms tos = nat_lt 0 (length froms) && length froms == length tos
 
 -- the text with each byte replaced
-abbrev pub replaced : List ℕ → List ℕ → List ℕ → Option (List ℕ)
+unfoldable pub replaced : List ℕ → List ℕ → List ℕ → Option (List ℕ)
 replaced text froms tos = if can_replace froms tos then Some (map (replacement froms tos) text) else None
 
 -- x is after y in byte order: at the first difference it has the greater byte, or y is the beginning of it
-abbrev pub is_after : List ℕ → List ℕ → Bool
+unfoldable pub is_after : List ℕ → List ℕ → Bool
 is_after [] ys = false
 is_after (x ∷ xs) [] = true
 is_after (x ∷ xs) (y ∷ ys) = if x == y then is_after xs ys else nat_lt y x

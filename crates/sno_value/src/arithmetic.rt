@@ -1,4 +1,6 @@
 //! Arithmetic on integers of 64 bits (the book, chapter 3, for the operations; this profile for their refusals).
+#![tactic(auto, unfolding(crate::specs::Arithmetic::fitted))]
+
 ghost use Rattle.std.specs.Prelude.{◌≡◌, ℤ, Some};
 ghost use Rattle.std.specs.Int.{int_pow};
 ghost use Rattle.sno_value.specs.Arithmetic.{message_of, fitted, sum_of, difference_of, product_of, quotient_of, remainder_of, power, power_of};

@@ -7,7 +7,7 @@ use std::alloc::{AllocError, Global};
 
 /// The integer that a text writes: 0 for the empty text, else an optional sign and one or more digits whose value lies
 /// in the signed 64-bit range. Any other text has none, one with blanks included (this profile).
-#[tactic(auto, using(crate::proofs::Decimal::no_text))]
+#[tactic(auto, using(crate::proofs::Decimal::no_text), unfolding(crate::specs::Integer::integer_of))]
 pub fn to_int(text: &[u8]) -> Option<i64>
     ensures { result ≡ integer_of text.now }
 {

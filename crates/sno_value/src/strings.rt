@@ -41,7 +41,7 @@ impl fmt::Display for TextError {
 impl Error for TextError {}
 
 /// TRIM: the text without its trailing spaces (byte 32 alone, this profile).
-#[tactic(auto, using(crate::proofs::TrailingSpaces::trim_step, crate::proofs::TrailingSpaces::trim_end))]
+#[tactic(auto, using(crate::proofs::TrailingSpaces::trim_step, crate::proofs::TrailingSpaces::trim_end), unfolding(crate::specs::Strings::trimmed))]
 pub fn trim(text: &[u8]) -> &[u8]
     ensures { result.now ≡ trimmed text.now }
 {
@@ -54,7 +54,7 @@ pub fn trim(text: &[u8]) -> &[u8]
 
 /// DUPL: `count` copies of the text, one after another. It is None for a negative count, and too long where the copies
 /// have more than 1,000,000 bytes (both this profile).
-#[tactic(auto, using(crate::proofs::Copies::duplicate_at))]
+#[tactic(auto, using(crate::proofs::Copies::duplicate_at), unfolding(crate::specs::Strings::duplicate))]
 pub fn dupl(alloc: Global, text: &[u8], count: i64) -> Result<Option<Vec<u8>>, TextError>
     ensures ok { IfOk result (λ answer. Ok (items_of answer) ≡ duplicate text.now count) }
     ensures too_long { (result ≡ Err TextError.TooLong) ↔ (duplicate text.now count ≡ Err TextError.TooLong) }
@@ -74,7 +74,7 @@ pub fn dupl(alloc: Global, text: &[u8], count: i64) -> Result<Option<Vec<u8>>, T
 }
 
 // So many copies of the text. Those of the empty text take no time.
-#[tactic(auto, using(crate::proofs::Copies::copies_more, crate::proofs::Copies::copies_empty))]
+#[tactic(auto, using(crate::proofs::Copies::copies_more, crate::proofs::Copies::copies_empty), unfolding(crate::specs::Strings::copies))]
 fn copies_of(alloc: Global, text: &[u8], count: usize) -> Result<Vec<u8>, AllocError>
     requires { count * length text.now ≤ 1_000_000 }
     ensures { IfOk result (λ copied. copied.items ≡ copies count text.now) }
@@ -91,6 +91,7 @@ fn copies_of(alloc: Global, text: &[u8], count: usize) -> Result<Vec<u8>, AllocE
 
 /// REPLACE: the text with each byte that stands in `from` replaced by the byte of `to` at the last place where it stands
 /// in `from`. It is None where `from` is empty or not as long as `to` (this profile).
+#[tactic(auto, unfolding(crate::specs::Strings::replaced))]
 pub fn replace(
     alloc: Global,
     text: &[u8],
@@ -112,6 +113,7 @@ pub fn replace(
 }
 
 // What stands for each byte: a later place in `from` overwrites an earlier one.
+#[tactic(auto, unfolding(crate::specs::Strings::replacement))]
 fn replacement_table(from: &[u8], to: &[u8]) -> [u8; 256]
     requires { length from.now ≡ length to.now }
     ensures { (byte : ℕ) → byte < 256 → slice_index result byte ≡ replacement from.now to.now byte }
