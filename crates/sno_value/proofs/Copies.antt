@@ -21,6 +21,8 @@ pub copies_more : (n : ℕ) (text : List ℕ) → copies (n + 1) text ≡ copies
 unfolding copies
 copies_more n text = ap (λ k. copies k text) (add-one n) ∙ sym (copies-last n text)
 
+pub ruleset copying = (copies_more, copies_empty)
+
 pub duplicate_at : (text : List ℕ) (z : ℤ) → pos 0 ≤ℤ z
     → duplicate text z ≡ (if nat_lt 1_000_000 (unsigned_abs z * length text) then Err TooLong else Ok (Some (copies (unsigned_abs z) text)))
 unfolding duplicate

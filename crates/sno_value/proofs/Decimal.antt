@@ -126,3 +126,5 @@ reads_back (negsuc n) f =
 
 pub short_text : (z : ℤ) → FitsSigned w64 z → length (signed_decimal z) ≤ 20
 short_text z f = length_signed_le 19 z (omega (arith, f.sfits)) f.sfits
+
+pub ruleset writing = (reads_back, short_text)

@@ -63,3 +63,5 @@ int_pow_is (negsuc a) (suc n) =
 
 pub power_of_large : (n : ℕ) → 64 ≤ n → (x : ℤ) → fitted (int_pow x (64 + n % 2)) ≡ fitted (power x n)
 power_of_large n h x = power_by_parity x (64 + n % 2) n (omega arith) h (omega arith) ∙ ap fitted (int_pow_is x n)
+
+pub ruleset large_exponents = (power_of_large, int_pow_is)

@@ -1,5 +1,5 @@
 -- What stands for a byte, as the pairs are read one after another: the later pair counts.
-use Rattle.std.proofs.Common.{◌≡◌, ℕ, ◌+◌, ◌<◌, List, [], ◌∷◌, ◌++◌, length, take, get_or, Bool, true, false, ◌||◌, ◌==◌, cond, refl, sym, ◌∙◌, ap, ap₂, arith, length-take-le, set}
+use Rattle.std.proofs.Common.{◌≡◌, ℕ, ◌+◌, ◌<◌, List, [], ◌∷◌, ◌++◌, length, take, get_or, Bool, true, false, ◌||◌, ◌==◌, cond, refl, sym, ◌∙◌, ap₂, arith, length-take-le, set}
 use Rattle.std.specs.List.{list_any}
 use Rattle.std.proofs.lemmas.Bool.Decides.{nat_tests}
 use Rattle.std.proofs.lemmas.Grind.{common_steps}
@@ -7,16 +7,7 @@ use Rattle.std.proofs.lemmas.List.{take_more}
 use Rattle.sno_value.specs.Strings.{replacement}
 
 any-more : (p : ℕ → Bool) (xs : List ℕ) (x : ℕ) → list_any p (xs ++ x ∷ []) ≡ (list_any p xs || p x)
-any-more p [] x = at (p x)
-  where
-    at : (t : Bool) → (t || false) ≡ (false || t)
-    at true = refl
-    at false = refl
-any-more p (y ∷ xs) x = ap (λ t. p y || t) (any-more p xs x) ∙ at (p y) (list_any p xs) (p x)
-  where
-    at : (a b c : Bool) → (a || (b || c)) ≡ ((a || b) || c)
-    at true b c = refl
-    at false b c = refl
+any-more p xs x = grind (arith, common_steps)
 
 last_counts : (earlier here : Bool) (new old kept : ℕ)
     → cond (earlier || here) (cond here new old) kept ≡ cond here new (cond earlier old kept)

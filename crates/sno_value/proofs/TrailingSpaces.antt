@@ -1,20 +1,14 @@
 -- A text loses one trailing space after another.
-use Rattle.std.proofs.Common.{◌≡◌, ℕ, ◌-◌, ◌<◌, List, [], ◌∷◌, ◌++◌, length, take, get_or, Bool, true, false, ◌&&◌, ◌==◌, refl, sym, ◌∙◌, ap, arith, cond}
+use Rattle.std.proofs.Common.{◌≡◌, ℕ, ◌-◌, ◌<◌, List, [], ◌∷◌, ◌++◌, length, take, get_or, true, false, ◌&&◌, ◌==◌, refl, sym, ◌∙◌, ap, arith, cond}
 use Rattle.std.specs.List.{list_all}
 use Rattle.std.proofs.lemmas.Grind.{common_steps}
 use Rattle.sno_value.specs.Strings.{trimmed}
 
 all_spaces-push : (xs : List ℕ) → list_all (λ b. b == 32) (xs ++ 32 ∷ []) ≡ list_all (λ b. b == 32) xs
-all_spaces-push [] = refl
-all_spaces-push (x ∷ xs) = ap (λ t. (x == 32) && t) (all_spaces-push xs)
+all_spaces-push xs = grind (arith, common_steps)
 
 some_other : (xs : List ℕ) (b : ℕ) → (b == 32) ≡ false → list_all (λ c. c == 32) (xs ++ b ∷ []) ≡ false
-some_other [] b h = ap (λ t. t && true) h
-some_other (x ∷ xs) b h = ap (λ t. (x == 32) && t) (some_other xs b h) ∙ never (x == 32)
-  where
-    never : (t : Bool) → (t && false) ≡ false
-    never true = refl
-    never false = refl
+some_other xs b h = grind (arith, common_steps)
 
 trimmed-space : (xs : List ℕ) → trimmed (xs ++ 32 ∷ []) ≡ trimmed xs
 unfolding trimmed
@@ -37,3 +31,5 @@ trim_step xs h e = sym (trimmed-space (take (length xs - 1) xs)) ∙ ap (λ b. t
 
 pub trim_end : (xs : List ℕ) → 0 < length xs → (get_or xs (length xs - 1) 0 == 32) ≡ false → trimmed xs ≡ xs
 trim_end xs h n = ap trimmed (sym (last_apart xs h)) ∙ trimmed-other (take (length xs - 1) xs) (get_or xs (length xs - 1) 0) n ∙ last_apart xs h
+
+pub ruleset trimming = (trim_step, trim_end)

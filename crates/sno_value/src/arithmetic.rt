@@ -78,7 +78,7 @@ pub fn pow(base: i64, exponent: i64) -> Result<i64, Arith>
 
 // An exponent that stands for a large one: from 64 on a power of -1, 0 or 1 goes by the exponent's parity, and that of
 // any other base overflows.
-#[tactic(auto, using(crate::proofs::Powers::power_of_large, crate::proofs::Powers::int_pow_is))]
+#[tactic(auto, using(crate::proofs::Powers::large_exponents))]
 fn small_exponent(exponent: u64) -> u32
     ensures { (base : ℤ) → fitted (int_pow base result) ≡ fitted (power base exponent) }
 {

@@ -21,7 +21,7 @@ pub fn to_int(text: &[u8]) -> Option<i64>
 }
 
 /// An integer in decimal, with `-` before a negative one and no leading zeros.
-#[tactic(auto, using(crate::proofs::Decimal::reads_back, crate::proofs::Decimal::short_text))]
+#[tactic(auto, using(crate::proofs::Decimal::writing))]
 pub fn int_text(alloc: Global, n: i64) -> Result<Vec<u8>, AllocError>
     ensures text { IfOk result (λ text. text.items ≡ signed_decimal n) }
     ensures reads_back { integer_of (signed_decimal n) ≡ Some n }

@@ -41,7 +41,7 @@ impl fmt::Display for TextError {
 impl Error for TextError {}
 
 /// TRIM: the text without its trailing spaces (byte 32 alone, this profile).
-#[tactic(auto, using(crate::proofs::TrailingSpaces::trim_step, crate::proofs::TrailingSpaces::trim_end), unfolding(crate::specs::Strings::trimmed))]
+#[tactic(auto, using(crate::proofs::TrailingSpaces::trimming), unfolding(crate::specs::Strings::trimmed))]
 pub fn trim(text: &[u8]) -> &[u8]
     ensures { result.now ≡ trimmed text.now }
 {
@@ -74,7 +74,7 @@ pub fn dupl(alloc: Global, text: &[u8], count: i64) -> Result<Option<Vec<u8>>, T
 }
 
 // So many copies of the text. Those of the empty text take no time.
-#[tactic(auto, using(crate::proofs::Copies::copies_more, crate::proofs::Copies::copies_empty), unfolding(crate::specs::Strings::copies))]
+#[tactic(auto, using(crate::proofs::Copies::copying), unfolding(crate::specs::Strings::copies))]
 fn copies_of(alloc: Global, text: &[u8], count: usize) -> Result<Vec<u8>, AllocError>
     requires { count * length text.now ≤ 1_000_000 }
     ensures { IfOk result (λ copied. copied.items ≡ copies count text.now) }
