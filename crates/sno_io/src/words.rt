@@ -1,8 +1,9 @@
 //! The words of the command line, which `clap` reads.
-ghost use Rattle.std.specs.Prelude.{◌≡◌, codes, false, map, IfOk, IfSome};
-ghost use Rattle.clap.specs.Words.{app_of, found_of, kind_of, rows_of, rule_of};
+ghost use Rattle.std.specs.Prelude.{◌≡◌, ℕ, Bool, codes, false, map, IfErr, IfNone, IfOk, IfSome, List};
+ghost use Rattle.clap.specs.Words.{app_of, found_of, kind_of, rows_of, rule_of, subcommand_rows_of};
 ghost use Rattle.clap.specs.declared.builder.value_parser.ValueParser.TheVariants as parsers;
-ghost use Rattle.sno_io.specs.Words.{flag_rule, number_rule, snobol4, status, word_rule, IsJob, IsJobOf, IsNumber};
+ghost use Rattle.sno_io.specs.declared.jobs.Job.{Job};
+ghost use Rattle.sno_io.specs.Words.{flag_rule, number_rule, snobol4, status, word_rule, HoldsJob, IsJob, IsJobOf, IsNumber, IsRefusalOf, IsWays};
 
 use crate::jobs::Job;
 use clap::builder::ValueParser;
@@ -21,17 +22,16 @@ const STEPS_HELP: &str = "The most steps of the match: 0 to 1000000000 [default:
 /// The job that the words ask for; the first word is the program's name. An `Err` is a call for help, a fault of usage
 /// or want of memory: `status_of` tells which, and its text is for the user.
 pub fn command<'a>(alloc: Global, words: &'a [&'a str]) -> Result<Job<'a>, Error>
-    ensures { IfOk result (λ job. IsJobOf (map (λ w. w.now) words.entry.now) job) }
+    ensures job { IfOk result (IsJobOf (map (λ w. w.now) words.entry.now)) }
+    ensures refused { IfErr result (IsRefusalOf (map (λ w. w.now) words.entry.now)) }
 {
     let mut root = program(alloc)?;
     let matches = root.try_get_matches_from_mut(words)?;
-    if let Some((name, found)) = matches.subcommand() {
-        if let Some(job) = job_of(name, found) {
-            return Ok(job);
-        }
+    match job_of(&matches) {
+        Some(job) => Ok(job),
+        // The parse has refused such words before, but its contract does not say so of a command's own words.
+        None => Err(root.error(ErrorKind::MissingSubcommand, "a command is wanted")?),
     }
-    // The parse refuses such words itself, but its contract does not say so of what a command holds.
-    Err(root.error(ErrorKind::MissingSubcommand, "a command is wanted")?)
 }
 
 /// The status with which the program ends where the words give no job: 0 for help, 6 for want of memory, and 64 for a
@@ -99,27 +99,41 @@ fn flag<'a>(alloc: Global, id: &'a str, help: &'a str) -> Arg<'a>
         .help(help)
 }
 
-/// The job of a command's matches, None where they hold none.
-fn job_of<'a>(name: &str, found: &ArgMatches<'a>) -> Option<Job<'a>>
-    ensures { IfSome result (λ job. IsJob name.now (rows_of (found_of found.now)) job) }
+/// The job of the matches, None where they hold none.
+fn job_of<'a>(matches: &ArgMatches<'a>) -> Option<Job<'a>>
+    ensures some { IfSome result (HoldsJob (subcommand_rows_of matches.now)) }
+    ensures none { IfNone result ((job : Job) → HoldsJob (subcommand_rows_of matches.now) job → ⊥) }
 {
+    let (name, found) = matches.subcommand()?;
     match name {
-        "ways" => Some(Job::Ways {
-            anchored: found.get_flag("anchor"),
-            steps: steps_of(found, "steps")?,
-            pattern: found.get_str("PATTERN")?,
-            subject: found.get_str("SUBJECT")?,
-        }),
+        "ways" => ways_of(found),
         _ => None,
     }
 }
 
-/// The number of steps that an option asks for, None where it is out of its range.
-#[tactic(auto, using(crate::proofs::Numbers::number_facts))]
-fn steps_of(found: &ArgMatches<'_>, id: &str) -> Option<u32>
-    ensures { IfSome result (λ n. IsNumber 0 1000000000 1000000 id.now (rows_of (found_of found.now)) n) }
+/// The job of the matches of the command `ways`, None where they hold none.
+fn ways_of<'a>(found: &ArgMatches<'a>) -> Option<Job<'a>>
+    ensures some { IfSome result (IsJob (codes "ways") (rows_of (found_of found.now))) }
+    ensures none { IfNone result ((anchored : Bool) (steps : ℕ) (pattern subject : List ℕ)
+        → IsWays (rows_of (found_of found.now)) anchored steps pattern subject → ⊥) }
 {
-    if !found.contains_id(id) {
+    let steps = steps_of(found, "steps")?;
+    let pattern = found.get_str("PATTERN")?;
+    let subject = found.get_str("SUBJECT")?;
+    Some(Job::Ways {
+        anchored: found.get_flag("anchor"),
+        steps,
+        pattern,
+        subject,
+    })
+}
+
+/// The number of steps that an option asks for, None where it is no number or out of its range.
+fn steps_of(found: &ArgMatches<'_>, id: &str) -> Option<u32>
+    ensures some { IfSome result (IsNumber 0 1000000000 1000000 id.now (rows_of (found_of found.now))) }
+    ensures none { IfNone result ((n : ℕ) → IsNumber 0 1000000000 1000000 id.now (rows_of (found_of found.now)) n → ⊥) }
+{
+    if found.get_str(id).is_none() {
         return Some(DEFAULT_STEPS);
     }
     let steps = found.get_one::<u32>(id)?;
