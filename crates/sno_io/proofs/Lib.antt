@@ -1,3 +1,4 @@
 pub mod Bytes
 pub mod Commands
+pub mod HeldJobs
 pub mod Numbers

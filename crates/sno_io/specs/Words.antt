@@ -1,11 +1,12 @@
 -- The program's commands, as `clap` knows them, and the job that the words hold.
-use Rattle.std.specs.Prelude.{◌≡◌, ℕ, ◌≤◌, Bool, List, None, Some, MatchOption, codes, true, false}
-use Rattle.std.specs.Str.Parse.{digits_value, without_leading_plus}
-use Rattle.clap.specs.Words.{App, Row, Rule, Text, first_of, new_app, new_rule, one_of, subcommand_of, with_rule, with_subcommand}
+use Rattle.std.specs.Prelude.{◌≡◌, ℕ, ◌≤◌, ◌⊎◌, Bool, List, [], Option, None, Some, MatchOption, codes, true, false}
+use Rattle.std.specs.Str.Parse.{IsNumeral, digits_value, without_leading_plus}
+use Rattle.clap.specs.Words.{App, HasKind, Row, Rule, Text, fault_of, first_of, new_app, new_rule, one_of, subcommand_of, with_rule, with_subcommand}
 use Rattle.clap.specs.Simple.{on_top}
 use Rattle.clap.specs.declared.builder.action.ArgAction.TheVariants.{Set, SetTrue}
 use Rattle.clap.specs.declared.builder.value_parser.ValueParser.{ValueParser}
 use Rattle.clap.specs.declared.builder.value_parser.ValueParser.TheVariants as parsers
+use Rattle.clap.specs.declared.error.Error.{Error}
 use Rattle.clap.specs.declared.error.kind.ErrorKind.{ErrorKind}
 use Rattle.clap.specs.declared.error.kind.ErrorKind.TheVariants.{DisplayHelp, DisplayVersion, OutOfMemory}
 use Rattle.sno_io.specs.declared.jobs.Job.{Job}
@@ -47,7 +48,7 @@ snobol4 = with_subcommand bare_app ways_app.top
 -- The number of an option: what its text says, or the default where it is absent; in its range.
 pub record IsNumber (least most default : ℕ) (id : Text) (rows : List Row) (n : ℕ) : Type 0 where
   pub absent : one_of id rows ≡ None → n ≡ default
-  pub given : (text : Text) → one_of id rows ≡ Some text → n ≡ digits_value 10 (without_leading_plus text)
+  pub given : (text : Text) → one_of id rows ≡ Some text → IsNumeral 10 (without_leading_plus text) × (n ≡ digits_value 10 (without_leading_plus text))
   pub least_holds : least ≤ n
   pub most_holds : n ≤ most
 
@@ -57,17 +58,28 @@ pub record IsFlag (id : Text) (rows : List Row) (flag : Bool) : Type 0 where
   pub given : one_of id rows ≡ Some (codes "true") → flag ≡ true
   pub not_given : one_of id rows ≡ Some (codes "false") → flag ≡ false
 
+-- What the words of `ways` hold.
+pub record IsWays (rows : List Row) (anchored : Bool) (steps : ℕ) (pattern subject : Text) : Type 0 where
+  pub anchor_is : IsFlag (codes "anchor") rows anchored
+  pub steps_is : IsNumber 0 1000000000 1000000 (codes "steps") rows steps
+  pub pattern_is : first_of (codes "PATTERN") rows ≡ Some pattern
+  pub subject_is : first_of (codes "SUBJECT") rows ≡ Some subject
+
 -- the job of the command of that name, whose words gave these rows
 abbrev pub IsJob : Text → List Row → Job → Type 0
-IsJob name rows (Ways anchored steps pattern subject) = (name ≡ codes "ways")
-    × IsFlag (codes "anchor") rows anchored
-    × IsNumber 0 1000000000 1000000 (codes "steps") rows steps
-    × (first_of (codes "PATTERN") rows ≡ Some pattern.now)
-    × (first_of (codes "SUBJECT") rows ≡ Some subject.now)
+IsJob name rows (Ways anchored steps pattern subject) = (name ≡ codes "ways") × IsWays rows anchored steps pattern.now subject.now
 
--- the job of the words, of which the first is the program's name
+-- the job of what was found: the name of a command, and the rows of its words
+abbrev pub HoldsJob : Option (Text × List Row) → Job → Type 0
+HoldsJob found job = MatchOption found ⊥ (λ f. IsJob f.0 f.1 job)
+
+-- the job of the words, of which the first is the program's name: nothing is wrong with them, and they hold it
 abbrev pub IsJobOf : List Text → Job → Type 0
-IsJobOf words job = MatchOption (subcommand_of snobol4 words) ⊥ (λ found. IsJob found.0 found.1 job)
+IsJobOf words job = (fault_of snobol4 words ≡ []) × HoldsJob (subcommand_of snobol4 words) job
+
+-- memory ran out, the words ask for help or something is wrong with them, of which the error has the kind, or they hold no job
+abbrev pub IsRefusalOf : List Text → Error → Type 0
+IsRefusalOf words e = HasKind (fault_of snobol4 words) e ⊎ ((job : Job) → HoldsJob (subcommand_of snobol4 words) job → ⊥)
 
 -- ---- where they hold none
 

@@ -32,6 +32,14 @@ impl<T> Device<T> {
     {
         self.inner
     }
+
+    /// Keeps that the reader or writer has failed.
+    fn fault(&mut self) -> DeviceFault
+        ensures { self.new ≡ record self.old { has_failed = true } }
+    {
+        self.has_failed = true;
+        DeviceFault
+    }
 }
 
 impl<W: Write> Device<W> {
@@ -48,10 +56,7 @@ impl<W: Write> Device<W> {
         }
         match self.inner.flush() {
             Ok(()) => Ok(()),
-            Err(_) => {
-                self.has_failed = true;
-                Err(DeviceFault)
-            }
+            Err(_) => Err(self.fault()),
         }
     }
 }
@@ -69,10 +74,7 @@ impl<R: Read> Source for Device<R> {
                 self.told_end = count == 0;
                 Ok(count)
             }
-            Err(_) => {
-                self.has_failed = true;
-                Err(DeviceFault)
-            }
+            Err(_) => Err(self.fault()),
         }
     }
 
@@ -92,14 +94,147 @@ impl<W: Write> Sink for Device<W> {
                 self.has_failed = count == 0;
                 Ok(count)
             }
-            Err(_) => {
-                self.has_failed = true;
-                Err(DeviceFault)
-            }
+            Err(_) => Err(self.fault()),
         }
     }
 
     fn failed(&self) -> bool {
         self.has_failed
+    }
+}
+
+#[cfg(test)]
+mod tests {
+    use super::*;
+    use crate::devices::put;
+    use std::alloc::Global;
+    use std::io::{self, BufWriter, ErrorKind};
+    use std::test::Fail;
+
+    const TEXT: &[u8] = b"several bytes";
+
+    /// Takes `at_once` bytes at a time and `room` in all. Where it is full it takes none, or answers an `Err`.
+    #[derive(Drop)]
+    struct Narrow {
+        taken: Vec<u8>,
+        at_once: usize,
+        room: usize,
+        takes_none: bool,
+        flushes: usize,
+    }
+
+    fn narrow_device(alloc: Global, at_once: usize, room: usize, takes_none: bool) -> Device<Narrow>
+        ensures { result.has_failed ≡ false }
+    {
+        Device::new(Narrow {
+            taken: Vec::new(alloc),
+            at_once,
+            room,
+            takes_none,
+            flushes: 0,
+        })
+    }
+
+    impl Write for Narrow {
+        fn write(&mut self, bytes: &[u8]) -> io::Result<usize> {
+            let count = bytes.len().min(self.at_once).min(self.room);
+            if count == 0 && !self.takes_none {
+                return Err(ErrorKind::BrokenPipe.into());
+            }
+            self.taken.extend_from_slice(&bytes[..count])?;
+            self.room -= count;
+            Ok(count)
+        }
+
+        fn flush(&mut self) -> io::Result<()> {
+            self.flushes = self.flushes.saturating_add(1);
+            if self.room == 0 {
+                Err(ErrorKind::BrokenPipe.into())
+            } else {
+                Ok(())
+            }
+        }
+    }
+
+    #[test]
+    fn puts_all_or_a_beginning(rt: HostRuntime) {
+        for takes_none in [false, true] {
+            for at_once in [1, 2, 5, 100] {
+                for room in 0..TEXT.len() + 2 {
+                    let mut device = narrow_device(rt.alloc(), at_once, room, takes_none);
+                    let done = put(&mut device, TEXT);
+                    let fits = room >= TEXT.len();
+                    assert_eq!(rt; done.is_ok(), fits, "at {room}");
+                    assert_eq!(rt; Sink::failed(&device), !fits, "at {room}");
+                    let taken = device.into_inner().taken;
+                    assert!(rt;
+                        taken.as_slice() == &TEXT[..room.min(TEXT.len())],
+                        "at {room}"
+                    );
+                }
+            }
+        }
+    }
+
+    #[test]
+    fn puts_into_memory(rt: HostRuntime) -> Result<(), Fail> {
+        let mut device = Device::new(Vec::new(rt.alloc()));
+        put(&mut device, b"one, ")?;
+        put(&mut device, b"")?;
+        put(&mut device, b"two")?;
+        assert!(rt; device.into_inner().as_slice() == b"one, two".as_slice());
+        Ok(())
+    }
+
+    #[test]
+    fn reads_to_the_end(rt: HostRuntime) -> Result<(), Fail> {
+        let bytes: &[u8] = b"abc";
+        let mut device = Device::new(bytes);
+        let mut buf = [0; 2];
+        assert_eq!(rt; device.read(&mut buf)?, 2);
+        assert_eq!(rt; buf, [97, 98]);
+        assert_eq!(rt; device.read(&mut buf)?, 1);
+        assert_eq!(rt; buf[0], 99);
+        assert_eq!(rt; device.read(&mut buf)?, 0);
+        assert!(rt; !Source::failed(&device));
+        Ok(())
+    }
+
+    /// A reader that fails at its first read.
+    #[derive(Drop)]
+    struct Broken;
+
+    impl Read for Broken {
+        fn read(&mut self, _buf: &mut [u8]) -> io::Result<usize> {
+            Err(ErrorKind::PermissionDenied.into())
+        }
+    }
+
+    #[test]
+    fn keeps_a_read_fault(rt: HostRuntime) {
+        let mut device = Device::new(Broken);
+        assert_eq!(rt; device.read(&mut [0; 4]), Err(DeviceFault));
+        assert!(rt; Source::failed(&device));
+    }
+
+    #[test]
+    fn flushes_what_is_held_back(rt: HostRuntime) -> Result<(), Fail> {
+        let inner = Vec::new(rt.alloc());
+        let mut device = Device::new(BufWriter::with_capacity(rt.alloc(), 8, inner)?);
+        put(&mut device, b"abc")?;
+        device.flush()?;
+        let (written, held_back) = device.into_inner().into_parts();
+        assert!(rt; written.as_slice() == b"abc".as_slice());
+        assert!(rt; held_back.is_empty());
+        Ok(())
+    }
+
+    #[test]
+    fn flush_faults_once(rt: HostRuntime) {
+        let mut device = narrow_device(rt.alloc(), 1, 0, false);
+        assert_eq!(rt; device.flush(), Err(DeviceFault));
+        assert!(rt; Sink::failed(&device));
+        assert_eq!(rt; device.flush(), Err(DeviceFault));
+        assert_eq!(rt; device.into_inner().flushes, 1);
     }
 }

@@ -1,8 +1,9 @@
 //! The words of the command line, which `clap` reads.
-ghost use Rattle.std.specs.Prelude.{◌≡◌, codes, false, map, IfOk, IfSome};
-ghost use Rattle.clap.specs.Words.{app_of, found_of, kind_of, rows_of, rule_of};
+ghost use Rattle.std.specs.Prelude.{◌≡◌, ℕ, Bool, codes, false, map, IfErr, IfNone, IfOk, IfSome, List};
+ghost use Rattle.clap.specs.Words.{app_of, found_of, kind_of, rows_of, rule_of, subcommand_rows_of};
 ghost use Rattle.clap.specs.declared.builder.value_parser.ValueParser.TheVariants as parsers;
-ghost use Rattle.sno_io.specs.Words.{flag_rule, number_rule, snobol4, status, word_rule, IsJob, IsJobOf, IsNumber};
+ghost use Rattle.sno_io.specs.declared.jobs.Job.{Job};
+ghost use Rattle.sno_io.specs.Words.{flag_rule, number_rule, snobol4, status, word_rule, HoldsJob, IsJob, IsJobOf, IsNumber, IsRefusalOf, IsWays};
 
 use crate::jobs::Job;
 use clap::builder::ValueParser;
@@ -16,20 +17,21 @@ const MOST_STEPS: u32 = 1_000_000_000;
 /// The steps of a match, where the words say nothing.
 const DEFAULT_STEPS: u32 = 1_000_000;
 
+const STEPS_HELP: &str = "The most steps of the match: 0 to 1000000000 [default: 1000000]";
+
 /// The job that the words ask for; the first word is the program's name. An `Err` is a call for help, a fault of usage
 /// or want of memory: `status_of` tells which, and its text is for the user.
 pub fn command<'a>(alloc: Global, words: &'a [&'a str]) -> Result<Job<'a>, Error>
-    ensures { IfOk result (λ job. IsJobOf (map (λ w. w.now) words.entry.now) job) }
+    ensures job { IfOk result (IsJobOf (map (λ w. w.now) words.entry.now)) }
+    ensures refused { IfErr result (IsRefusalOf (map (λ w. w.now) words.entry.now)) }
 {
     let mut root = program(alloc)?;
     let matches = root.try_get_matches_from_mut(words)?;
-    if let Some((name, found)) = matches.subcommand() {
-        if let Some(job) = job_of(name, found) {
-            return Ok(job);
-        }
+    match job_of(&matches) {
+        Some(job) => Ok(job),
+        // The parse has refused such words before, but its contract does not say so of a command's own words.
+        None => Err(root.error(ErrorKind::MissingSubcommand, "a command is wanted")?),
     }
-    // The parse refuses such words itself, but its contract does not say so of what a command holds.
-    Err(root.error(ErrorKind::MissingSubcommand, "a command is wanted")?)
 }
 
 /// The status with which the program ends where the words give no job: 0 for help, 6 for want of memory, and 64 for a
@@ -51,13 +53,7 @@ fn program<'a>(alloc: Global) -> Result<Command<'a>, AllocError>
     let ways = Command::new(alloc, "ways")
         .about("List the ways in which a pattern matches a subject")
         .arg(flag(alloc, "anchor", "Start at the subject's first byte alone"))?
-        .arg(number(
-            alloc,
-            "steps",
-            "The most steps of the match [default: 1000000]",
-            0,
-            1_000_000_000,
-        ))?
+        .arg(number(alloc, "steps", STEPS_HELP, 0, MOST_STEPS as u64))?
         .arg(word(alloc, "PATTERN", "A pattern, written as in a program"))?
         .arg(word(alloc, "SUBJECT", "The text in which it is matched"))?;
     let root = Command::new(alloc, "snobol4")
@@ -103,27 +99,41 @@ fn flag<'a>(alloc: Global, id: &'a str, help: &'a str) -> Arg<'a>
         .help(help)
 }
 
-/// The job of a command's matches, None where they hold none.
-fn job_of<'a>(name: &str, found: &ArgMatches<'a>) -> Option<Job<'a>>
-    ensures { IfSome result (λ job. IsJob name.now (rows_of (found_of found.now)) job) }
+/// The job of the matches, None where they hold none.
+fn job_of<'a>(matches: &ArgMatches<'a>) -> Option<Job<'a>>
+    ensures some { IfSome result (HoldsJob (subcommand_rows_of matches.now)) }
+    ensures none { IfNone result ((job : Job) → HoldsJob (subcommand_rows_of matches.now) job → ⊥) }
 {
+    let (name, found) = matches.subcommand()?;
     match name {
-        "ways" => Some(Job::Ways {
-            anchored: found.get_flag("anchor"),
-            steps: steps_of(found, "steps")?,
-            pattern: found.get_str("PATTERN")?,
-            subject: found.get_str("SUBJECT")?,
-        }),
+        "ways" => ways_of(found),
         _ => None,
     }
 }
 
-/// The number of steps that an option asks for, None where it is out of its range.
-#[tactic(auto, using(crate::proofs::Numbers::number_facts))]
-fn steps_of(found: &ArgMatches<'_>, id: &str) -> Option<u32>
-    ensures { IfSome result (λ n. IsNumber 0 1000000000 1000000 id.now (rows_of (found_of found.now)) n) }
+/// The job of the matches of the command `ways`, None where they hold none.
+fn ways_of<'a>(found: &ArgMatches<'a>) -> Option<Job<'a>>
+    ensures some { IfSome result (IsJob (codes "ways") (rows_of (found_of found.now))) }
+    ensures none { IfNone result ((anchored : Bool) (steps : ℕ) (pattern subject : List ℕ)
+        → IsWays (rows_of (found_of found.now)) anchored steps pattern subject → ⊥) }
 {
-    if !found.contains_id(id) {
+    let steps = steps_of(found, "steps")?;
+    let pattern = found.get_str("PATTERN")?;
+    let subject = found.get_str("SUBJECT")?;
+    Some(Job::Ways {
+        anchored: found.get_flag("anchor"),
+        steps,
+        pattern,
+        subject,
+    })
+}
+
+/// The number of steps that an option asks for, None where it is no number or out of its range.
+fn steps_of(found: &ArgMatches<'_>, id: &str) -> Option<u32>
+    ensures some { IfSome result (IsNumber 0 1000000000 1000000 id.now (rows_of (found_of found.now))) }
+    ensures none { IfNone result ((n : ℕ) → IsNumber 0 1000000000 1000000 id.now (rows_of (found_of found.now)) n → ⊥) }
+{
+    if found.get_str(id).is_none() {
         return Some(DEFAULT_STEPS);
     }
     let steps = found.get_one::<u32>(id)?;
@@ -131,5 +141,161 @@ fn steps_of(found: &ArgMatches<'_>, id: &str) -> Option<u32>
         Some(steps)
     } else {
         None
+    }
+}
+
+#[cfg(test)]
+mod tests {
+    use super::*;
+    use std::test::Fail;
+
+    #[test]
+    fn accepts(rt: HostRuntime) -> Result<(), Fail> {
+        let plain = Job::Ways {
+            anchored: false,
+            steps: 1_000_000,
+            pattern: "'A'",
+            subject: "AB",
+        };
+        let full = Job::Ways {
+            anchored: true,
+            steps: 5,
+            pattern: "'A'",
+            subject: "AB",
+        };
+        let dashed = Job::Ways {
+            anchored: false,
+            steps: 1_000_000,
+            pattern: "-X",
+            subject: "--anchor",
+        };
+        let lone = Job::Ways {
+            anchored: false,
+            steps: 1_000_000_000,
+            pattern: "-",
+            subject: "",
+        };
+        let rows: [(&[&str], Job); 9] = [
+            (&["snobol4", "ways", "'A'", "AB"], plain),
+            (
+                &["snobol4", "ways", "--anchor", "--steps", "5", "'A'", "AB"],
+                full,
+            ),
+            (
+                &["snobol4", "ways", "--anchor", "--steps=5", "'A'", "AB"],
+                full,
+            ),
+            (
+                &["snobol4", "ways", "'A'", "AB", "--steps", "+5", "--anchor"],
+                full,
+            ),
+            (
+                &["snobol4", "ways", "'A'", "--steps", "005", "--anchor", "AB"],
+                full,
+            ),
+            (&["other name", "ways", "--", "'A'", "AB"], plain),
+            (&["snobol4", "ways", "--", "-X", "--anchor"], dashed),
+            (&["snobol4", "ways", "--steps", "1000000000", "-", ""], lone),
+            (
+                &["snobol4", "ways", "--steps", "1000000", "'A'", "AB"],
+                plain,
+            ),
+        ];
+        for (words, want) in rows {
+            let job = command(rt.alloc(), words)?;
+            assert!(rt; job == want, "at {words:?}");
+        }
+        Ok(())
+    }
+
+    /// The status where the words are refused.
+    fn refusal<'a>(alloc: Global, words: &'a [&'a str]) -> Option<u8> {
+        match command(alloc, words) {
+            Ok(_) => None,
+            Err(error) => Some(status_of(&error)),
+        }
+    }
+
+    #[test]
+    fn refuses(rt: HostRuntime) {
+        let rows: [&[&str]; 23] = [
+            &["snobol4"],
+            &["snobol4", "ways"],
+            &["snobol4", "ways", "'A'"],
+            &["snobol4", "ways", "'A'", "AB", "C"],
+            &["snobol4", "way", "'A'", "AB"],
+            &["snobol4", "check", "FILE"],
+            &["snobol4", "run", "FILE"],
+            &["snobol4", "--anchor", "ways", "'A'", "AB"],
+            &["snobol4", "ways", "--anchor", "--anchor", "'A'", "AB"],
+            &["snobol4", "ways", "--anchor=x", "'A'", "AB"],
+            &["snobol4", "ways", "--anch", "'A'", "AB"],
+            &[
+                "snobol4", "ways", "--steps", "5", "--steps", "5", "'A'", "AB",
+            ],
+            &["snobol4", "ways", "--steps", "1000000001", "'A'", "AB"],
+            &[
+                "snobol4",
+                "ways",
+                "--steps",
+                "99999999999999999999",
+                "'A'",
+                "AB",
+            ],
+            &["snobol4", "ways", "--steps", "-1", "'A'", "AB"],
+            &["snobol4", "ways", "--steps", "many", "'A'", "AB"],
+            &["snobol4", "ways", "--steps=", "'A'", "AB"],
+            &["snobol4", "ways", "--steps", " 5", "'A'", "AB"],
+            &["snobol4", "ways", "'A'", "AB", "--steps"],
+            &["snobol4", "ways", "-X", "AB"],
+            &["snobol4", "ways", "'A'", "-1"],
+            &["snobol4", "ways", "--version", "'A'", "AB"],
+            &["snobol4", "help", "run"],
+        ];
+        for words in rows {
+            assert_eq!(rt; refusal(rt.alloc(), words), Some(64), "at {words:?}");
+        }
+        assert_eq!(rt; refusal(rt.alloc(), &[]), Some(64));
+    }
+
+    #[test]
+    fn helps(rt: HostRuntime) {
+        let rows: [&[&str]; 6] = [
+            &["snobol4", "--help"],
+            &["snobol4", "-h"],
+            &["snobol4", "help"],
+            &["snobol4", "help", "ways"],
+            &["snobol4", "ways", "--help"],
+            &["snobol4", "ways", "-h", "--steps", "many"],
+        ];
+        for words in rows {
+            assert_eq!(rt; refusal(rt.alloc(), words), Some(0), "at {words:?}");
+        }
+    }
+
+    const WAYS_HELP: &str = "List the ways in which a pattern matches a subject
+
+Usage: snobol4 ways [OPTIONS] <PATTERN> <SUBJECT>
+
+Arguments:
+  <PATTERN>  A pattern, written as in a program
+  <SUBJECT>  The text in which it is matched
+
+Options:
+      --anchor     Start at the subject's first byte alone
+      --steps <N>  The most steps of the match: 0 to 1000000000 [default: 1000000]
+  -h, --help       Print help
+";
+
+    #[test]
+    fn shows_help(rt: HostRuntime) -> Result<(), Fail> {
+        match command(rt.alloc(), &["snobol4", "ways", "--help"]) {
+            Ok(_) => assert!(rt; false, "accepted"),
+            Err(error) => {
+                let text = format!(in rt.alloc(); "{error}")?;
+                assert_eq!(rt; text.as_str(), WAYS_HELP);
+            }
+        }
+        Ok(())
     }
 }
