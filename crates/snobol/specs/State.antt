@@ -1,12 +1,11 @@
 -- What contracts see of a machine, and what its functions did.
-use Rattle.std.specs.Prelude.{◌≡◌, ℕ, ◌<◌, ◌≤◌, List, [], ◌∷◌, ◌++◌, length, Option, None, Some, Result, Ok, Err}
+use Rattle.std.specs.Prelude.{◌≡◌, List, [], ◌++◌, length, Result, Ok, Err}
 use Rattle.sno_pattern.specs.Table.{Node}
 use Rattle.snobol.specs.declared.machine.Exit.{Exit}
 use Rattle.snobol.specs.declared.machine.Exit.TheVariants.{Failure, Halt}
-use Rattle.snobol.specs.declared.machine.Stop.{Stop}
 use Rattle.snobol.specs.declared.machine.Stop.TheVariants.{Error as HasError, NoMemory, WriteFault}
 use Rattle.snobol.specs.World.{World}
-use Rattle.snobol.specs.Action.{End, Error, Ending, Got, Fails, Stops, Outcome, Action}
+use Rattle.snobol.specs.Action.{Error, Got, Fails, Stops, Outcome, Action}
 
 pub record State : Type 0 where
   pub nodes : List Node
