@@ -4,3 +4,4 @@ pub mod Expressions
 pub mod Piles
 pub mod Leads
 pub mod Ordered
+pub mod ListingLaws

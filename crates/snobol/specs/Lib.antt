@@ -9,4 +9,3 @@ pub mod Pile
 pub mod Narrow
 pub mod Reading
 pub mod Lines
-pub mod Listing

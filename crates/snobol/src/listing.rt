@@ -1,21 +1,42 @@
 //! The lines of the ways in which a pattern matches.
-ghost use Rattle.std.specs.Prelude.{◌≡◌, ◌<◌, ◌||◌, [], false, true, length, IfOk, IfErr, string_bytes};
+ghost use Rattle.std.specs.Prelude.{◌≡◌, List, ◌<◌, ◌||◌, [], false, true, length, IfOk, IfErr, string_bytes};
 ghost use Rattle.sno_io.specs.Devices.{TakesBytes};
 ghost use Rattle.sno_pattern.specs.Table.{tree};
 ghost use Rattle.sno_match.specs.Search.{trace};
-ghost use Rattle.sno_match.specs.Events.{is_last, is_value};
+ghost use Rattle.sno_match.specs.Events.{in_trace, is_last, is_value};
+ghost use Rattle.sno_match.specs.declared.event.Pending.{Pending};
 ghost use Rattle.snobol.specs.Lines.{line_of, lines_of, IsBrokenOff};
 
 use crate::machine::Stop;
-use sno_io::{Sink, put};
+use sno_io::{DeviceFault, Sink, put};
 use sno_match::{Event, Matcher};
 use sno_pattern::Patterns;
 use sno_value::PatId;
 use std::alloc::{AllocError, Global};
 
+impl From<AllocError> for Stop {
+    ghost use Rattle.snobol.specs.declared.machine.Stop.TheVariants.{NoMemory};
+
+    ghost from_gives = { λ _ e. e ≡ NoMemory };
+
+    fn from(_error: AllocError) -> Stop {
+        Stop::NoMemory
+    }
+}
+
+impl From<DeviceFault> for Stop {
+    ghost use Rattle.snobol.specs.declared.machine.Stop.TheVariants.{WriteFault};
+
+    ghost from_gives = { λ _ e. e ≡ WriteFault };
+
+    fn from(_fault: DeviceFault) -> Stop {
+        Stop::WriteFault
+    }
+}
+
 /// The line of an event, with its line feed.
 fn line_of(alloc: Global, event: Event) -> Result<String, AllocError>
-    ensures { IfOk result (λ line. string_bytes line ≡ line_of event) }
+    ensures { IfOk result (λ line. (way : List Pending) → string_bytes line ≡ line_of (in_trace event way)) }
 {
     match event {
         Event::Way { start, end } => format!(in alloc; "way {start} {end}\n"),
