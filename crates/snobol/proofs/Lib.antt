@@ -1,0 +1,5 @@
+pub mod Outcomes
+pub mod Builders
+pub mod Variables
+pub mod Primitives
+pub mod Conversions

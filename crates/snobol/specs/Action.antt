@@ -45,5 +45,5 @@ either none some None = none
 either none some (Some x) = some x
 
 -- m, and then next with its value; where m fails all fails
-abbrev pub then : {A B : Type 0} → Action A → (A → Action B) → Action B
-then m next = settles m (either fails next)
+abbrev pub and_then : {A B : Type 0} → Action A → (A → Action B) → Action B
+and_then m next = settles m (either fails next)
