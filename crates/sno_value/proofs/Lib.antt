@@ -1,0 +1,6 @@
+pub mod ByteOrder
+pub mod Powers
+pub mod TrailingSpaces
+pub mod Copies
+pub mod Replacements
+pub mod Decimal

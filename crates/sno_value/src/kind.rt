@@ -1,4 +1,6 @@
 //! The primitives that take an argument.
+ghost use Rattle.std.specs.Prelude.{◌≡◌};
+ghost use Rattle.sno_value.specs.Kind.{takes_count};
 
 /// A primitive pattern that takes a count or a set of bytes. It is exported as `Prim`.
 #[derive(Clone, Copy, Debug, PartialEq, Eq)]
@@ -21,4 +23,39 @@ pub enum PrimitiveKind {
     Span,
     /// BREAK(s): up to the first byte of the set.
     Break,
+}
+
+impl PrimitiveKind {
+    /// Whether the argument is a count; else it is a set of bytes.
+    pub fn takes_count(self) -> bool
+        ensures { result ≡ takes_count self }
+    {
+        match self {
+            PrimitiveKind::Len
+            | PrimitiveKind::Pos
+            | PrimitiveKind::Rpos
+            | PrimitiveKind::Tab
+            | PrimitiveKind::Rtab => true,
+            PrimitiveKind::Any
+            | PrimitiveKind::NotAny
+            | PrimitiveKind::Span
+            | PrimitiveKind::Break => false,
+        }
+    }
+}
+
+#[cfg(test)]
+mod tests {
+    use super::*;
+
+    #[test]
+    fn counts_and_sets(rt: HostRuntime) {
+        use PrimitiveKind::{Any, Break, Len, NotAny, Pos, Rpos, Rtab, Span, Tab};
+        for kind in [Len, Pos, Rpos, Tab, Rtab] {
+            assert!(rt; kind.takes_count());
+        }
+        for kind in [Any, NotAny, Span, Break] {
+            assert!(rt; !kind.takes_count());
+        }
+    }
 }

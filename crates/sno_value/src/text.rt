@@ -1,6 +1,7 @@
 //! A string of bytes.
-ghost use Rattle.std.specs.Prelude.{◌≡◌};
+ghost use Rattle.std.specs.Prelude.{◌≡◌, IfOk};
 
+use std::alloc::{AllocError, Global};
 use std::marker::Model;
 
 /// A string of bytes, which contracts see as a list.
@@ -15,6 +16,26 @@ impl Model for Text {
     ghost Value = { List ℕ };
 
     ghost view = { λ t. t.bytes.items };
+}
+
+impl PartialEq for Text {
+    ghost use Rattle.std.specs.Str.{bytes_eq};
+    ghost use Rattle.std.specs.Cmp.{partial_equiv_from_equiv};
+    ghost use Rattle.std.specs.Cmp.Lexicographic.{nat_list_eq_equiv};
+
+    ghost eq = { bytes_eq };
+
+    ghost laws = { partial_equiv_from_equiv nat_list_eq_equiv };
+
+    fn eq(&self, other: &Text) -> bool {
+        self.as_slice() == other.as_slice()
+    }
+}
+
+impl Eq for Text {
+    ghost use Rattle.std.specs.Cmp.Lexicographic.{nat_list_eq_equiv};
+
+    ghost laws = { nat_list_eq_equiv };
 }
 
 impl Text {
@@ -37,5 +58,13 @@ impl Text {
         ensures { result.items ≡ self }
     {
         self.bytes
+    }
+
+    /// An equal string.
+    pub fn copy(&self, alloc: Global) -> Result<Text, AllocError>
+        ensures { IfOk result (λ text. text ≡ self.now) }
+    {
+        let bytes = Vec::from_slice(alloc, self.as_slice())?;
+        Ok(Text { bytes })
     }
 }

@@ -1,0 +1,311 @@
+//! The functions TRIM, DUPL, REPLACE and LGT on strings (the book, chapter 3).
+ghost use Rattle.std.specs.Prelude.{◌≡◌, ◌↔◌, ◌<ℤ◌, ◌<◌, ◌≤◌, ◌*◌, ℕ, pos, length, Ok, Err, Some, None, IfOk, IsNone, IsOkAnd, slice_index};
+ghost use Rattle.sno_value.specs.Strings.{trimmed, copies, duplicate, replacement, replaced, is_after, items_of, message_of};
+ghost use Rattle.sno_value.specs.declared.strings.TextError.TheVariants.{NoMemory};
+
+use std::alloc::{AllocError, Global};
+use std::error::Error;
+use std::fmt;
+
+/// The most bytes that a string may have (this profile).
+const MAX_TEXT: usize = 1_000_000;
+
+/// Why there is no string.
+#[derive(Clone, Copy, Debug, PartialEq, Eq)]
+pub enum TextError {
+    /// It would have more than 1,000,000 bytes.
+    TooLong,
+    /// Memory was refused.
+    NoMemory,
+}
+
+impl From<AllocError> for TextError {
+    ghost from_gives = { λ _ e. e ≡ NoMemory };
+
+    fn from(_e: AllocError) -> Self {
+        Self::NoMemory
+    }
+}
+
+impl fmt::Display for TextError {
+    ghost output = { λ e. Some (message_of e) };
+
+    fn fmt<W: fmt::Write>(&self, f: &mut fmt::Formatter<W>) -> fmt::Result {
+        f.write_str(match self {
+            TextError::TooLong => "string too long",
+            TextError::NoMemory => "no memory",
+        })
+    }
+}
+
+impl Error for TextError {}
+
+/// TRIM: the text without its trailing spaces (byte 32 alone, this profile).
+#[tactic(auto, using(crate::proofs::TrailingSpaces::trim_step, crate::proofs::TrailingSpaces::trim_end))]
+pub fn trim(text: &[u8]) -> &[u8]
+    ensures { result.now ≡ trimmed text.now }
+{
+    let mut kept = text;
+    while let [rest @ .., b' '] = kept {
+        kept = rest;
+    }
+    kept
+}
+
+/// DUPL: `count` copies of the text, one after another. It is None for a negative count, and too long where the copies
+/// have more than 1,000,000 bytes (both this profile).
+#[tactic(auto, using(crate::proofs::Copies::duplicate_at))]
+pub fn dupl(alloc: Global, text: &[u8], count: i64) -> Result<Option<Vec<u8>>, TextError>
+    ensures ok { IfOk result (λ answer. Ok (items_of answer) ≡ duplicate text.now count) }
+    ensures too_long { (result ≡ Err TextError.TooLong) ↔ (duplicate text.now count ≡ Err TextError.TooLong) }
+    ensures negative { count <ℤ pos 0 → IsOkAnd result IsNone }
+{
+    if count < 0 {
+        return Ok(None);
+    }
+    let count = count as usize;
+    match count.checked_mul(text.len()) {
+        Some(total) if total <= MAX_TEXT => {
+            let copied = copies_of(alloc, text, count)?;
+            Ok(Some(copied))
+        }
+        _ => Err(TextError::TooLong),
+    }
+}
+
+// So many copies of the text. Those of the empty text take no time.
+#[tactic(auto, using(crate::proofs::Copies::copies_more, crate::proofs::Copies::copies_empty))]
+fn copies_of(alloc: Global, text: &[u8], count: usize) -> Result<Vec<u8>, AllocError>
+    requires { count * length text.now ≤ 1_000_000 }
+    ensures { IfOk result (λ copied. copied.items ≡ copies count text.now) }
+{
+    if text.is_empty() {
+        return Ok(Vec::new(alloc));
+    }
+    let mut copied = Vec::with_capacity(alloc, count * text.len())?;
+    for _copy in 0..count {
+        copied.extend_from_slice(text)?;
+    }
+    Ok(copied)
+}
+
+/// REPLACE: the text with each byte that stands in `from` replaced by the byte of `to` at the last place where it stands
+/// in `from`. It is None where `from` is empty or not as long as `to` (this profile).
+pub fn replace(
+    alloc: Global,
+    text: &[u8],
+    from: &[u8],
+    to: &[u8],
+) -> Result<Option<Vec<u8>>, AllocError>
+    ensures ok { IfOk result (λ answer. items_of answer ≡ replaced text.now from.now to.now) }
+    ensures refused { replaced text.now from.now to.now ≡ None → IsOkAnd result IsNone }
+{
+    if from.is_empty() || from.len() != to.len() {
+        return Ok(None);
+    }
+    let table = replacement_table(from, to);
+    let mut output = Vec::with_capacity(alloc, text.len())?;
+    for byte in text {
+        output.push(table[*byte as usize])?;
+    }
+    Ok(Some(output))
+}
+
+// What stands for each byte: a later place in `from` overwrites an earlier one.
+fn replacement_table(from: &[u8], to: &[u8]) -> [u8; 256]
+    requires { length from.now ≡ length to.now }
+    ensures { (byte : ℕ) → byte < 256 → slice_index result byte ≡ replacement from.now to.now byte }
+{
+    let mut table = [0; 256];
+    for byte in 0..=u8::MAX {
+        table[byte as usize] = byte;
+    }
+    for (old, new) in from.iter().zip(to) {
+        table[*old as usize] = *new;
+    }
+    table
+}
+
+/// LGT: whether the text is after the other in byte order.
+#[tactic(auto, using(crate::proofs::ByteOrder::greater_is_after))]
+pub fn lgt(text: &[u8], other: &[u8]) -> bool
+    ensures { result ≡ is_after text.now other.now }
+{
+    text > other
+}
+
+#[cfg(test)]
+mod tests {
+    use super::*;
+    use std::test::Fail;
+
+    fn repeated(rt: &HostRuntime, byte: u8, count: usize) -> Result<Vec<u8>, AllocError> {
+        vec![in rt.alloc(); byte; count]
+    }
+
+    #[test]
+    fn messages(rt: HostRuntime) -> Result<(), Fail> {
+        assert_eq!(rt;
+            TextError::TooLong.to_string(rt.alloc())?.as_str(),
+            "string too long"
+        );
+        assert_eq!(rt;
+            TextError::from(AllocError).to_string(rt.alloc())?.as_str(),
+            "no memory"
+        );
+        Ok(())
+    }
+
+    #[test]
+    fn trims(rt: HostRuntime) -> Result<(), Fail> {
+        let rows = [
+            ("", ""),
+            (" ", ""),
+            ("A", "A"),
+            ("A  ", "A"),
+            (" A B ", " A B"),
+            ("A\t ", "A\t"),
+            ("A \t", "A \t"),
+        ];
+        for (text, trimmed) in rows {
+            assert_eq!(rt; trim(text.as_bytes()), trimmed.as_bytes(), "{text}");
+        }
+        for byte in 0..=u8::MAX {
+            let kept = if byte == 32 { 0 } else { 1 };
+            assert_eq!(rt; trim(&[byte]).len(), kept, "byte {byte}");
+            assert_eq!(rt; trim(&[byte, 32]).len(), kept, "byte {byte}");
+        }
+        let mut spaces = repeated(&rt, b' ', 1_000_000)?;
+        assert_eq!(rt; trim(&spaces).len(), 0);
+        spaces.push(b'A')?;
+        assert_eq!(rt; trim(&spaces).len(), 1_000_001);
+        Ok(())
+    }
+
+    #[test]
+    fn duplicates(rt: HostRuntime) -> Result<(), Fail> {
+        let rows = [
+            ("AB", 3, Some("ABABAB")),
+            ("AB", 1, Some("AB")),
+            ("AB", 0, Some("")),
+            ("", i64::MAX, Some("")),
+            ("", 0, Some("")),
+            ("A", -1, None),
+            ("A", i64::MIN, None),
+            ("", -1, None),
+        ];
+        for (text, count, copies) in rows {
+            let answer = dupl(rt.alloc(), text.as_bytes(), count)?;
+            assert_eq!(rt;
+                answer.as_deref(),
+                copies.map(str::as_bytes),
+                "{count} times {text}"
+            );
+        }
+        Ok(())
+    }
+
+    #[test]
+    fn duplicates_up_to_the_limit(rt: HostRuntime) -> Result<(), Fail> {
+        let longest = repeated(&rt, b'A', 1_000_000)?;
+        let too_long = repeated(&rt, b'A', 1_000_001)?;
+        for (text, count) in [
+            ("AB".as_bytes(), 500_000),
+            (b"A".as_slice(), 1_000_000),
+            (longest.as_slice(), 1),
+        ] {
+            let Some(copies) = dupl(rt.alloc(), text, count)? else {
+                return Err(Fail::from("none"))
+            };
+            assert_eq!(rt; copies.len(), 1_000_000);
+        }
+        for (text, count) in [
+            ("AB".as_bytes(), 500_001),
+            (b"A".as_slice(), 1_000_001),
+            (b"A".as_slice(), i64::MAX),
+            (b"AB".as_slice(), i64::MAX),
+            (longest.as_slice(), 2),
+            (too_long.as_slice(), 1),
+        ] {
+            assert_eq!(rt;
+                dupl(rt.alloc(), text, count).err(),
+                Some(TextError::TooLong)
+            );
+        }
+        let Some(none_of_it) = dupl(rt.alloc(), &too_long, 0)? else {
+            return Err(Fail::from("none"))
+        };
+        assert_eq!(rt; none_of_it.len(), 0);
+        Ok(())
+    }
+
+    #[test]
+    fn replaces(rt: HostRuntime) -> Result<(), Fail> {
+        let rows = [
+            ("ABA", "AB", "XY", Some("XYX")),
+            ("A", "AA", "XY", Some("Y")),
+            ("A", "AB", "X", None),
+            ("A", "", "", None),
+            ("", "A", "X", Some("")),
+            ("AB", "BA", "AB", Some("BA")),
+            ("ABC", "BAB", "123", Some("23C")),
+        ];
+        for (text, from, to, replaced) in rows {
+            let answer = replace(rt.alloc(), text.as_bytes(), from.as_bytes(), to.as_bytes())?;
+            assert_eq!(rt;
+                answer.as_deref(),
+                replaced.map(str::as_bytes),
+                "{text} {from} {to}"
+            );
+        }
+        Ok(())
+    }
+
+    #[test]
+    fn replaces_every_byte(rt: HostRuntime) -> Result<(), Fail> {
+        for byte in 0..=u8::MAX {
+            let other = byte ^ 255;
+            let Some(answer) = replace(rt.alloc(), &[byte, other], &[byte], &[7])? else {
+                return Err(Fail::from("none"))
+            };
+            assert_eq!(rt; answer.as_slice(), [7, other].as_slice());
+        }
+        let text = repeated(&rt, b'A', 1_000_000)?;
+        let mut to = repeated(&rt, b'X', 999_999)?;
+        to.push(b'Z')?;
+        let Some(answer) = replace(rt.alloc(), &text, &text, &to)? else {
+            return Err(Fail::from("none"))
+        };
+        assert!(rt; answer.iter().all(|byte| *byte == b'Z'));
+        Ok(())
+    }
+
+    #[test]
+    fn compares(rt: HostRuntime) -> Result<(), Fail> {
+        let rows = [
+            ("A", "", true),
+            ("", "", false),
+            ("", "A", false),
+            ("B", "A", true),
+            ("A", "A", false),
+            ("AB", "A", true),
+            ("A", "AB", false),
+            ("a", "B", true),
+            ("B", "AZ", true),
+        ];
+        for (text, other, after) in rows {
+            assert_eq!(rt;
+                lgt(text.as_bytes(), other.as_bytes()),
+                after,
+                "{text} {other}"
+            );
+        }
+        assert!(rt; lgt(&[255], &[127]));
+        assert!(rt; lgt(&[0], &[]));
+        let shorter = repeated(&rt, b'A', 1_000_000)?;
+        let longer = repeated(&rt, b'A', 1_000_001)?;
+        assert!(rt; lgt(&longer, &shorter));
+        assert!(rt; !lgt(&shorter, &longer));
+        Ok(())
+    }
+}
