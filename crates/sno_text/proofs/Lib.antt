@@ -1,0 +1,12 @@
+pub mod Runs
+pub mod Starts
+pub mod Joints
+pub mod Levels
+pub mod Primaries
+pub mod Elements
+pub mod Lists
+pub mod Tables
+pub mod Digits
+pub mod Steps
+pub mod Expressions
+pub mod Scans
