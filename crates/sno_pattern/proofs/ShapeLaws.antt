@@ -1,11 +1,15 @@
 -- A shape tells the tree.
-use Rattle.std.proofs.Common.{◌≡◌, ℕ, zero, suc, ◌+◌, ◌<◌, ◌≤◌, List, [], ◌∷◌, ◌++◌, length, get_or, map, refl, sym, ◌∙◌, ap, subst, ◌-◌, arith, Option, Some, None, slice_get}
+use Rattle.std.proofs.Common.{◌≡◌, ℕ, zero, suc, ◌+◌, ◌<◌, ◌≤◌, List, [], ◌∷◌, ◌++◌, length, get_or, map, refl, sym, ◌∙◌, ap, subst, ◌-◌, arith, Option, Some, None, IfSome, slice_get, ◌≢◌, ◌==◌, ◌&&◌, nat_eq, nat_le, not, Bool, true, false, if◌then◌else◌, drop}
+use Rattle.std.specs.List.{starts_with}
 use Rattle.sno_pattern.specs.Pattern.{Pattern, Arb, Leaf, Fence, Abort, Succeed, Arbno, Alt, Cat, Cond, Imm, Place, Defer}
-use Rattle.sno_pattern.specs.Ends.{ends, count_from}
+use Rattle.sno_pattern.specs.Ends.{is_in, count_from, end_if, end_after, run_length, first_in, ends}
 use Rattle.sno_pattern.specs.Table.{Node, LeafNode, FenceNode, AbortNode, SucceedNode, ArbnoNode, AltNode, CatNode, CondNode, ImmNode, PlaceNode, DeferNode, tree_over, trees_onto, tree, no_pattern, AllParts, PartsBelow}
 use Rattle.sno_pattern.specs.Kinds.{node_of, nodes_of, IsTable}
 use Rattle.sno_pattern.specs.Shape.{HasShape, shape_of, end_of, end_of_node}
 use Rattle.sno_pattern.specs.declared.kind.Kind.{Kind}
+use Rattle.sno_pattern.specs.declared.kind.Kind.TheVariants as K
+use Rattle.sno_pattern.specs.declared.kind.Entry.{Entry}
+use Rattle.sno_pattern.proofs.EndsRange.{Within, ends-rise, Rises-at}
 use Rattle.sno_pattern.proofs.TableLaws.{tree-at, AllParts-at, length-nodes}
 
 pub HasShape-node : (nodes : List Node) (id : ℕ) (node : Node) → PartsBelow node id → tree nodes id ≡ tree_over (trees_onto [] nodes) node → HasShape nodes id (shape_of node)
@@ -35,21 +39,21 @@ end_of-tree ts (ImmNode p target) s c i = refl
 end_of-tree ts (PlaceNode target) s c i = refl
 end_of-tree ts (DeferNode primitive expression) s c i = refl
 
-node-at : (kinds : List Kind) (id : ℕ) (kind : Kind) → id < length kinds → get_or kinds id kind ≡ kind → slice_get (nodes_of kinds) id ≡ Some (node_of kind)
-node-at [] id kind h e = absurd (omega arith)
-node-at (x ∷ kinds) zero kind h e = ap (λ k. Some (node_of k)) e
-node-at (x ∷ kinds) (suc id) kind h e = node-at kinds id kind (omega arith) e
+node-at : (entries : List Entry) (id : ℕ) (entry : Entry) → id < length entries → get_or entries id entry ≡ entry → slice_get (nodes_of entries) id ≡ Some (node_of entry.kind)
+node-at [] id entry h e = absurd (omega arith)
+node-at (x ∷ entries) zero entry h e = ap (λ (k : Entry). Some (node_of k.kind)) e
+node-at (x ∷ entries) (suc id) entry h e = node-at entries id entry (omega arith) e
 
-pub has_shape : (kinds : List Kind) (id : ℕ) (kind : Kind) → IsTable kinds → id < length kinds → get_or kinds id kind ≡ kind → HasShape (nodes_of kinds) id (shape_of (node_of kind))
-has_shape kinds id kind t h e =
-    let at = node-at kinds id kind h e in
+pub has_shape : (entries : List Entry) (id : ℕ) (entry : Entry) → IsTable entries → id < length entries → get_or entries id entry ≡ entry → HasShape (nodes_of entries) id (shape_of (node_of entry.kind))
+has_shape entries id entry t h e =
+    let at = node-at entries id entry h e in
     let z : 0 + id ≡ id = omega arith in
-    HasShape-node (nodes_of kinds) id (node_of kind) (rw z at (AllParts-at 0 (nodes_of kinds) id (node_of kind) t.parts at)) (tree-at (nodes_of kinds) id (node_of kind) t.parts at)
+    HasShape-node (nodes_of entries) id (node_of entry.kind) (rw z at (AllParts-at 0 (nodes_of entries) id (node_of entry.kind) t.parts at)) (tree-at (nodes_of entries) id (node_of entry.kind) t.parts at)
 
-pub end_of-kind : (kinds : List Kind) (id : ℕ) (kind : Kind) (s : List ℕ) (c i : ℕ) → IsTable kinds → id < length kinds → get_or kinds id kind ≡ kind → end_of_node (node_of kind) s c i ≡ end_of (tree (nodes_of kinds) id) s c i
-end_of-kind kinds id kind s c i t h e =
-    let at = node-at kinds id kind h e in
-    rw (tree-at (nodes_of kinds) id (node_of kind) t.parts at) (end_of-tree (trees_onto [] (nodes_of kinds)) (node_of kind) s c i)
+pub end_of-kind : (entries : List Entry) (id : ℕ) (entry : Entry) (s : List ℕ) (c i : ℕ) → IsTable entries → id < length entries → get_or entries id entry ≡ entry → end_of_node (node_of entry.kind) s c i ≡ end_of (tree (nodes_of entries) id) s c i
+end_of-kind entries id entry s c i t h e =
+    let at = node-at entries id entry h e in
+    rw (tree-at (nodes_of entries) id (node_of entry.kind) t.parts at) (end_of-tree (trees_onto [] (nodes_of entries)) (node_of entry.kind) s c i)
 
 slice_get-count_from : (c n i : ℕ) → i < n → slice_get (count_from c n) i ≡ Some (c + i)
 slice_get-count_from c zero i h = absurd (omega arith)
@@ -66,3 +70,48 @@ arb_end s c i h k = sym (slice_get-count_from c (length s + 1 - c) i (omega arit
 
 pub arb_no_end : (s : List ℕ) (c i : ℕ) → c ≤ length s → length s - c < i → None ≡ slice_get (ends Arb s c) i
 arb_no_end s c i h k = sym (slice_get-count_from_none c (length s + 1 - c) i (omega arith))
+
+end_if-one : (b : Bool) (e i : ℕ) → i ≢ 0 → None ≡ slice_get (end_if b e) i
+end_if-one true e zero h = absurd (h refl)
+end_if-one true e (suc i) h = refl
+end_if-one false e i h = refl
+
+end_after-one : (p : ℕ → Bool) (byte : Option ℕ) (c i : ℕ) → i ≢ 0 → None ≡ slice_get (end_after p byte c) i
+end_after-one p None c i h = refl
+end_after-one p (Some byte) c i h = end_if-one (p byte) (c + 1) i h
+
+first_in-one : (set : List ℕ) (c : ℕ) (bytes : List ℕ) (i : ℕ) → i ≢ 0 → None ≡ slice_get (first_in set c bytes) i
+first_in-one set c [] i h = refl
+first_in-one set c (byte ∷ bytes) i h = go (is_in set byte) (first_in-one set (c + 1) bytes i h)
+  where
+    go : (b : Bool) → None ≡ slice_get (first_in set (c + 1) bytes) i → None ≡ slice_get (if b then c ∷ [] else first_in set (c + 1) bytes) i
+    go true e = end_if-one true c i h
+    go false e = e
+
+-- a primitive has one end at most, but for ARB and BAL
+pub one_end : (kind : Kind) (s : List ℕ) (c i : ℕ) → kind ≢ K.Arb → kind ≢ K.Bal → i ≢ 0 → None ≡ end_of_node (node_of kind) s c i
+one_end (K.Text bytes) s c i a b h = end_if-one (starts_with nat_eq (drop c s) bytes.items) (c + length bytes.items) i h
+one_end (K.Len n) s c i a b h = end_if-one (nat_le (c + n) (length s)) (c + n) i h
+one_end (K.Pos n) s c i a b h = end_if-one (c == n) c i h
+one_end (K.Rpos n) s c i a b h = end_if-one (c + n == length s) c i h
+one_end (K.Tab n) s c i a b h = end_if-one (nat_le c n && nat_le n (length s)) n i h
+one_end (K.Rtab n) s c i a b h = end_if-one (nat_le (c + n) (length s)) (length s - n) i h
+one_end (K.Any set) s c i a b h = end_after-one (is_in set) (slice_get s c) c i h
+one_end (K.NotAny set) s c i a b h = end_after-one (λ byte. not (is_in set byte)) (slice_get s c) c i h
+one_end (K.Span set) s c i a b h = end_if-one (not (run_length set (drop c s) == 0)) (c + run_length set (drop c s)) i h
+one_end (K.Break set) s c i a b h = first_in-one set c (drop c s) i h
+one_end K.Arb s c i a b h = absurd (a refl)
+one_end K.Bal s c i a b h = absurd (b refl)
+one_end K.Rem s c i a b h = end_if-one true (length s) i h
+one_end K.Fail s c i a b h = refl
+one_end kind s c i a b h = refl
+
+-- an end is at or behind the cursor and within the subject, and there are no more ends than places
+pub end_of-range : (pattern : Pattern) (s : List ℕ) (c i : ℕ) (r : Option ℕ) → c ≤ length s → r ≡ end_of pattern s c i → IfSome r (Within (c + i) (length s))
+end_of-range pattern s c i None h e = tt
+end_of-range (Leaf a) s c i (Some x) h e = Rises-at c (length s) (ends a s c) i x (sym e) (ends-rise a s c h)
+end_of-range pattern s c i (Some x) h e = absurd (cc)
+
+pub IfSome-to : (P Q : ℕ → Type 0) (r : Option ℕ) → ((x : ℕ) → P x → Q x) → IfSome r P → IfSome r Q
+IfSome-to P Q None h p = tt
+IfSome-to P Q (Some x) h p = h x p

@@ -1,31 +1,34 @@
 -- What appending a node keeps.
-use Rattle.std.proofs.Common.{◌≡◌, ℕ, zero, suc, ◌+◌, ◌<◌, ◌≤◌, List, [], ◌∷◌, ◌++◌, length, get_or, map, refl, sym, ◌∙◌, ap, subst, arith, append_assoc, length-append, Option, Some, None, slice_get}
+use Rattle.std.proofs.Common.{◌≡◌, ℕ, zero, suc, ◌+◌, ◌<◌, ◌≤◌, List, [], ◌∷◌, ◌++◌, length, get_or, map, refl, sym, ◌∙◌, ap, subst, arith, append_assoc, length-append, Option, Some, None, slice_get, Bool, true, false, ◌&&◌, ◌↔◌, IsTrue, ◌⊎◌, inl, inr, ⊎_elim}
 use Rattle.std.proofs.Math.ListN.{get_or-append}
 use Rattle.std.proofs.Math.Seq.{get_or-append_seam}
 use Rattle.sno_pattern.specs.Pattern.{Pattern, Leaf, Fence, Abort, Succeed, Arbno, Alt, Cat, Cond, Imm, Place, Defer}
 use Rattle.sno_pattern.specs.Table.{Node, LeafNode, FenceNode, AbortNode, SucceedNode, ArbnoNode, AltNode, CatNode, CondNode, ImmNode, PlaceNode, DeferNode, tree_over, trees_onto, tree, no_pattern, AllParts, PartsBelow}
-use Rattle.sno_pattern.specs.Kinds.{node_of, nodes_of, IsTable}
+use Rattle.sno_pattern.specs.Quiet.{IsQuiet}
+use Rattle.sno_pattern.specs.Kinds.{node_of, nodes_of, flags_of, quiet_over, IsTable}
 use Rattle.sno_pattern.specs.declared.kind.Kind.{Kind}
+use Rattle.sno_pattern.specs.declared.kind.Entry.{Entry}
 
 pub AllParts-append : (n : ℕ) (nodes : List Node) (node : Node) → AllParts n nodes → PartsBelow node (n + length nodes) → AllParts n (nodes ++ node ∷ [])
 AllParts-append n [] node h p = (let e : n + 0 ≡ n = omega arith in rw e at p, tt)
 AllParts-append n (x ∷ nodes) node h p =
     (h.0, AllParts-append (suc n) nodes node h.1 (let e : n + suc (length nodes) ≡ suc n + length nodes = omega arith in rw e at p))
 
-pub length-nodes : (kinds : List Kind) → length (nodes_of kinds) ≡ length kinds
+pub length-nodes : (entries : List Entry) → length (nodes_of entries) ≡ length entries
 length-nodes [] = refl
-length-nodes (x ∷ kinds) = ap suc (length-nodes kinds)
+length-nodes (x ∷ entries) = ap suc (length-nodes entries)
 
-pub nodes_of-append : (xs : List Kind) (kind : Kind) → nodes_of (xs ++ kind ∷ []) ≡ nodes_of xs ++ node_of kind ∷ []
-nodes_of-append [] kind = refl
-nodes_of-append (x ∷ xs) kind = ap (λ ns. node_of x ∷ ns) (nodes_of-append xs kind)
+length-flags : (entries : List Entry) → length (flags_of entries) ≡ length entries
+length-flags [] = refl
+length-flags (x ∷ entries) = ap suc (length-flags entries)
 
-pub appended : (xs ys : List Kind) (kind : Kind) → IsTable xs → PartsBelow (node_of kind) (length xs) → suc (length xs) ≤ 4000000 → ys ≡ xs ++ kind ∷ [] → IsTable ys
-appended xs ys kind h p room e = record {
-  room = rw e (omega (arith, length-append xs (kind ∷ []), room));
-  parts = rw (e, nodes_of-append) (AllParts-append 0 (nodes_of xs) (node_of kind) h.parts
-      (let e' : 0 + length (nodes_of xs) ≡ length xs = omega (arith, length-nodes xs) in rw e' p));
-}
+pub nodes_of-append : (xs : List Entry) (entry : Entry) → nodes_of (xs ++ entry ∷ []) ≡ nodes_of xs ++ node_of entry.kind ∷ []
+nodes_of-append [] entry = refl
+nodes_of-append (x ∷ xs) entry = ap (λ ns. node_of x.kind ∷ ns) (nodes_of-append xs entry)
+
+flags_of-append : (xs : List Entry) (entry : Entry) → flags_of (xs ++ entry ∷ []) ≡ flags_of xs ++ entry.quiet ∷ []
+flags_of-append [] entry = refl
+flags_of-append (x ∷ xs) entry = ap (λ bs. x.quiet ∷ bs) (flags_of-append xs entry)
 
 trees_onto-length : (before : List Pattern) (nodes : List Node) → length (trees_onto before nodes) ≡ length before + length nodes
 trees_onto-length before [] = omega arith
@@ -87,3 +90,76 @@ AllParts-at n [] k node h at = absurd (cc)
 AllParts-at n (x ∷ nodes) zero node h at =
     let is : x ≡ node = cc in let e : n + 0 ≡ n = omega arith in rw e (subst (λ (y : Node). PartsBelow y n) is h.0)
 AllParts-at n (x ∷ nodes) (suc k) node h at = let e : n + suc k ≡ suc n + k = omega arith in rw e (AllParts-at (suc n) nodes k node h.1 at)
+
+-- the flags of the parts tell whether the tree is quiet
+quiet-and : (a b : Bool) (P Q : Type 0) → (IsTrue a ↔ P) → (IsTrue b ↔ Q) → IsTrue (a && b) ↔ (P × Q)
+quiet-and true true P Q f g = (λ e. (f.0 refl, g.0 refl), λ h. refl)
+quiet-and true false P Q f g = (λ e. absurd (cc), λ h. absurd (let e = g.1 h.1 in cc))
+quiet-and false b P Q f g = (λ e. absurd (cc), λ h. absurd (let e = f.1 h.0 in cc))
+
+quiet_over-tree : (flags : List Bool) (trees : List Pattern) (node : Node) (n : ℕ) → PartsBelow node n →
+    ((i : ℕ) → i < n → IsTrue (get_or flags i false) ↔ IsQuiet (get_or trees i no_pattern)) →
+    IsTrue (quiet_over flags node) ↔ IsQuiet (tree_over trees node)
+quiet_over-tree flags trees (LeafNode a) n h e = (λ t. tt, λ t. refl)
+quiet_over-tree flags trees FenceNode n h e = (λ t. absurd (cc), λ t. absurd t)
+quiet_over-tree flags trees AbortNode n h e = (λ t. absurd (cc), λ t. absurd t)
+quiet_over-tree flags trees SucceedNode n h e = (λ t. absurd (cc), λ t. absurd t)
+quiet_over-tree flags trees (ArbnoNode p) n h e = e p h
+quiet_over-tree flags trees (AltNode p q) n h e = quiet-and (get_or flags p false) (get_or flags q false) (IsQuiet (get_or trees p no_pattern)) (IsQuiet (get_or trees q no_pattern)) (e p h.0) (e q h.1)
+quiet_over-tree flags trees (CatNode p q) n h e = quiet-and (get_or flags p false) (get_or flags q false) (IsQuiet (get_or trees p no_pattern)) (IsQuiet (get_or trees q no_pattern)) (e p h.0) (e q h.1)
+quiet_over-tree flags trees (CondNode p target) n h e = e p h
+quiet_over-tree flags trees (ImmNode p target) n h e = e p h
+quiet_over-tree flags trees (PlaceNode target) n h e = (λ t. tt, λ t. refl)
+quiet_over-tree flags trees (DeferNode primitive expression) n h e = (λ t. absurd (cc), λ t. absurd t)
+
+slice_get-last : (nodes : List Node) (node : Node) → slice_get (nodes ++ node ∷ []) (length nodes) ≡ Some node
+slice_get-last [] node = refl
+slice_get-last (x ∷ nodes) node = slice_get-last nodes node
+
+-- the tree of the last node
+tree-last : (nodes : List Node) (node : Node) → AllParts 0 nodes → PartsBelow node (length nodes) → tree (nodes ++ node ∷ []) (length nodes) ≡ tree_over (trees_onto [] nodes) node
+tree-last nodes node h p =
+    let z : 0 + length nodes ≡ length nodes = omega arith in
+    tree-at (nodes ++ node ∷ []) (length nodes) node (AllParts-append 0 nodes node h (rw z p)) (slice_get-last nodes node) ∙
+    tree_over-same (trees_onto [] (nodes ++ node ∷ [])) (trees_onto [] nodes) node (length nodes) p (λ i below. tree-append nodes (node ∷ []) i below)
+
+quiet-last : (flags : List Bool) (quiet : Bool) (nodes : List Node) (node : Node) (id : ℕ) → length flags ≡ length nodes → length nodes ≡ id → AllParts 0 nodes → PartsBelow node id →
+    ((i : ℕ) → i < id → IsTrue (get_or flags i false) ↔ IsQuiet (tree nodes i)) → quiet ≡ quiet_over flags node →
+    IsTrue (get_or (flags ++ quiet ∷ []) id false) ↔ IsQuiet (tree (nodes ++ node ∷ []) id)
+quiet-last flags quiet nodes node id same at h p q e =
+    let seam : get_or (flags ++ quiet ∷ []) id false ≡ quiet = rw (← at, ← same) (get_or-append_seam flags quiet [] false) in
+    let last : tree (nodes ++ node ∷ []) id ≡ tree_over (trees_onto [] nodes) node = rw (← at) (tree-last nodes node h (rw at p)) in
+    rw (seam, last, e) (quiet_over-tree flags (trees_onto [] nodes) node id p q)
+
+quiet-old : (flags : List Bool) (quiet : Bool) (nodes : List Node) (node : Node) (id : ℕ) → length flags ≡ length nodes → id < length nodes →
+    (IsTrue (get_or flags id false) ↔ IsQuiet (tree nodes id)) → IsTrue (get_or (flags ++ quiet ∷ []) id false) ↔ IsQuiet (tree (nodes ++ node ∷ []) id)
+quiet-old flags quiet nodes node id same below q =
+    let old : get_or (flags ++ quiet ∷ []) id false ≡ get_or flags id false = get_or-append flags (quiet ∷ []) false id (omega arith) in
+    rw (old, tree-append nodes (node ∷ []) id below) q
+
+old_or_last : (n i : ℕ) → i < n + 1 → (i < n) ⊎ (n ≡ i)
+old_or_last zero zero h = inr refl
+old_or_last zero (suc i) h = absurd (omega arith)
+old_or_last (suc n) zero h = inl (omega arith)
+old_or_last (suc n) (suc i) h = ⊎_elim (λ below. inl (omega arith)) (λ at. inr (ap suc at)) (old_or_last n i (omega arith))
+
+quiet-appended : (xs : List Entry) (kind : Kind) (quiet : Bool) → IsTable xs → PartsBelow (node_of kind) (length xs) → quiet ≡ quiet_over (flags_of xs) (node_of kind) →
+    (id : ℕ) → id < length (xs ++ record { kind = kind; quiet = quiet } ∷ []) →
+    IsTrue (get_or (flags_of (xs ++ record { kind = kind; quiet = quiet } ∷ [])) id false) ↔ IsQuiet (tree (nodes_of (xs ++ record { kind = kind; quiet = quiet } ∷ [])) id)
+quiet-appended xs kind quiet h p q id below =
+    let entry : Entry = record { kind = kind; quiet = quiet } in
+    let same : length (flags_of xs) ≡ length (nodes_of xs) = omega (arith, length-flags xs, length-nodes xs) in
+    rw (flags_of-append xs entry, nodes_of-append xs entry)
+    (⊎_elim (λ old. quiet-old (flags_of xs) quiet (nodes_of xs) (node_of kind) id same (omega (arith, length-nodes xs)) (h.quiet id old))
+    (λ at. quiet-last (flags_of xs) quiet (nodes_of xs) (node_of kind) id same (omega (arith, length-nodes xs)) h.parts (rw (← at) p)
+    (λ i more. h.quiet i (omega arith)) q)
+    (old_or_last (length xs) id (omega (arith, length-append xs (entry ∷ [])))))
+
+pub appended : (xs ys : List Entry) (kind : Kind) (quiet : Bool) → IsTable xs → PartsBelow (node_of kind) (length xs) → suc (length xs) ≤ 4000000 →
+    quiet ≡ quiet_over (flags_of xs) (node_of kind) → ys ≡ xs ++ record { kind = kind; quiet = quiet } ∷ [] → IsTable ys
+appended xs ys kind quiet h p room q e = record {
+  room = rw e (omega (arith, length-append xs (record { kind = kind; quiet = quiet } ∷ []), room));
+  parts = rw (e, nodes_of-append) (AllParts-append 0 (nodes_of xs) (node_of kind) h.parts
+      (let e' : 0 + length (nodes_of xs) ≡ length xs = omega (arith, length-nodes xs) in rw e' p));
+  quiet = rw e (quiet-appended xs kind quiet h p q);
+}

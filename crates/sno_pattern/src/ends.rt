@@ -1,32 +1,24 @@
 //! Where a primitive ends.
-ghost use Rattle.std.specs.Prelude.{◌≡◌, ◌≤◌, length, IfSome};
+ghost use Rattle.std.specs.Prelude.{◌≡◌, ◌≤◌, length, slice_get};
+ghost use Rattle.sno_pattern.specs.Pattern.{Text};
+ghost use Rattle.sno_pattern.specs.Ends.{ends};
 ghost use Rattle.sno_pattern.specs.Shape.{end_of_node};
 ghost use Rattle.sno_pattern.specs.Kinds.{node_of};
 
+use crate::balance::{balanced_end, balanced_end_at};
+use crate::counts::{len_end, pos_end, rpos_end, rtab_end, tab_end};
 use crate::kind::Kind;
+use crate::sets::{any_end, break_end, not_any_end, span_end};
 
 /// The end of a primitive node with the number `i`, in order of trial.
 pub(crate) fn end_of_kind(kind: &Kind, subject: &[u8], at: usize, i: usize) -> Option<usize>
     requires { at ≤ length subject.now }
-    ensures value { result ≡ end_of_node (node_of kind.now) subject.now at i }
-    ensures inside { IfSome result (λ e. e ≤ length subject.now) }
-    ensures few { IfSome result (λ _. i ≤ length subject.now) }
+    ensures { result ≡ end_of_node (node_of kind.now) subject.now at i }
 {
+    if i == 0 {
+        return first_end(kind, subject, at);
+    }
     match kind {
-        Kind::Text(bytes) => {
-            if i == 0 && subject[at..].starts_with(bytes) {
-                Some(at + bytes.len())
-            } else {
-                None
-            }
-        }
-        Kind::Len(n) => {
-            if i == 0 && *n <= (subject.len() - at) as u64 {
-                Some(at + *n as usize)
-            } else {
-                None
-            }
-        }
         Kind::Arb => {
             if i <= subject.len() - at {
                 Some(at + i)
@@ -34,6 +26,42 @@ pub(crate) fn end_of_kind(kind: &Kind, subject: &[u8], at: usize, i: usize) -> O
                 None
             }
         }
+        Kind::Bal => balanced_end_at(subject, at, i),
         _ => None,
+    }
+}
+
+/// The end of a primitive node that is tried first.
+fn first_end(kind: &Kind, subject: &[u8], at: usize) -> Option<usize>
+    requires { at ≤ length subject.now }
+    ensures { result ≡ end_of_node (node_of kind.now) subject.now at 0 }
+{
+    match kind {
+        Kind::Text(text) => text_end(text, subject, at),
+        Kind::Len(n) => len_end(*n, subject, at),
+        Kind::Pos(n) => pos_end(*n, subject, at),
+        Kind::Rpos(n) => rpos_end(*n, subject, at),
+        Kind::Tab(n) => tab_end(*n, subject, at),
+        Kind::Rtab(n) => rtab_end(*n, subject, at),
+        Kind::Any(set) => any_end(set, subject, at),
+        Kind::NotAny(set) => not_any_end(set, subject, at),
+        Kind::Span(set) => span_end(set, subject, at),
+        Kind::Break(set) => break_end(set, subject, at),
+        Kind::Arb => Some(at),
+        Kind::Bal => balanced_end(subject, at),
+        Kind::Rem => Some(subject.len()),
+        _ => None,
+    }
+}
+
+/// A text: the place behind it, if it stands at the cursor.
+fn text_end(text: &[u8], subject: &[u8], at: usize) -> Option<usize>
+    requires { at ≤ length subject.now }
+    ensures { result ≡ slice_get (ends (Text text.now) subject.now at) 0 }
+{
+    if subject[at..].starts_with(text) {
+        Some(at + text.len())
+    } else {
+        None
     }
 }

@@ -1,17 +1,30 @@
 //! What the table stores of a pattern.
-ghost use Rattle.std.specs.Prelude.{◌≡◌};
+ghost use Rattle.std.specs.Prelude.{◌≡◌, length};
+ghost use Rattle.sno_pattern.specs.Table.{PartsBelow};
 ghost use Rattle.sno_pattern.specs.Shape.{shape_of};
-ghost use Rattle.sno_pattern.specs.Kinds.{node_of};
+ghost use Rattle.sno_pattern.specs.Kinds.{node_of, flags_of, quiet_over};
 
+use crate::byte_set::ByteSet;
 use crate::shape::Shape;
 use sno_value::{ExprId, Name, PatId, Prim};
 
-/// A node, with the numbers of its parts.
+/// A pattern's head, with the numbers of its parts.
 #[derive(Drop)]
 pub(crate) enum Kind {
     Text(Vec<u8>),
     Len(u64),
+    Pos(u64),
+    Rpos(u64),
+    Tab(u64),
+    Rtab(u64),
+    Any(ByteSet),
+    NotAny(ByteSet),
+    Span(ByteSet),
+    Break(ByteSet),
     Arb,
+    Bal,
+    Rem,
+    Fail,
     Fence,
     Abort,
     Succeed,
@@ -22,6 +35,14 @@ pub(crate) enum Kind {
     Imm(PatId, Name),
     Cursor(Name),
     Defer(ExprId),
+    DeferPrim(Prim, ExprId),
+}
+
+/// A node of the table. Whether its tree is quiet is kept beside it, since trees are too deep to be walked.
+#[derive(Drop)]
+pub(crate) struct Entry {
+    pub(crate) kind: Kind,
+    pub(crate) quiet: bool,
 }
 
 /// The head of a node.
@@ -29,7 +50,6 @@ pub(crate) fn shape_of_kind(kind: &Kind) -> Shape
     ensures { result ≡ shape_of (node_of kind.now) }
 {
     match kind {
-        Kind::Text(_) | Kind::Len(_) | Kind::Arb => Shape::Primitive,
         Kind::Fence => Shape::Fence,
         Kind::Abort => Shape::Abort,
         Kind::Succeed => Shape::Succeed,
@@ -40,5 +60,22 @@ pub(crate) fn shape_of_kind(kind: &Kind) -> Shape
         Kind::Imm(p, target) => Shape::Imm(*p, *target),
         Kind::Cursor(target) => Shape::Cursor(*target),
         Kind::Defer(e) => Shape::Defer(*e),
+        Kind::DeferPrim(prim, e) => Shape::DeferPrim(*prim, *e),
+        _ => Shape::Primitive,
+    }
+}
+
+/// Whether a node over these entries is quiet.
+pub(crate) fn is_quiet_over(entries: &[Entry], kind: &Kind) -> bool
+    requires { PartsBelow (node_of kind.now) (length entries.now) }
+    ensures { result ≡ quiet_over (flags_of entries.now) (node_of kind.now) }
+{
+    match kind {
+        Kind::Fence | Kind::Abort | Kind::Succeed | Kind::Defer(_) | Kind::DeferPrim(_, _) => false,
+        Kind::Arbno(p) | Kind::Cond(p, _) | Kind::Imm(p, _) => entries[p.0 as usize].quiet,
+        Kind::Alt(p, q) | Kind::Cat(p, q) => {
+            entries[p.0 as usize].quiet && entries[q.0 as usize].quiet
+        }
+        _ => true,
     }
 }

@@ -1,11 +1,17 @@
 //! Patterns as a table of numbered nodes, and the ends of primitive patterns.
 #![tactic(auto)]
 
+mod argument;
+mod balance;
+mod byte_set;
+mod counts;
 mod ends;
 mod kind;
+mod sets;
 mod shape;
 mod table;
 
+pub use argument::Arg;
 pub use shape::Shape;
-pub use sno_value::{Name, PatId, Prim};
-pub use table::{BuildError, Patterns};
+pub use sno_value::{ExprId, Name, PatId, Prim};
+pub use table::{BuildError, MOST_NODES, Patterns};

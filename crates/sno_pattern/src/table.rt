@@ -1,33 +1,42 @@
-//! The node table.
-ghost use Rattle.std.specs.Prelude.{◌≡◌, ◌∷◌, ◌++◌, ◌<◌, ◌≤◌, ◌↔◌, [], length, IfOk, IfSome, OnOk, OnErr, IsErrOf, slice_get};
-ghost use Rattle.sno_pattern.specs.Pattern.{Text, Len, Arb};
-ghost use Rattle.sno_pattern.specs.Shape.{HasShape, IsPrimitive, shape_of, end_of, end_of_node};
-ghost use Rattle.sno_pattern.specs.Table.{tree, LeafNode, AltNode, ArbnoNode, FenceNode, PartsBelow};
-ghost use Rattle.sno_pattern.specs.Ends.{ends};
+//! The table of patterns: its builders and look-ups.
+ghost use Rattle.std.specs.Prelude.{◌≡◌, ◌<◌, ◌≤◌, ◌↔◌, ◌⊎◌, [], ◌∷◌, ◌++◌, length, Some, None, IfOk, IfErr, IfSome, OnErr, IsErrOf, IsTrue};
+ghost use Rattle.sno_pattern.specs.Pattern.{Text, Arb, Bal, Rem, Fail};
+ghost use Rattle.sno_pattern.specs.Shape.{HasShape, IsPrimitive, end_of};
+ghost use Rattle.sno_pattern.specs.Table.{tree, LeafNode, FenceNode, AbortNode, SucceedNode, ArbnoNode, AltNode, CatNode, CondNode, ImmNode, PlaceNode, DeferNode, PartsBelow};
+ghost use Rattle.sno_pattern.specs.Arguments.{IsArgOf, IsNullSet, IsBadCount, IsGoodArg, primitive_of};
+ghost use Rattle.sno_pattern.specs.Built.{Appends};
+ghost use Rattle.sno_pattern.specs.Quiet.{IsQuiet};
 ghost use Rattle.sno_pattern.specs.Kinds.{nodes_of, node_of, IsTable};
 
+use crate::argument::{Arg, among, counted};
+use crate::byte_set::ByteSet;
 use crate::ends::end_of_kind;
-use crate::kind::{Kind, shape_of_kind};
+use crate::kind::{Entry, Kind, is_quiet_over, shape_of_kind};
 use crate::shape::Shape;
-use sno_value::PatId;
-use std::alloc::{AllocError, Global};
+use sno_value::{ExprId, Name, PatId, Prim};
+use std::alloc::Global;
 use std::marker::Model;
 
-/// How many nodes a table holds at most.
+/// How many nodes a table holds at most (this profile).
 pub const MOST_NODES: usize = 4_000_000;
 
-#[derive(Debug, Drop)]
+/// Why a builder refuses. The first that fits is told.
+#[derive(Clone, Copy, Debug, Drop, PartialEq, Eq)]
 pub enum BuildError {
+    /// The set of a primitive is empty.
     NullSet,
+    /// The count of a primitive is negative.
     BadCount,
+    /// The table holds `MOST_NODES` nodes.
     Full,
+    /// Memory was refused.
     NoMemory,
 }
 
-/// Patterns, as a list of nodes.
+/// A table of patterns, which grows and never changes what it holds. Contracts see it as its list of nodes.
 #[derive(Drop)]
 pub struct Patterns {
-    nodes: Vec<Kind>,
+    entries: Vec<Entry>,
     alloc: Global,
 }
 
@@ -39,57 +48,227 @@ impl Model for Patterns {
 
     ghost use Rattle.sno_pattern.specs.Kinds.{nodes_of, IsTable};
 
-    ghost view = { λ p. nodes_of p.nodes.items };
+    ghost view = { λ p. nodes_of p.entries.items };
 
-    ghost invariant = { λ p. IsTable p.nodes.items };
+    ghost invariant = { λ p. IsTable p.entries.items };
 }
 
 impl Patterns {
+    /// An empty table. It takes no memory.
     pub fn new(alloc: Global) -> Patterns
         ensures { result ≡ [] }
     {
         Patterns {
-            nodes: Vec::new(alloc),
+            entries: Vec::new(alloc),
             alloc,
         }
     }
 
+    /// How many nodes the table holds.
     pub fn len(&self) -> u32
         ensures { result ≡ length self.now }
     {
-        self.nodes.len() as u32
+        self.entries.len() as u32
     }
 
+    /// A text.
     pub fn text(&mut self, bytes: &[u8]) -> Result<PatId, BuildError>
-        ensures ok { IfOk result (λ id. (id.0 ≡ length self.old) × (self.new ≡ self.old ++ LeafNode (Text bytes.now) ∷ [])) }
+        requires { length bytes.now ≤ 1000000 }
+        ensures ok { IfOk result (Appends self.old self.new (LeafNode (Text bytes.now))) }
         ensures err { OnErr result (self.new ≡ self.old) }
-        ensures full { (length self.old ≡ 4000000) ↔ IsErrOf result BuildError.Full }
+        ensures full { IsErrOf result BuildError.Full ↔ (length self.old ≡ 4000000) }
+        ensures others { IfErr result (λ e. (e ≡ BuildError.Full) ⊎ (e ≡ BuildError.NoMemory)) }
     {
-        if self.nodes.len() == MOST_NODES {
+        if self.entries.len() == MOST_NODES {
             return Err(BuildError::Full);
         }
         match bytes.to_vec(self.alloc) {
-            Ok(copy) => append(&mut self.nodes, Kind::Text(copy)),
-            Err(_) => Err(BuildError::NoMemory),
+            Ok(copy) => append(&mut self.entries, Kind::Text(copy)),
+            Err(_refused) => Err(BuildError::NoMemory),
         }
     }
 
-    pub fn arb(&mut self) -> Result<PatId, BuildError>
-        ensures ok { IfOk result (λ id. (id.0 ≡ length self.old) × (self.new ≡ self.old ++ LeafNode Arb ∷ [])) }
+    /// A primitive with its argument: a count for the first five, a set of bytes for the others. An empty set is
+    /// `NullSet`, a negative count `BadCount`.
+    pub fn prim(&mut self, prim: Prim, arg: Arg<'_>) -> Result<PatId, BuildError>
+        requires { IsArgOf prim arg }
+        ensures ok { IfOk result (λ id. IsGoodArg arg.entry × Appends self.old self.new (LeafNode (primitive_of prim arg.entry)) id) }
         ensures err { OnErr result (self.new ≡ self.old) }
-        ensures full { (length self.old ≡ 4000000) ↔ IsErrOf result BuildError.Full }
+        ensures null_set { IsErrOf result BuildError.NullSet ↔ IsNullSet arg.entry }
+        ensures bad_count { IsErrOf result BuildError.BadCount ↔ IsBadCount arg.entry }
+        ensures full { IsErrOf result BuildError.Full ↔ (IsGoodArg arg.entry × (length self.old ≡ 4000000)) }
     {
-        append(&mut self.nodes, Kind::Arb)
+        match arg {
+            Arg::Count(n) => {
+                if n < 0 {
+                    return Err(BuildError::BadCount);
+                }
+                append(&mut self.entries, counted(prim, n as u64))
+            }
+            Arg::Set(bytes) => {
+                if bytes.is_empty() {
+                    return Err(BuildError::NullSet);
+                }
+                append(&mut self.entries, among(prim, ByteSet::of(bytes)))
+            }
+        }
     }
 
+    /// ARB.
+    pub fn arb(&mut self) -> Result<PatId, BuildError>
+        ensures ok { IfOk result (Appends self.old self.new (LeafNode Arb)) }
+        ensures err { OnErr result (self.new ≡ self.old) }
+        ensures full { IsErrOf result BuildError.Full ↔ (length self.old ≡ 4000000) }
+        ensures others { IfErr result (λ e. (e ≡ BuildError.Full) ⊎ (e ≡ BuildError.NoMemory)) }
+    {
+        append(&mut self.entries, Kind::Arb)
+    }
+
+    /// BAL.
+    pub fn bal(&mut self) -> Result<PatId, BuildError>
+        ensures ok { IfOk result (Appends self.old self.new (LeafNode Bal)) }
+        ensures err { OnErr result (self.new ≡ self.old) }
+        ensures full { IsErrOf result BuildError.Full ↔ (length self.old ≡ 4000000) }
+        ensures others { IfErr result (λ e. (e ≡ BuildError.Full) ⊎ (e ≡ BuildError.NoMemory)) }
+    {
+        append(&mut self.entries, Kind::Bal)
+    }
+
+    /// REM.
+    pub fn rem(&mut self) -> Result<PatId, BuildError>
+        ensures ok { IfOk result (Appends self.old self.new (LeafNode Rem)) }
+        ensures err { OnErr result (self.new ≡ self.old) }
+        ensures full { IsErrOf result BuildError.Full ↔ (length self.old ≡ 4000000) }
+        ensures others { IfErr result (λ e. (e ≡ BuildError.Full) ⊎ (e ≡ BuildError.NoMemory)) }
+    {
+        append(&mut self.entries, Kind::Rem)
+    }
+
+    /// FAIL.
+    pub fn fail(&mut self) -> Result<PatId, BuildError>
+        ensures ok { IfOk result (Appends self.old self.new (LeafNode Fail)) }
+        ensures err { OnErr result (self.new ≡ self.old) }
+        ensures full { IsErrOf result BuildError.Full ↔ (length self.old ≡ 4000000) }
+        ensures others { IfErr result (λ e. (e ≡ BuildError.Full) ⊎ (e ≡ BuildError.NoMemory)) }
+    {
+        append(&mut self.entries, Kind::Fail)
+    }
+
+    /// FENCE.
+    pub fn fence(&mut self) -> Result<PatId, BuildError>
+        ensures ok { IfOk result (Appends self.old self.new FenceNode) }
+        ensures err { OnErr result (self.new ≡ self.old) }
+        ensures full { IsErrOf result BuildError.Full ↔ (length self.old ≡ 4000000) }
+        ensures others { IfErr result (λ e. (e ≡ BuildError.Full) ⊎ (e ≡ BuildError.NoMemory)) }
+    {
+        append(&mut self.entries, Kind::Fence)
+    }
+
+    /// ABORT.
+    pub fn abort(&mut self) -> Result<PatId, BuildError>
+        ensures ok { IfOk result (Appends self.old self.new AbortNode) }
+        ensures err { OnErr result (self.new ≡ self.old) }
+        ensures full { IsErrOf result BuildError.Full ↔ (length self.old ≡ 4000000) }
+        ensures others { IfErr result (λ e. (e ≡ BuildError.Full) ⊎ (e ≡ BuildError.NoMemory)) }
+    {
+        append(&mut self.entries, Kind::Abort)
+    }
+
+    /// SUCCEED.
+    pub fn succeed(&mut self) -> Result<PatId, BuildError>
+        ensures ok { IfOk result (Appends self.old self.new SucceedNode) }
+        ensures err { OnErr result (self.new ≡ self.old) }
+        ensures full { IsErrOf result BuildError.Full ↔ (length self.old ≡ 4000000) }
+        ensures others { IfErr result (λ e. (e ≡ BuildError.Full) ⊎ (e ≡ BuildError.NoMemory)) }
+    {
+        append(&mut self.entries, Kind::Succeed)
+    }
+
+    /// ARBNO(P).
+    pub fn arbno(&mut self, body: PatId) -> Result<PatId, BuildError>
+        requires body { body.0 < length self.old }
+        ensures ok { IfOk result (Appends self.old self.new (ArbnoNode body.0)) }
+        ensures err { OnErr result (self.new ≡ self.old) }
+        ensures full { IsErrOf result BuildError.Full ↔ (length self.old ≡ 4000000) }
+        ensures others { IfErr result (λ e. (e ≡ BuildError.Full) ⊎ (e ≡ BuildError.NoMemory)) }
+    {
+        append(&mut self.entries, Kind::Arbno(body))
+    }
+
+    /// P | Q.
     pub fn alt(&mut self, first: PatId, second: PatId) -> Result<PatId, BuildError>
         requires first { first.0 < length self.old }
         requires second { second.0 < length self.old }
-        ensures ok { IfOk result (λ id. (id.0 ≡ length self.old) × (self.new ≡ self.old ++ AltNode first.0 second.0 ∷ [])) }
+        ensures ok { IfOk result (Appends self.old self.new (AltNode first.0 second.0)) }
         ensures err { OnErr result (self.new ≡ self.old) }
-        ensures full { (length self.old ≡ 4000000) ↔ IsErrOf result BuildError.Full }
+        ensures full { IsErrOf result BuildError.Full ↔ (length self.old ≡ 4000000) }
+        ensures others { IfErr result (λ e. (e ≡ BuildError.Full) ⊎ (e ≡ BuildError.NoMemory)) }
     {
-        append(&mut self.nodes, Kind::Alt(first, second))
+        append(&mut self.entries, Kind::Alt(first, second))
+    }
+
+    /// P Q, one behind the other.
+    pub fn cat(&mut self, first: PatId, second: PatId) -> Result<PatId, BuildError>
+        requires first { first.0 < length self.old }
+        requires second { second.0 < length self.old }
+        ensures ok { IfOk result (Appends self.old self.new (CatNode first.0 second.0)) }
+        ensures err { OnErr result (self.new ≡ self.old) }
+        ensures full { IsErrOf result BuildError.Full ↔ (length self.old ≡ 4000000) }
+        ensures others { IfErr result (λ e. (e ≡ BuildError.Full) ⊎ (e ≡ BuildError.NoMemory)) }
+    {
+        append(&mut self.entries, Kind::Cat(first, second))
+    }
+
+    /// P . N, the assignment that waits for the whole match.
+    pub fn cond(&mut self, body: PatId, target: Name) -> Result<PatId, BuildError>
+        requires body { body.0 < length self.old }
+        ensures ok { IfOk result (Appends self.old self.new (CondNode body.0 target)) }
+        ensures err { OnErr result (self.new ≡ self.old) }
+        ensures full { IsErrOf result BuildError.Full ↔ (length self.old ≡ 4000000) }
+        ensures others { IfErr result (λ e. (e ≡ BuildError.Full) ⊎ (e ≡ BuildError.NoMemory)) }
+    {
+        append(&mut self.entries, Kind::Cond(body, target))
+    }
+
+    /// P $ N, the assignment that is made at once.
+    pub fn imm(&mut self, body: PatId, target: Name) -> Result<PatId, BuildError>
+        requires body { body.0 < length self.old }
+        ensures ok { IfOk result (Appends self.old self.new (ImmNode body.0 target)) }
+        ensures err { OnErr result (self.new ≡ self.old) }
+        ensures full { IsErrOf result BuildError.Full ↔ (length self.old ≡ 4000000) }
+        ensures others { IfErr result (λ e. (e ≡ BuildError.Full) ⊎ (e ≡ BuildError.NoMemory)) }
+    {
+        append(&mut self.entries, Kind::Imm(body, target))
+    }
+
+    /// @N.
+    pub fn cursor(&mut self, target: Name) -> Result<PatId, BuildError>
+        ensures ok { IfOk result (Appends self.old self.new (PlaceNode target)) }
+        ensures err { OnErr result (self.new ≡ self.old) }
+        ensures full { IsErrOf result BuildError.Full ↔ (length self.old ≡ 4000000) }
+        ensures others { IfErr result (λ e. (e ≡ BuildError.Full) ⊎ (e ≡ BuildError.NoMemory)) }
+    {
+        append(&mut self.entries, Kind::Cursor(target))
+    }
+
+    /// *E.
+    pub fn defer(&mut self, expression: ExprId) -> Result<PatId, BuildError>
+        ensures ok { IfOk result (Appends self.old self.new (DeferNode None expression.0)) }
+        ensures err { OnErr result (self.new ≡ self.old) }
+        ensures full { IsErrOf result BuildError.Full ↔ (length self.old ≡ 4000000) }
+        ensures others { IfErr result (λ e. (e ≡ BuildError.Full) ⊎ (e ≡ BuildError.NoMemory)) }
+    {
+        append(&mut self.entries, Kind::Defer(expression))
+    }
+
+    /// A primitive with the argument *E.
+    pub fn defer_prim(&mut self, prim: Prim, expression: ExprId) -> Result<PatId, BuildError>
+        ensures ok { IfOk result (Appends self.old self.new (DeferNode (Some prim) expression.0)) }
+        ensures err { OnErr result (self.new ≡ self.old) }
+        ensures full { IsErrOf result BuildError.Full ↔ (length self.old ≡ 4000000) }
+        ensures others { IfErr result (λ e. (e ≡ BuildError.Full) ⊎ (e ≡ BuildError.NoMemory)) }
+    {
+        append(&mut self.entries, Kind::DeferPrim(prim, expression))
     }
 
     /// The head of a number's tree.
@@ -98,37 +277,48 @@ impl Patterns {
         requires { id.0 < length self.now }
         ensures { HasShape self.now id.0 result }
     {
-        shape_of_kind(&self.nodes[id.0 as usize])
+        shape_of_kind(&self.entries[id.0 as usize].kind)
     }
 
-    /// The end of a primitive with the number `i`, if it has that many.
+    /// Whether a number's tree has no deferred part, FENCE, ABORT or SUCCEED.
+    pub fn is_quiet(&self, id: PatId) -> bool
+        requires { id.0 < length self.now }
+        ensures { IsTrue result ↔ IsQuiet (tree self.now id.0) }
+    {
+        self.entries[id.0 as usize].quiet
+    }
+
+    /// The end of a primitive with the number `i`, counted from 0 in order of trial, if it has that many.
     pub fn end_at(&self, id: PatId, subject: &[u8], at: usize, i: usize) -> Option<usize>
         requires id { id.0 < length self.now }
         requires primitive { IsPrimitive (tree self.now id.0) }
         requires at { at ≤ length subject.now }
         ensures value { result ≡ end_of (tree self.now id.0) subject.now at i }
+        ensures ahead { IfSome result (λ e. at ≤ e) }
         ensures inside { IfSome result (λ e. e ≤ length subject.now) }
         ensures few { IfSome result (λ _. i ≤ length subject.now) }
     {
-        end_of_kind(&self.nodes[id.0 as usize], subject, at, i)
+        end_of_kind(&self.entries[id.0 as usize].kind, subject, at, i)
     }
 }
 
 /// Appends a node, if there is room.
 #[tactic(auto, using(crate::proofs::TableLaws::appended))]
-fn append(nodes: &mut Vec<Kind>, kind: Kind) -> Result<PatId, BuildError>
-    requires table { IsTable nodes.old.items }
-    requires parts { PartsBelow (node_of kind) (length nodes.old.items) }
-    ensures table { IsTable nodes.new.items }
-    ensures ok { IfOk result (λ id. (id.0 ≡ length nodes.old.items) × (nodes_of nodes.new.items ≡ nodes_of nodes.old.items ++ node_of kind ∷ [])) }
-    ensures err { OnErr result (nodes.new.items ≡ nodes.old.items) }
-    ensures full { (length nodes.old.items ≡ 4000000) ↔ IsErrOf result BuildError.Full }
+fn append(entries: &mut Vec<Entry>, kind: Kind) -> Result<PatId, BuildError>
+    requires table { IsTable entries.old.items }
+    requires parts { PartsBelow (node_of kind) (length entries.old.items) }
+    ensures table { IsTable entries.new.items }
+    ensures ok { IfOk result (Appends (nodes_of entries.old.items) (nodes_of entries.new.items) (node_of kind)) }
+    ensures err { OnErr result (entries.new.items ≡ entries.old.items) }
+    ensures full { IsErrOf result BuildError.Full ↔ (length entries.old.items ≡ 4000000) }
+    ensures others { IfErr result (λ e. (e ≡ BuildError.Full) ⊎ (e ≡ BuildError.NoMemory)) }
 {
-    let id = nodes.len();
+    let id = entries.len();
     if id == MOST_NODES {
         return Err(BuildError::Full);
     }
-    if let Err(_refused) = nodes.push(kind) {
+    let quiet = is_quiet_over(entries, &kind);
+    if let Err(_refused) = entries.push(Entry { kind, quiet }) {
         return Err(BuildError::NoMemory);
     }
     Ok(PatId(id as u32))

@@ -4,11 +4,11 @@ use Rattle.sno_pattern.proofs.ShapeLaws.{has_shape}
 use Rattle.sno_pattern.proofs.table.Patterns.shape.Goals as goal
 
 pub index-requires : goal.index-requires
-index-requires c = omega (arith, length-nodes c.self.inside.nodes.items, ap length c.self.view_is, c.self.inside.nodes.ok.0, c.requires)
+index-requires c = omega (arith, length-nodes c.self.inside.entries.items, ap length c.self.view_is, c.self.inside.entries.ok.0, c.requires)
 
 pub returns : goal.returns
 returns c =
-    let fits : c.args.id.0 < length c.self.inside.nodes.items =
-    omega (arith, length-nodes c.self.inside.nodes.items, ap length c.self.view_is, c.requires) in
+    let fits : c.args.id.0 < length c.self.inside.entries.items =
+    omega (arith, length-nodes c.self.inside.entries.items, ap length c.self.view_is, c.requires) in
     rw (c.shape_of_kind.ensures, ← c.self.view_is)
-    (has_shape c.self.inside.nodes.items c.args.id.0 c.index.result.now c.self.invariant fits (sym c.index.ensures))
+    (has_shape c.self.inside.entries.items c.args.id.0 c.index.result.now c.self.invariant fits (sym c.index.ensures))

@@ -1,0 +1,16 @@
+-- Quiet patterns: matching one asks for nothing and cuts nothing off.
+use Rattle.sno_pattern.specs.Pattern.{Pattern, Leaf, Fence, Abort, Succeed, Arbno, Alt, Cat, Cond, Imm, Place, Defer}
+
+-- no deferred part, FENCE, ABORT or SUCCEED
+abbrev pub IsQuiet : Pattern → Type 0
+IsQuiet (Leaf a) = Unit {0}
+IsQuiet Fence = ⊥
+IsQuiet Abort = ⊥
+IsQuiet Succeed = ⊥
+IsQuiet (Arbno p) = IsQuiet p
+IsQuiet (Alt p q) = IsQuiet p × IsQuiet q
+IsQuiet (Cat p q) = IsQuiet p × IsQuiet q
+IsQuiet (Cond p target) = IsQuiet p
+IsQuiet (Imm p target) = IsQuiet p
+IsQuiet (Place target) = Unit {0}
+IsQuiet (Defer primitive expression) = ⊥
