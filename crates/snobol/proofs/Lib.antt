@@ -3,3 +3,4 @@ pub mod Builders
 pub mod Variables
 pub mod Primitives
 pub mod Conversions
+pub mod Arguments

@@ -8,4 +8,4 @@ pub mod State
 pub mod Variables
 pub mod Primitives
 pub mod Converted
-pub mod Joins
+pub mod Operations

@@ -3,7 +3,7 @@ ghost use Rattle.std.specs.Prelude.{◌≡◌, ◌<◌, ◌≤◌, List, length,
 ghost use Rattle.sno_pattern.specs.Table.{Node};
 ghost use Rattle.snobol.specs.Values.{shown, IsValueOf};
 ghost use Rattle.snobol.specs.Evaluate.{makes_value, joined, joined_patterns, text_of, number_of, concatenation, alternation, result_of, operation, signed};
-ghost use Rattle.snobol.specs.Joins.{join_of, both};
+ghost use Rattle.snobol.specs.Operations.{join_of, both, is_arithmetic, calculated};
 ghost use Rattle.snobol.specs.Converted.{IsThere, has_text};
 ghost use Rattle.snobol.specs.State.{State, Does, tree_of};
 
@@ -39,25 +39,13 @@ pub(crate) fn operation(
     match operator {
         Operator::Alternate => alternation(machine, x, y),
         Operator::Concatenate => concatenation(machine, x, y),
-        Operator::Add => {
+        Operator::Add
+        | Operator::Subtract
+        | Operator::Divide
+        | Operator::Multiply
+        | Operator::Power => {
             let (x, y) = numbers(&x, &y)?;
-            computed(add(x, y))
-        }
-        Operator::Subtract => {
-            let (x, y) = numbers(&x, &y)?;
-            computed(sub(x, y))
-        }
-        Operator::Divide => {
-            let (x, y) = numbers(&x, &y)?;
-            computed(div(x, y))
-        }
-        Operator::Multiply => {
-            let (x, y) = numbers(&x, &y)?;
-            computed(mul(x, y))
-        }
-        Operator::Power => {
-            let (x, y) = numbers(&x, &y)?;
-            computed(pow(x, y))
+            computed(calculated(operator, x, y))
         }
         Operator::Conditional | Operator::Immediate => Err(error(LATER)),
     }
@@ -172,6 +160,21 @@ fn numbers(x: &Value, y: &Value) -> Result<(i64, i64), Exit>
     let x = number_of(x)?;
     let y = number_of(y)?;
     Ok((x, y))
+}
+
+/// What an operator of arithmetic gives.
+fn calculated(operator: Operator, x: i64, y: i64) -> Result<i64, Arith>
+    requires { IsTrue (is_arithmetic operator) }
+    ensures { result ≡ calculated operator x y }
+{
+    match operator {
+        Operator::Add => add(x, y),
+        Operator::Subtract => sub(x, y),
+        Operator::Divide => div(x, y),
+        Operator::Multiply => mul(x, y),
+        Operator::Power => pow(x, y),
+        _ => unreachable!(),
+    }
 }
 
 /// The value that arithmetic gave.
