@@ -1,4 +1,9 @@
+pub mod Settling
 pub mod Outcomes
+pub mod Expressions
+pub mod Piles
+pub mod Leads
+pub mod Ordered
 pub mod Builders
 pub mod Variables
 pub mod Primitives

@@ -1,5 +1,5 @@
 -- How functions join that did what their actions do.
-use Rattle.std.proofs.Common.{◌≡◌, ℕ, ◌<◌, ◌≤◌, List, [], ◌∷◌, ◌++◌, length, map, refl, ap, sym, ◌∙◌, subst, append_assoc, arith, Option, None, Some, Result, Ok, Err}
+use Rattle.std.proofs.Common.{◌≡◌, ℕ, List, [], ◌∷◌, ◌++◌, map, refl, ap, sym, ◌∙◌, subst, append_assoc, arith, Option, None, Some, Result, Ok, Err}
 use Rattle.std.specs.List.{AllByRecursion}
 use Rattle.std.proofs.lemmas.List.{append-nil, length-append}
 use Rattle.sno_value.specs.declared.value.Value.{Value as Stored}
@@ -11,9 +11,9 @@ use Rattle.snobol.specs.declared.machine.Exit.TheVariants.{Failure, Halt}
 use Rattle.snobol.specs.declared.machine.Stop.{Stop}
 use Rattle.snobol.specs.declared.machine.Stop.TheVariants.{Error as HasError, NoMemory, WriteFault}
 use Rattle.snobol.specs.World.{World}
-use Rattle.snobol.specs.Values.{Value, Pat, shown, IsValueOf}
-use Rattle.snobol.specs.Action.{Error, Ending, Got, Fails, Stops, Outcome, Action, settled, settles, either, and_then, gives, fails, stops}
-use Rattle.snobol.specs.State.{State, world, Meets, Grows, OnAnswer, Does}
+use Rattle.snobol.specs.Values.{Pat, shown, IsValueOf}
+use Rattle.snobol.specs.Action.{Error, Got, Outcome, Action, settled, settles, either, and_then, gives, fails, stops}
+use Rattle.snobol.specs.State.{State, world, Meets, Grows, Does}
 
 -- tables that grow
 

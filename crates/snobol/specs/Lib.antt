@@ -5,6 +5,7 @@ pub mod Builtins
 pub mod Forms
 pub mod Evaluate
 pub mod State
+pub mod Pile
 pub mod Variables
 pub mod Primitives
 pub mod Converted

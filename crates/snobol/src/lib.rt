@@ -4,7 +4,9 @@
 mod apply;
 mod builtins;
 mod convert;
+mod evaluate;
 mod forms;
 mod functions;
 mod machine;
 mod operators;
+mod pile;

@@ -1,13 +1,17 @@
 //! The expressions that wait for an operand, and the values that they hold. Evaluation is a loop over this pile, so that
 //! no depth of operators reaches the machine's stack.
-ghost use Rattle.std.specs.Prelude.{◌≡◌, ◌<◌, ◌≤◌, ◌+◌, ◌-◌, [], List, length, take, drop, IfOk, IfErr};
+ghost use Rattle.std.specs.Prelude.{◌≡◌, ◌≤◌, ◌+◌, ◌-◌, [], length, map, take, drop, Some, IfOk, IfErr};
+ghost use Rattle.std.specs.List.{AllByRecursion};
 ghost use Rattle.sno_value.specs.declared.value.Value.{Value as Stored};
-ghost use Rattle.snobol.specs.Values.{Value as Seen};
+ghost use Rattle.sno_text.specs.Source.{Source};
+ghost use Rattle.snobol.specs.Values.{Value as Seen, shown, IsValueOf};
 ghost use Rattle.snobol.specs.Forms.{IsOrdered};
-ghost use Rattle.snobol.specs.Pile.{holds, after_turn, after_next, turn_work, Falls};
+ghost use Rattle.snobol.specs.State.{Does};
+ghost use Rattle.snobol.specs.Pile.{holds, apply_at, after_turn, after_next, turn_work, Falls, at_hand, still_at_hand, AreFirst};
 
+use crate::apply::apply;
 use crate::forms::{Part, operand};
-use crate::machine::Exit;
+use crate::machine::{Exit, Machine, Stop};
 use sno_text::Program;
 use sno_value::Value;
 use std::alloc::Global;
@@ -38,4 +42,130 @@ pub(crate) enum Next {
     Done(Value),
     /// It failed.
     Lost,
+}
+
+/// The expressions that wait, and the values that they hold.
+#[derive(Drop)]
+pub(crate) struct Pile {
+    waiting: Vec<Waiting>,
+    values: Vec<Value>,
+}
+
+impl Model for Pile {
+    ghost use Rattle.std.specs.Prelude.{◌≤◌, length};
+    ghost use Rattle.snobol.specs.Pile.{Piled, holds};
+
+    ghost Value = { Piled };
+
+    ghost view = { λ p. record { waiting = p.waiting.items; values = p.values.items } };
+
+    ghost invariant = { λ p. holds p.waiting.items ≤ length p.values.items };
+}
+
+impl Pile {
+    /// An empty pile. It takes no memory.
+    pub fn new(alloc: Global) -> Pile
+        ensures { result ≡ record { waiting = []; values = [] } }
+    {
+        Pile {
+            waiting: Vec::new(alloc),
+            values: Vec::new(alloc),
+        }
+    }
+
+    /// Takes a turn.
+    pub fn next(&mut self, program: &Program, turn: Turn) -> Result<Next, Exit>
+        requires { IsOrdered program.now }
+        ensures rest { IfOk result (λ n. (see : Stored → Seen) → after_turn program.now see self.old turn ≡ after_next program.now see self.new n) }
+        ensures work { IfOk result (λ n. Falls program.now self.new n (turn_work program.now self.old turn)) }
+        ensures moved { IfOk result (λ n. AreFirst (still_at_hand self.new.values n) (at_hand self.old.values turn)) }
+        ensures memory { IfErr result (λ e. e ≡ Exit.Halt Stop.NoMemory) }
+    {
+        match turn {
+            Turn::Enter(part) => self.enter(program, part),
+            Turn::Got(value) => self.resume(program, value),
+            Turn::Failed => Ok(self.fail()),
+        }
+    }
+
+    /// Enters an expression: its first operand is next, or its form where it has none.
+    fn enter(&mut self, program: &Program, part: Part) -> Result<Next, Exit>
+        requires { IsOrdered program.now }
+        ensures rest { IfOk result (λ n. (see : Stored → Seen) → after_turn program.now see self.old (Turn.Enter part) ≡ after_next program.now see self.new n) }
+        ensures work { IfOk result (λ n. Falls program.now self.new n (turn_work program.now self.old (Turn.Enter part))) }
+        ensures moved { IfOk result (λ n. still_at_hand self.new.values n ≡ self.old.values) }
+        ensures memory { IfErr result (λ e. e ≡ Exit.Halt Stop.NoMemory) }
+    {
+        match operand(program, part, 0) {
+            Some(first) => {
+                self.waiting.push(Waiting { part, held: 0 })?;
+                Ok(Next::Turn(Turn::Enter(first)))
+            }
+            None => Ok(Next::Apply(part, 0)),
+        }
+    }
+
+    /// The last that waits takes a value: its next operand is next, or its form where it has no more.
+    fn resume(&mut self, program: &Program, value: Value) -> Result<Next, Exit>
+        requires { IsOrdered program.now }
+        ensures rest { IfOk result (λ n. (see : Stored → Seen) → after_turn program.now see self.old (Turn.Got value) ≡ after_next program.now see self.new n) }
+        ensures work { IfOk result (λ n. Falls program.now self.new n (turn_work program.now self.old (Turn.Got value))) }
+        ensures moved { IfOk result (λ n. still_at_hand self.new.values n ≡ at_hand self.old.values (Turn.Got value)) }
+        ensures memory { IfErr result (λ e. e ≡ Exit.Halt Stop.NoMemory) }
+    {
+        let Some(last) = self.waiting.pop() else {
+            return Ok(Next::Done(value));
+        };
+        self.values.push(value)?;
+        let held = last.held + 1;
+        match operand(program, last.part, held) {
+            Some(next) => {
+                self.waiting.push(Waiting {
+                    part: last.part,
+                    held,
+                })?;
+                Ok(Next::Turn(Turn::Enter(next)))
+            }
+            None => Ok(Next::Apply(last.part, held)),
+        }
+    }
+
+    /// The last that waits fails with its operand, as no form absorbs a failure.
+    fn fail(&mut self) -> Next
+        ensures rest { (source : Source) (see : Stored → Seen) → after_turn source see self.old Turn.Failed ≡ after_next source see self.new result }
+        ensures work { (source : Source) → Falls source self.new result (turn_work source self.old Turn.Failed) }
+        ensures moved { AreFirst (still_at_hand self.new.values result) self.old.values }
+    {
+        let Some(last) = self.waiting.pop() else {
+            return Next::Lost;
+        };
+        let at = self.values.len().saturating_sub(last.held);
+        self.values.truncate(at);
+        Next::Turn(Turn::Failed)
+    }
+
+    /// What a form gives that is applied to the last values, which are let go.
+    pub fn apply(
+        &mut self,
+        machine: &mut Machine,
+        program: &Program,
+        part: Part,
+        count: usize,
+    ) -> Result<Value, Exit>
+        requires text { length program.now.text ≤ 1_000_000 }
+        requires count { holds self.old.waiting + count ≤ length self.old.values }
+        requires values { AllByRecursion (IsValueOf machine.old.nodes) self.old.values }
+        ensures does { Does shown IsValueOf (apply_at program.now part (Some (map (shown machine.old.nodes) (drop (length self.old.values - count) self.old.values)))) machine.old machine.new result }
+        ensures rest { self.new ≡ record self.old { values = take (length self.old.values - count) self.old.values } }
+    {
+        let at = self.values.len() - count;
+        let value = apply(
+            machine,
+            program,
+            part,
+            &mut self.values.as_mut_slice()[at..],
+        );
+        self.values.truncate(at);
+        value
+    }
 }
