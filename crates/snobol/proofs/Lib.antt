@@ -5,3 +5,8 @@ pub mod Piles
 pub mod Leads
 pub mod Ordered
 pub mod ListingLaws
+pub mod Builders
+pub mod Variables
+pub mod Primitives
+pub mod Conversions
+pub mod Arguments

@@ -9,3 +9,9 @@ pub mod Pile
 pub mod Narrow
 pub mod Reading
 pub mod Lines
+pub mod Variables
+pub mod Primitives
+pub mod Converted
+pub mod Operations
+pub mod Listing
+pub mod Jobs

@@ -1,14 +1,23 @@
 -- What contracts see of a machine, and what its functions did.
-use Rattle.std.specs.Prelude.{◌≡◌, List, [], ◌++◌, length, Result, Ok, Err}
-use Rattle.sno_pattern.specs.Table.{Node}
+use Rattle.std.specs.Prelude.{◌≡◌, ℕ, ◌<◌, ◌≤◌, List, [], ◌∷◌, ◌++◌, length, Option, None, Some, Result, Ok, Err}
+use Rattle.sno_value.specs.declared.ids.PatId.{PatId}
+use Rattle.sno_pattern.specs.declared.table.BuildError.{BuildError}
+use Rattle.sno_pattern.specs.declared.table.BuildError.TheVariants as refusal
+use Rattle.sno_pattern.specs.Pattern.{Pattern, Arb, Bal, Rem, Fail}
+use Rattle.sno_pattern.specs.Table.{Node, LeafNode, FenceNode, AbortNode, SucceedNode, tree}
 use Rattle.snobol.specs.declared.machine.Exit.{Exit}
 use Rattle.snobol.specs.declared.machine.Exit.TheVariants.{Failure, Halt}
+use Rattle.snobol.specs.declared.machine.Stop.{Stop}
 use Rattle.snobol.specs.declared.machine.Stop.TheVariants.{Error as HasError, NoMemory, WriteFault}
 use Rattle.snobol.specs.World.{World}
-use Rattle.snobol.specs.Action.{Error, Got, Fails, Stops, Outcome, Action}
+use Rattle.snobol.specs.Action.{End, Error, Ending, Got, Fails, Stops, Outcome, Action}
 
 pub record State : Type 0 where
   pub nodes : List Node
+
+-- a new machine has the patterns of ARB, BAL, REM, FAIL, FENCE, ABORT and SUCCEED
+abbrev pub new_state : State
+new_state = record { nodes = LeafNode Arb ∷ LeafNode Bal ∷ LeafNode Rem ∷ LeafNode Fail ∷ FenceNode ∷ AbortNode ∷ SucceedNode ∷ [] }
 
 abbrev pub world : State → World
 world s = record { nodes = length s.nodes }
@@ -34,3 +43,17 @@ pub record Does {X A : Type 0} (see : List Node → X → A) (fits : List Node �
   pub grows : Grows before.nodes after.nodes
   pub meets : Meets (see after.nodes) (act (world before)) (world after) result
   pub answer : OnAnswer (fits after.nodes) result
+
+-- a pattern's number as an answer
+abbrev pub tree_of : List Node → PatId → Pattern
+tree_of nodes id = tree nodes id.0
+
+abbrev pub IsPatternOf : List Node → PatId → Type 0
+IsPatternOf nodes id = id.0 < length nodes
+
+-- how a run ends where a builder refuses
+abbrev pub exit_of : BuildError → Exit
+exit_of refusal.NullSet = Halt (HasError 6)
+exit_of refusal.BadCount = Halt (HasError 7)
+exit_of refusal.Full = Halt (HasError 9)
+exit_of refusal.NoMemory = Halt NoMemory

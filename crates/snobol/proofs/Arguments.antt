@@ -1,0 +1,66 @@
+-- Functions on their arguments.
+use Rattle.std.proofs.Common.{◌≡◌, ℕ, zero, suc, ◌<◌, arith, true, ℤ, pos, negsuc, List, [], ◌∷◌, refl, sym, map, slice_set, slice_get, length, ◌≤◌, Option, None, Some, Result, Ok, Err}
+use Rattle.std.specs.List.{AllByRecursion}
+use Rattle.std.proofs.lemmas.Option.{slice_get_past}
+use Rattle.sno_value.specs.declared.ids.PatId.{PatId}
+use Rattle.sno_value.specs.declared.kind.PrimitiveKind.{PrimitiveKind}
+use Rattle.sno_value.specs.declared.value.Value.{Value as Stored}
+use Rattle.sno_value.specs.declared.value.Value.TheVariants as stored
+use Rattle.sno_pattern.specs.declared.argument.Arg.TheVariants.{Count}
+use Rattle.sno_text.specs.declared.node.Node.{Node as Form}
+use Rattle.sno_text.specs.Source.{Source}
+use Rattle.sno_pattern.specs.Pattern.{Pattern, Arbno}
+use Rattle.sno_pattern.specs.Table.{Node}
+use Rattle.snobol.specs.declared.machine.Exit.{Exit}
+use Rattle.snobol.specs.Action.{End, Error, Action, gives, stops, settles, and_then}
+use Rattle.snobol.specs.Values.{Value, Pat, shown, IsValueOf}
+use Rattle.snobol.specs.Evaluate.{applied, later, argument, as_pattern, makes_value, count_primitive, set_primitive, repetition, wrong_type}
+use Rattle.snobol.specs.declared.forms.Part.{Part}
+use Rattle.snobol.specs.Forms.{node_at}
+use Rattle.snobol.specs.State.{State, Does, tree_of, IsPatternOf}
+use Rattle.snobol.specs.Primitives.{with_bytes, makes_primitive}
+use Rattle.snobol.proofs.Outcomes.{then_got, then_err}
+use Rattle.snobol.proofs.Conversions.{as_value}
+
+pub count_none : (kind : PrimitiveKind) (x : Option ℤ) → x ≡ None → count_primitive kind x ≡ wrong_type
+count_none kind x h = rw h refl
+
+pub set_none : (kind : PrimitiveKind) (x : Option (List ℕ)) → x ≡ None → set_primitive kind x ≡ wrong_type
+set_none kind x h = rw h refl
+
+stops_then : {A B : Type 0} (why : End) (next : A → Action B) → and_then (stops why) next ≡ stops why
+unfolding settles
+stops_then why next = refl
+
+pub count_value : (kind : PrimitiveKind) (n : ℤ) → count_primitive kind (Some n) ≡ as_value (makes_primitive kind (Count n))
+count_value kind (pos n) = refl
+count_value kind (negsuc n) = sym (stops_then (Error 7) (λ (p : Pattern). gives (Pat p)))
+
+pub set_value : (kind : PrimitiveKind) (bytes : List ℕ) → set_primitive kind (Some bytes) ≡ as_value (with_bytes kind bytes)
+set_value kind [] = sym (stops_then (Error 6) (λ (p : Pattern). gives (Pat p)))
+set_value kind (byte ∷ bytes) = refl
+
+pub body_refused : (x : Value) (a b : State) (e : Exit) → Does {X = PatId} tree_of IsPatternOf (as_pattern x) a b (Err e) → Does {X = Stored} shown IsValueOf (repetition x) a b (Err e)
+body_refused x a b e h = then_err tree_of IsPatternOf shown IsValueOf (as_pattern x) (λ p. makes_value (Arbno p)) a b e h
+
+pub body_made : (x : Value) (a b c : State) (id : PatId) (r : Result Stored Exit) → Does tree_of IsPatternOf (as_pattern x) a b (Ok id) → Does shown IsValueOf (makes_value (Arbno (tree_of b.nodes id))) b c r → Does shown IsValueOf (repetition x) a c r
+body_made x a b c id r h k = then_got tree_of IsPatternOf shown IsValueOf (as_pattern x) (λ p. makes_value (Arbno p)) a b c id r h k
+
+-- the second argument stays where the first is taken out
+pub second_stays : (nodes : List Node) (v : Stored) (xs ys : List Stored) → ys ≡ slice_set xs 0 v → argument (map (shown nodes) ys) 1 ≡ argument (map (shown nodes) xs) 1
+second_stays nodes v [] ys h = rw h refl
+second_stays nodes v (x ∷ xs) ys h = rw h refl
+
+pub second_known : (nodes : List Node) (v : Stored) (xs ys : List Stored) → ys ≡ slice_set xs 0 v → IsValueOf nodes v → AllByRecursion (IsValueOf nodes) xs → AllByRecursion (IsValueOf nodes) ys
+second_known nodes v [] ys h k all = rw h tt
+second_known nodes v (x ∷ xs) ys h k all = rw h (k, all.1)
+
+-- a number beyond the table has no form
+pub no_form : (source : Source) (part : Part) → length source.nodes ≤ part.node.0 → node_at source part ≡ None
+no_form source part h = slice_get_past source.nodes part.node.0 h
+
+-- no form has a name yet
+pub name_later : (text : List ℕ) (nodes : List Form) (i : ℕ) (xs : List Value) → i < length nodes → applied text (slice_get nodes i) true (Some xs) ≡ later
+name_later text [] i xs h = absurd (omega arith)
+name_later text (node ∷ nodes) zero xs h = refl
+name_later text (node ∷ nodes) (suc i) xs h = name_later text nodes i xs (omega arith)

@@ -1,0 +1,40 @@
+-- What a builder does.
+use Rattle.std.proofs.Common.{◌≡◌, ℕ, ◌+◌, ◌<◌, nat_lt, Bool, true, List, [], ◌∷◌, ◌++◌, length, get_or, refl, sym, ◌∙◌, ap, subst, length-append, arith, Option, None, Some, Result, Ok, Err}
+use Rattle.std.proofs.Math.Seq.{get_or-append_seam}
+use Rattle.std.proofs.lemmas.Bool.{lt-ltb}
+use Rattle.sno_value.specs.declared.ids.PatId.{PatId}
+use Rattle.sno_pattern.specs.Pattern.{Pattern}
+use Rattle.sno_pattern.specs.Table.{Node, tree, tree_over, trees_onto, no_pattern}
+use Rattle.sno_pattern.proofs.TableLaws.{tree-append}
+use Rattle.sno_pattern.specs.Built.{Appends}
+use Rattle.snobol.specs.Evaluate.{makes}
+use Rattle.snobol.specs.State.{State, world, Grows, Does, tree_of, IsPatternOf}
+
+-- a pattern stays what it is
+pub tree_stays : (old new : List Node) (id : ℕ) → Grows old new → id < length old → tree new id ≡ tree old id
+tree_stays old new id g h = ap (λ nodes. tree nodes id) g.1 ∙ tree-append old g.0 id h
+
+pub number_stays : (old new : List Node) (id : ℕ) → Grows old new → id < length old → id < length new
+number_stays old new id g h = rw g.1 (omega (arith, length-append old g.0))
+
+last_tree : (before : List Pattern) (nodes : List Node) (node : Node) → get_or (trees_onto before (nodes ++ node ∷ [])) (length before + length nodes) no_pattern ≡ tree_over (trees_onto before nodes) node
+last_tree before [] node =
+    let e : length before + 0 ≡ length before = omega arith in
+    rw e (get_or-append_seam before (tree_over before node) [] no_pattern)
+last_tree before (x ∷ nodes) node =
+    let next = before ++ tree_over before x ∷ [] in
+    let e : length before + length (x ∷ nodes) ≡ length next + length nodes = omega (arith, length-append before (tree_over before x ∷ [])) in
+    rw e (last_tree next nodes node)
+
+pub made : (node : Node) (a b : State) (id : PatId) → Appends a.nodes b.nodes node id → Does tree_of IsPatternOf (makes (tree_over (trees_onto [] a.nodes) node)) a b (Ok id)
+made node a b id h =
+    let room : nat_lt (length a.nodes) 4_000_000 ≡ true = lt-ltb (length a.nodes) 4_000_000 h.2 in
+    let count : length b.nodes ≡ length a.nodes + 1 = ap length h.1 ∙ length-append a.nodes (node ∷ []) in
+    let from_none : 0 + length a.nodes ≡ length a.nodes = omega arith in
+    let last : tree (a.nodes ++ node ∷ []) (length a.nodes) ≡ tree_over (trees_onto [] a.nodes) node = rw from_none at (last_tree [] a.nodes node) in
+    let same : tree b.nodes id.0 ≡ tree_over (trees_onto [] a.nodes) node = ap (λ ns. tree ns id.0) h.1 ∙ ap (λ n. tree (a.nodes ++ node ∷ []) n) h.0 ∙ last in
+    record {
+      grows = (node ∷ [], h.1);
+      meets = rw (room, count, same) refl;
+      answer = omega arith;
+    }

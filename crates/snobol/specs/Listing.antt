@@ -1,0 +1,56 @@
+-- The listing of a pattern's ways: what `ways` writes, and how it ends.
+use Rattle.std.specs.Prelude.{◌≡◌, ◌⊎◌, ℕ, nat_lt, Bool, List, [], if◌then◌else◌, length, codes, Option}
+use Rattle.sno_io.specs.Devices.{Begins}
+use Rattle.sno_value.specs.declared.ids.ExprId.{ExprId}
+use Rattle.sno_text.specs.Source.{Source}
+use Rattle.sno_pattern.specs.Pattern.{Pattern}
+use Rattle.sno_match.specs.Search.{trace}
+use Rattle.snobol.specs.declared.ways.WaysOutcome.{WaysOutcome}
+use Rattle.snobol.specs.declared.ways.WaysOutcome.TheVariants.{Done, Refused, Error as HasError, NoMemory, WriteFault}
+use Rattle.snobol.specs.World.{World, new_world}
+use Rattle.snobol.specs.Action.{End, Error, Ending, Got, Stops, Outcome, Action, stops, settles, either, and_then}
+use Rattle.snobol.specs.Forms.{value}
+use Rattle.snobol.specs.Evaluate.{expression, as_pattern}
+use Rattle.snobol.specs.Narrow.{IsRefusal}
+use Rattle.snobol.specs.Reading.{IsRead}
+use Rattle.snobol.specs.Lines.{lines_of}
+
+abbrev pub writes : List ℕ → Action Unit
+writes bytes w = record { ending = Got tt; world = w; wrote = bytes }
+
+-- the lines of the whole trace; a pattern that failed while it was built has no way
+abbrev pub lists_ways : List ℕ → Bool → ℕ → Option Pattern → Action Unit
+lists_ways subject anchored limit = either (writes (codes "exhausted\n")) (λ p. writes (lines_of (trace p subject anchored limit [])))
+
+-- The subject's length is judged, then the pattern is evaluated, and then its ways are listed.
+abbrev pub lists : Source → ExprId → List ℕ → Bool → ℕ → Action Unit
+lists source e subject anchored limit =
+    if nat_lt 1_000_000 (length subject) then stops (Error 8)
+    else settles (and_then (expression source (value e)) as_pattern) (lists_ways subject anchored limit)
+
+-- how the listing of a pattern that is read ends, and its lines
+abbrev pub listing : Source → ExprId → List ℕ → Bool → ℕ → Outcome Unit
+listing source e subject anchored limit = lists source e subject anchored limit new_world
+
+-- The pattern's text is read, and this is the listing's end and its lines.
+pub record IsListed (pattern subject : List ℕ) (anchored : Bool) (limit : ℕ) (ending : Ending Unit) (lines : List ℕ) : Type 0 where
+  pub source : Source
+  pub number : ExprId
+  pub read : IsRead pattern source number
+  pub ends : (listing source number subject anchored limit).ending ≡ ending
+  pub written : (listing source number subject anchored limit).wrote ≡ lines
+
+-- The pattern's text is read, and these bytes begin the listing's lines.
+pub record IsCutShort (pattern subject : List ℕ) (anchored : Bool) (limit : ℕ) (bytes : List ℕ) : Type 0 where
+  pub source : Source
+  pub number : ExprId
+  pub read : IsRead pattern source number
+  pub begins : Begins bytes (listing source number subject anchored limit).wrote
+
+-- What was written is the listing of the pattern's ways with this outcome; where it was broken off, a beginning of its lines.
+abbrev pub IsListing : List ℕ → List ℕ → Bool → ℕ → WaysOutcome → List ℕ → Type 0
+IsListing pattern subject anchored limit Done wrote = IsListed pattern subject anchored limit (Got tt) wrote
+IsListing pattern subject anchored limit (HasError code) wrote = IsListed pattern subject anchored limit (Stops (Error code)) wrote
+IsListing pattern subject anchored limit (Refused error) wrote = IsRefusal pattern error × (wrote ≡ [])
+IsListing pattern subject anchored limit NoMemory wrote = (wrote ≡ []) ⊎ IsCutShort pattern subject anchored limit wrote
+IsListing pattern subject anchored limit WriteFault wrote = IsCutShort pattern subject anchored limit wrote

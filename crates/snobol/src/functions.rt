@@ -1,0 +1,85 @@
+//! Calls of functions.
+ghost use Rattle.std.specs.Prelude.{◌≡◌, ◌<◌, ◌≤◌, List, length, map, pos, slice_set, IsTrue, IsFalse};
+ghost use Rattle.std.specs.List.{AllByRecursion};
+ghost use Rattle.sno_value.specs.Kind.{takes_count};
+ghost use Rattle.sno_pattern.specs.Table.{Node};
+ghost use Rattle.snobol.specs.Values.{shown, IsValueOf};
+ghost use Rattle.snobol.specs.Evaluate.{argument, called, count_primitive, repetition, set_primitive, number_of, text_of};
+ghost use Rattle.snobol.specs.State.{Does};
+
+use crate::builtins::Builtin;
+use crate::convert::{as_pattern, number_of, text_of};
+use crate::machine::{Exit, LATER, Machine, UNDEFINED_FUNCTION, error};
+use sno_pattern::Arg;
+use sno_value::{Prim, Text, Value};
+use std::alloc::Global;
+
+/// What a function gives of its operands. Missing operands are null, and further ones are dropped.
+pub(crate) fn called(
+    machine: &mut Machine,
+    function: Option<Builtin>,
+    operands: &mut [Value],
+) -> Result<Value, Exit>
+    requires { AllByRecursion (IsValueOf machine.old.nodes) operands.old }
+    ensures { Does shown IsValueOf (called function (map (shown machine.old.nodes) operands.old)) machine.old machine.new result }
+{
+    match function {
+        None => Err(error(UNDEFINED_FUNCTION)),
+        Some(Builtin::Later) => Err(error(LATER)),
+        Some(Builtin::Primitive(prim)) => {
+            let operand = argument(machine.alloc(), operands, 0);
+            if prim.takes_count() {
+                count_primitive(machine, prim, &operand)
+            } else {
+                set_primitive(machine, prim, operand)
+            }
+        }
+        Some(Builtin::Arbno) => {
+            let operand = argument(machine.alloc(), operands, 0);
+            repetition(machine, operand)
+        }
+    }
+}
+
+/// The operand with a number, which is taken out; null where there is none.
+pub(crate) fn argument(alloc: Global, operands: &mut [Value], k: usize) -> Value
+    ensures value { (nodes : List Node) → shown nodes result ≡ argument (map (shown nodes) operands.old) k }
+    ensures rest { operands.new ≡ slice_set operands.old k (Value.Int (pos 0)) }
+    ensures known { (nodes : List Node) → AllByRecursion (IsValueOf nodes) operands.old → IsValueOf nodes result }
+{
+    if k < operands.len() {
+        std::mem::replace(&mut operands[k], Value::Int(0))
+    } else {
+        Value::Str(Text::new(Vec::new(alloc)))
+    }
+}
+
+/// A primitive with a count.
+fn count_primitive(machine: &mut Machine, prim: Prim, operand: &Value) -> Result<Value, Exit>
+    requires { IsTrue (takes_count prim) }
+    ensures { Does shown IsValueOf (count_primitive prim (number_of (shown machine.old.nodes operand.now))) machine.old machine.new result }
+{
+    let count = number_of(operand)?;
+    let id = machine.prim(prim, Arg::Count(count))?;
+    Ok(Value::Pat(id))
+}
+
+/// A primitive with a set of bytes.
+fn set_primitive(machine: &mut Machine, prim: Prim, operand: Value) -> Result<Value, Exit>
+    requires { IsFalse (takes_count prim) }
+    ensures { Does shown IsValueOf (set_primitive prim (text_of (shown machine.old.nodes operand))) machine.old machine.new result }
+{
+    let set = text_of(machine.alloc(), operand)?;
+    let id = machine.prim(prim, Arg::Set(&set))?;
+    Ok(Value::Pat(id))
+}
+
+/// ARBNO(P).
+fn repetition(machine: &mut Machine, operand: Value) -> Result<Value, Exit>
+    requires { IsValueOf machine.old.nodes operand }
+    ensures { Does shown IsValueOf (repetition (shown machine.old.nodes operand)) machine.old machine.new result }
+{
+    let body = as_pattern(machine, operand)?;
+    let id = machine.arbno(body)?;
+    Ok(Value::Pat(id))
+}
