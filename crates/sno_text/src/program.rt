@@ -38,7 +38,8 @@ impl Program {
 
     /// How many nodes there are.
     pub fn nodes(&self) -> u32
-        ensures { result ≡ length self.now.nodes }
+        ensures count { result ≡ length self.now.nodes }
+        ensures table { IsTable (length self.now.text) self.now.nodes }
     {
         self.nodes.len() as u32
     }

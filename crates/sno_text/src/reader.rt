@@ -1,6 +1,7 @@
 //! The reader of a whole text.
 ghost use Rattle.std.specs.Prelude.{◌≡◌, ◌<◌, true, false, Contains, length, IfOk, IfErr};
 ghost use Rattle.sno_text.specs.Bytes.{byte};
+ghost use Rattle.sno_text.specs.Source.{IsTable};
 ghost use Rattle.sno_text.specs.Trees.{Tree, Stands};
 ghost use Rattle.sno_text.specs.Refusals.{IsAccepted, IsRefused};
 
@@ -39,6 +40,7 @@ pub fn read_expression(alloc: Global, text: &[u8]) -> Result<(Program, ExprId), 
     ensures accepted { IfOk result (λ r. (t : Tree) × IsAccepted text.now t × Stands r.0.nodes r.1 t) }
     ensures source { IfOk result (λ r. r.0.text ≡ text.now) }
     ensures number { IfOk result (λ r. r.1.0 < length r.0.nodes) }
+    ensures table { IfOk result (λ r. IsTable (length r.0.text) r.0.nodes) }
     ensures refused { IfErr result (λ e. IsRefused text.now e) }
 {
     if has_open_literal(text) {

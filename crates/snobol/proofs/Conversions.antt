@@ -118,7 +118,7 @@ pub first_refused : (join : Pattern → Pattern → Pattern) (x y : Value) (a b 
     → Does {X = PatId} tree_of IsPatternOf (as_pattern x) a b (Err e) → Does {X = Stored} shown IsValueOf (joined_patterns join x y) a b (Err e)
 first_refused join x y a b e h k p =
     rw (patterns_in_turn join x y h k)
-      (then_err tree_of IsPatternOf shown IsValueOf (as_pattern x) (λ p. and_then (as_pattern y) (λ q. makes_value (join p q))) a b e p)
+    (then_err tree_of IsPatternOf shown IsValueOf (as_pattern x) (λ p. and_then (as_pattern y) (λ q. makes_value (join p q))) a b e p)
 
 pub second_refused : (join : Pattern → Pattern → Pattern) (x : Value) (y : Stored) (a b c : State) (id : PatId) (e : Exit) → is_patternable x ≡ true → is_patternable (shown a.nodes y) ≡ true → IsValueOf a.nodes y
     → Does tree_of IsPatternOf (as_pattern x) a b (Ok id) → Does {X = PatId} tree_of IsPatternOf (as_pattern (shown b.nodes y)) b c (Err e)
@@ -126,8 +126,8 @@ pub second_refused : (join : Pattern → Pattern → Pattern) (x : Value) (y : S
 second_refused join x y a b c id e h k v p q =
     let old : as_pattern (shown b.nodes y) ≡ as_pattern (shown a.nodes y) = ap as_pattern (shown_stays a.nodes b.nodes y p.grows v) in
     rw (patterns_in_turn join x (shown a.nodes y) h k)
-      (then_got tree_of IsPatternOf shown IsValueOf (as_pattern x) (λ t. and_then (as_pattern (shown a.nodes y)) (λ u. makes_value (join t u))) a b c id (Err e) p
-        (then_err tree_of IsPatternOf shown IsValueOf (as_pattern (shown a.nodes y)) (λ u. makes_value (join (tree_of b.nodes id) u)) b c e (rw old at q)))
+    (then_got tree_of IsPatternOf shown IsValueOf (as_pattern x) (λ t. and_then (as_pattern (shown a.nodes y)) (λ u. makes_value (join t u))) a b c id (Err e) p
+    (then_err tree_of IsPatternOf shown IsValueOf (as_pattern (shown a.nodes y)) (λ u. makes_value (join (tree_of b.nodes id) u)) b c e (rw old at q)))
 
 pub both_joined : (join : Pattern → Pattern → Pattern) (x : Value) (y : Stored) (a b c d : State) (first second : PatId) (r : Result Stored Exit)
     → is_patternable x ≡ true → is_patternable (shown a.nodes y) ≡ true → IsValueOf a.nodes y
@@ -138,8 +138,8 @@ both_joined join x y a b c d first second r h k v p q m =
     let old : as_pattern (shown b.nodes y) ≡ as_pattern (shown a.nodes y) = ap as_pattern (shown_stays a.nodes b.nodes y p.grows v) in
     let stays : tree_of c.nodes first ≡ tree_of b.nodes first = tree_stays b.nodes c.nodes first.0 q.grows p.answer in
     rw (patterns_in_turn join x (shown a.nodes y) h k)
-      (then_got tree_of IsPatternOf shown IsValueOf (as_pattern x) (λ t. and_then (as_pattern (shown a.nodes y)) (λ u. makes_value (join t u))) a b d first r p
-        (then_got tree_of IsPatternOf shown IsValueOf (as_pattern (shown a.nodes y)) (λ u. makes_value (join (tree_of b.nodes first) u)) b c d second r (rw old at q) (rw stays at m)))
+    (then_got tree_of IsPatternOf shown IsValueOf (as_pattern x) (λ t. and_then (as_pattern (shown a.nodes y)) (λ u. makes_value (join t u))) a b d first r p
+    (then_got tree_of IsPatternOf shown IsValueOf (as_pattern (shown a.nodes y)) (λ u. makes_value (join (tree_of b.nodes first) u)) b c d second r (rw old at q) (rw stays at m)))
 
 -- a text that is there is no error 1
 pub text_refused : (act : Action Value) (v : Stored) (s : State) (e : Exit) → has_text v ≡ true → IsThere {X = Vec ℕ Global} (λ t. t.items) (text_of (shown s.nodes v)) (Err e) → Does {X = Stored} shown IsValueOf act s s (Err e)

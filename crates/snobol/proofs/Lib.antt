@@ -5,6 +5,7 @@ pub mod Piles
 pub mod Leads
 pub mod Ordered
 pub mod ListingLaws
+pub mod EnumerationLaws
 pub mod Builders
 pub mod Variables
 pub mod Primitives

@@ -33,12 +33,13 @@ lines_of-begins events k = (lines_of (drop k events), sym (lines_of-append (take
 -- and so do those with a beginning of the next line
 pub lines_of-begins_next : (events : List (Event × ℕ)) (k n : ℕ) (event : Event) (part : List ℕ) → slice_get events k ≡ Some (event, n) → Begins part (line_of event) → Begins (lines_of (take k events) ++ part) (lines_of events)
 lines_of-begins_next events k n event part at b =
-    let whole = lines_of-begins events (suc k) in
-    (b.0 ++ whole.0,
-     append_assoc (lines_of (take k events)) part (b.0 ++ whole.0)
-     ∙ (ap (λ bytes. lines_of (take k events) ++ bytes) (sym (append_assoc part b.0 whole.0) ∙ ap (λ bytes. bytes ++ whole.0) b.1)
-     ∙ (sym (append_assoc (lines_of (take k events)) (line_of event) whole.0)
-     ∙ (ap (λ bytes. bytes ++ whole.0) (sym (lines_of-next events k n event at)) ∙ whole.1))))
+    let whole = lines_of-begins events (suc k) in (
+      b.0 ++ whole.0,
+      append_assoc (lines_of (take k events)) part (b.0 ++ whole.0)
+          ∙ (ap (λ bytes. lines_of (take k events) ++ bytes) (sym (append_assoc part b.0 whole.0) ∙ ap (λ bytes. bytes ++ whole.0) b.1)
+          ∙ (sym (append_assoc (lines_of (take k events)) (line_of event) whole.0)
+          ∙ (ap (λ bytes. bytes ++ whole.0) (sym (lines_of-next events k n event at)) ∙ whole.1))),
+    )
 
 -- the event that is told next
 pub told_next : (old new : Session) (event : Told) → SameMatch old new → IsTold old new event → old.ended ≡ false → slice_get (trace_of old) old.told ≡ Some (in_trace event new.way, new.steps)

@@ -2,8 +2,8 @@
 use Rattle.std.specs.Prelude.{ℕ, ◌==◌, List, if◌then◌else◌}
 use Rattle.sno_io.specs.declared.jobs.Job.{Job}
 use Rattle.sno_io.specs.declared.jobs.Job.TheVariants.{Ways}
-use Rattle.snobol.specs.declared.ways.WaysOutcome.{WaysOutcome}
-use Rattle.snobol.specs.declared.ways.WaysOutcome.TheVariants.{Done, Refused, Error, NoMemory, WriteFault}
+use Rattle.snobol.specs.declared.enumeration.WaysOutcome.{WaysOutcome}
+use Rattle.snobol.specs.declared.enumeration.WaysOutcome.TheVariants.{Done, Refused, Error, NoMemory, WriteFault}
 use Rattle.snobol.specs.Listing.{IsListing}
 
 abbrev pub error_status : ℕ → ℕ

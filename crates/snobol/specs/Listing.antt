@@ -1,12 +1,14 @@
 -- The listing of a pattern's ways: what `ways` writes, and how it ends.
-use Rattle.std.specs.Prelude.{◌≡◌, ◌⊎◌, ℕ, nat_lt, Bool, List, [], if◌then◌else◌, length, codes, Option}
+use Rattle.std.specs.Prelude.{◌≡◌, ◌⊎◌, ℕ, nat_lt, Bool, List, [], if◌then◌else◌, length, codes, Option, Result, Ok, Err}
 use Rattle.sno_io.specs.Devices.{Begins}
 use Rattle.sno_value.specs.declared.ids.ExprId.{ExprId}
 use Rattle.sno_text.specs.Source.{Source}
 use Rattle.sno_pattern.specs.Pattern.{Pattern}
 use Rattle.sno_match.specs.Search.{trace}
-use Rattle.snobol.specs.declared.ways.WaysOutcome.{WaysOutcome}
-use Rattle.snobol.specs.declared.ways.WaysOutcome.TheVariants.{Done, Refused, Error as HasError, NoMemory, WriteFault}
+use Rattle.snobol.specs.declared.enumeration.WaysOutcome.{WaysOutcome}
+use Rattle.snobol.specs.declared.enumeration.WaysOutcome.TheVariants.{Done, Refused, Error as HasError, NoMemory, WriteFault}
+use Rattle.snobol.specs.declared.machine.Stop.{Stop}
+use Rattle.snobol.specs.declared.machine.Stop.TheVariants as stops_by
 use Rattle.snobol.specs.World.{World, new_world}
 use Rattle.snobol.specs.Action.{End, Error, Ending, Got, Stops, Outcome, Action, stops, settles, either, and_then}
 use Rattle.snobol.specs.Forms.{value}
@@ -31,6 +33,20 @@ lists source e subject anchored limit =
 -- how the listing of a pattern that is read ends, and its lines
 abbrev pub listing : Source → ExprId → List ℕ → Bool → ℕ → Outcome Unit
 listing source e subject anchored limit = lists source e subject anchored limit new_world
+
+-- What was written and how it ended is what the outcome says; where it was broken off, a beginning was written.
+abbrev pub Tells : Outcome Unit → List ℕ → Result Unit Stop → Type 0
+Tells o wrote (Ok done) = (o.ending ≡ Got tt) × (o.wrote ≡ wrote)
+Tells o wrote (Err (stops_by.Error code)) = (o.ending ≡ Stops (Error code)) × (o.wrote ≡ wrote)
+Tells o wrote (Err stops_by.NoMemory) = Begins wrote o.wrote
+Tells o wrote (Err stops_by.WriteFault) = Begins wrote o.wrote
+
+-- how a call ended
+abbrev pub outcome_of : Result Unit Stop → WaysOutcome
+outcome_of (Ok done) = Done
+outcome_of (Err (stops_by.Error code)) = HasError code
+outcome_of (Err stops_by.NoMemory) = NoMemory
+outcome_of (Err stops_by.WriteFault) = WriteFault
 
 -- The pattern's text is read, and this is the listing's end and its lines.
 pub record IsListed (pattern subject : List ℕ) (anchored : Bool) (limit : ℕ) (ending : Ending Unit) (lines : List ℕ) : Type 0 where

@@ -16,6 +16,7 @@ pub record IsRead (text : List ℕ) (source : Source) (e : ExprId) : Type 0 wher
   pub stands : Stands source.nodes e tree
   pub source_text : source.text ≡ text
   pub number : e.0 < length source.nodes
+  pub table : IsTable (length source.text) source.nodes
 
 abbrev pub IsRefusalOrMemory : List ℕ → ReadError → Type 0
 IsRefusalOrMemory text NoMemory = Unit {0}

@@ -4,22 +4,22 @@
 mod apply;
 mod builtins;
 mod convert;
+mod enumeration;
 mod evaluate;
 mod forms;
 mod functions;
+mod job;
 mod listing;
 mod machine;
 mod narrow;
 mod operators;
-mod perform;
 mod pile;
 mod read;
-mod ways;
 
-pub use perform::perform;
+pub use enumeration::{WaysOutcome, ways};
+pub use job::perform;
 pub use sno_io::{Device, DeviceFault, Job, Sink, command, put, status_of};
 pub use sno_text::ReadError;
-pub use ways::{WaysOutcome, ways};
 
 #[cfg(test)]
 mod tests;

@@ -44,13 +44,7 @@ fn after(place: Place, byte: u8) -> Place
 {
     match place {
         Place::Between => after_token(byte),
-        Place::Inside(quote) => {
-            if byte == quote {
-                Place::Between
-            } else {
-                place
-            }
-        }
+        Place::Inside(quote) => { if byte == quote { Place::Between } else { place } }
         Place::F => next_if(byte == b'A', Place::Fa),
         Place::Fa => next_if(byte == b'I', Place::Fai),
         Place::Fai => next_if(byte == b'L', Place::Fail),

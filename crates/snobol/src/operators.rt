@@ -112,12 +112,7 @@ fn joined_texts(alloc: Global, x: Value, y: Value) -> Result<Value, Exit>
 }
 
 /// A pattern of two. Both types are judged before a node is made.
-fn joined_patterns(
-    machine: &mut Machine,
-    join: Join,
-    x: Value,
-    y: Value,
-) -> Result<Value, Exit>
+fn joined_patterns(machine: &mut Machine, join: Join, x: Value, y: Value) -> Result<Value, Exit>
     requires x { IsValueOf machine.old.nodes x }
     requires y { IsValueOf machine.old.nodes y }
     ensures { Does shown IsValueOf (joined_patterns (join_of join) (shown machine.old.nodes x) (shown machine.old.nodes y)) machine.old machine.new result }
@@ -131,12 +126,7 @@ fn joined_patterns(
 }
 
 /// The pattern of two patterns.
-fn pattern_of(
-    machine: &mut Machine,
-    join: Join,
-    first: PatId,
-    second: PatId,
-) -> Result<Value, Exit>
+fn pattern_of(machine: &mut Machine, join: Join, first: PatId, second: PatId) -> Result<Value, Exit>
     requires first { first.0 < length machine.old.nodes }
     requires second { second.0 < length machine.old.nodes }
     ensures { Does shown IsValueOf (makes_value (join_of join (tree_of machine.old.nodes first) (tree_of machine.old.nodes second))) machine.old machine.new result }

@@ -14,8 +14,18 @@ fn check_row(rt: &HostRuntime, row: &Row) -> Result<(), Fail> {
     let mut output = Device::new(Vec::new(alloc));
     let mut errors = Device::new(Vec::new(alloc));
     let status = perform(alloc, &job, &mut output, &mut errors);
-    assert_eq!(rt; output.into_inner().as_slice(), row.1.as_bytes(), "{:?}", row.0);
-    assert_eq!(rt; errors.into_inner().as_slice(), row.2.as_bytes(), "{:?}", row.0);
+    assert_eq!(rt;
+        output.into_inner().as_slice(),
+        row.1.as_bytes(),
+        "{:?}",
+        row.0
+    );
+    assert_eq!(rt;
+        errors.into_inner().as_slice(),
+        row.2.as_bytes(),
+        "{:?}",
+        row.0
+    );
     assert_eq!(rt; status, row.3, "{:?}", row.0);
     Ok(())
 }
@@ -32,13 +42,43 @@ fn choices_in_order(rt: HostRuntime) -> Result<(), Fail> {
     check_rows(
         &rt,
         &[
-            (&["snobol4", "ways", "--anchor", "'A' | 'AB'", "AB"], "way 0 1\nway 0 2\nexhausted\n", "", 0),
-            (&["snobol4", "ways", "--anchor", "'A' LEN(1) | LEN(1)", "AB"], "way 0 2\nway 0 1\nexhausted\n", "", 0),
-            (&["snobol4", "ways", "LEN(1) 'B'", "ABB"], "way 0 2\nway 1 3\nexhausted\n", "", 0),
-            (&["snobol4", "ways", "'A' 'B'", "ACAB"], "way 2 4\nexhausted\n", "", 0),
-            (&["snobol4", "ways", "''", ""], "way 0 0\nexhausted\n", "", 0),
+            (
+                &["snobol4", "ways", "--anchor", "'A' | 'AB'", "AB"],
+                "way 0 1\nway 0 2\nexhausted\n",
+                "",
+                0,
+            ),
+            (
+                &["snobol4", "ways", "--anchor", "'A' LEN(1) | LEN(1)", "AB"],
+                "way 0 2\nway 0 1\nexhausted\n",
+                "",
+                0,
+            ),
+            (
+                &["snobol4", "ways", "LEN(1) 'B'", "ABB"],
+                "way 0 2\nway 1 3\nexhausted\n",
+                "",
+                0,
+            ),
+            (
+                &["snobol4", "ways", "'A' 'B'", "ACAB"],
+                "way 2 4\nexhausted\n",
+                "",
+                0,
+            ),
+            (
+                &["snobol4", "ways", "''", ""],
+                "way 0 0\nexhausted\n",
+                "",
+                0,
+            ),
             (&["snobol4", "ways", "FAIL", ""], "exhausted\n", "", 0),
-            (&["snobol4", "ways", "--", "'-'", "-"], "way 0 1\nexhausted\n", "", 0),
+            (
+                &["snobol4", "ways", "--", "'-'", "-"],
+                "way 0 1\nexhausted\n",
+                "",
+                0,
+            ),
         ],
     )
 }
@@ -48,16 +88,98 @@ fn steps_and_the_limit(rt: HostRuntime) -> Result<(), Fail> {
     check_rows(
         &rt,
         &[
-            (&["snobol4", "ways", "--anchor", "--steps", "3", "'A' | 'AB'", "AB"], "way 0 1\nlimit\n", "", 0),
-            (&["snobol4", "ways", "--anchor", "--steps", "4", "'A' | 'AB'", "AB"], "way 0 1\nway 0 2\nexhausted\n", "", 0),
-            (&["snobol4", "ways", "--steps", "0", "'A'", "A"], "limit\n", "", 0),
-            (&["snobol4", "ways", "--steps", "1", "'A'", "A"], "way 0 1\nlimit\n", "", 0),
-            (&["snobol4", "ways", "--steps", "2", "'A'", "A"], "way 0 1\nlimit\n", "", 0),
-            (&["snobol4", "ways", "--steps", "3", "'A'", "A"], "way 0 1\nexhausted\n", "", 0),
-            (&["snobol4", "ways", "--anchor", "--steps", "6", "'A' LEN(1) | LEN(1)", "AB"], "way 0 2\nway 0 1\nexhausted\n", "", 0),
-            (&["snobol4", "ways", "--anchor", "--steps", "5", "'A' LEN(1) | LEN(1)", "AB"], "way 0 2\nlimit\n", "", 0),
-            (&["snobol4", "ways", "--steps", "14", "LEN(1) 'B'", "ABB"], "way 0 2\nway 1 3\nexhausted\n", "", 0),
-            (&["snobol4", "ways", "--steps", "13", "LEN(1) 'B'", "ABB"], "way 0 2\nway 1 3\nlimit\n", "", 0),
+            (
+                &[
+                    "snobol4",
+                    "ways",
+                    "--anchor",
+                    "--steps",
+                    "3",
+                    "'A' | 'AB'",
+                    "AB",
+                ],
+                "way 0 1\nlimit\n",
+                "",
+                0,
+            ),
+            (
+                &[
+                    "snobol4",
+                    "ways",
+                    "--anchor",
+                    "--steps",
+                    "4",
+                    "'A' | 'AB'",
+                    "AB",
+                ],
+                "way 0 1\nway 0 2\nexhausted\n",
+                "",
+                0,
+            ),
+            (
+                &["snobol4", "ways", "--steps", "0", "'A'", "A"],
+                "limit\n",
+                "",
+                0,
+            ),
+            (
+                &["snobol4", "ways", "--steps", "1", "'A'", "A"],
+                "way 0 1\nlimit\n",
+                "",
+                0,
+            ),
+            (
+                &["snobol4", "ways", "--steps", "2", "'A'", "A"],
+                "way 0 1\nlimit\n",
+                "",
+                0,
+            ),
+            (
+                &["snobol4", "ways", "--steps", "3", "'A'", "A"],
+                "way 0 1\nexhausted\n",
+                "",
+                0,
+            ),
+            (
+                &[
+                    "snobol4",
+                    "ways",
+                    "--anchor",
+                    "--steps",
+                    "6",
+                    "'A' LEN(1) | LEN(1)",
+                    "AB",
+                ],
+                "way 0 2\nway 0 1\nexhausted\n",
+                "",
+                0,
+            ),
+            (
+                &[
+                    "snobol4",
+                    "ways",
+                    "--anchor",
+                    "--steps",
+                    "5",
+                    "'A' LEN(1) | LEN(1)",
+                    "AB",
+                ],
+                "way 0 2\nlimit\n",
+                "",
+                0,
+            ),
+            (
+                &["snobol4", "ways", "--steps", "14", "LEN(1) 'B'", "ABB"],
+                "way 0 2\nway 1 3\nexhausted\n",
+                "",
+                0,
+            ),
+            (
+                &["snobol4", "ways", "--steps", "13", "LEN(1) 'B'", "ABB"],
+                "way 0 2\nway 1 3\nlimit\n",
+                "",
+                0,
+            ),
         ],
     )
 }
@@ -68,11 +190,62 @@ fn goals_of_a_concatenation(rt: HostRuntime) -> Result<(), Fail> {
     check_rows(
         &rt,
         &[
-            (&["snobol4", "ways", "--anchor", "--steps", "1", "'A' 'B'", "AB"], "way 0 2\nexhausted\n", "", 0),
-            (&["snobol4", "ways", "--anchor", "--steps", "1", "'' 'A'", "A"], "way 0 1\nexhausted\n", "", 0),
-            (&["snobol4", "ways", "--anchor", "--steps", "1", "LEN(1) ''", "A"], "way 0 1\nexhausted\n", "", 0),
-            (&["snobol4", "ways", "--anchor", "--steps", "3", "LEN(1) 'B'", "AB"], "way 0 2\nexhausted\n", "", 0),
-            (&["snobol4", "ways", "--anchor", "--steps", "2", "LEN(1) 'B'", "AB"], "limit\n", "", 0),
+            (
+                &[
+                    "snobol4", "ways", "--anchor", "--steps", "1", "'A' 'B'", "AB",
+                ],
+                "way 0 2\nexhausted\n",
+                "",
+                0,
+            ),
+            (
+                &["snobol4", "ways", "--anchor", "--steps", "1", "'' 'A'", "A"],
+                "way 0 1\nexhausted\n",
+                "",
+                0,
+            ),
+            (
+                &[
+                    "snobol4",
+                    "ways",
+                    "--anchor",
+                    "--steps",
+                    "1",
+                    "LEN(1) ''",
+                    "A",
+                ],
+                "way 0 1\nexhausted\n",
+                "",
+                0,
+            ),
+            (
+                &[
+                    "snobol4",
+                    "ways",
+                    "--anchor",
+                    "--steps",
+                    "3",
+                    "LEN(1) 'B'",
+                    "AB",
+                ],
+                "way 0 2\nexhausted\n",
+                "",
+                0,
+            ),
+            (
+                &[
+                    "snobol4",
+                    "ways",
+                    "--anchor",
+                    "--steps",
+                    "2",
+                    "LEN(1) 'B'",
+                    "AB",
+                ],
+                "limit\n",
+                "",
+                0,
+            ),
         ],
     )
 }
@@ -83,12 +256,22 @@ fn texts_that_are_refused(rt: HostRuntime) -> Result<(), Fail> {
     check_rows(
         &rt,
         &[
-            (&["snobol4", "ways", "'A", "A"], "", "snobol4: syntax 1 at line 1\n", 2),
+            (
+                &["snobol4", "ways", "'A", "A"],
+                "",
+                "snobol4: syntax 1 at line 1\n",
+                2,
+            ),
             (&["snobol4", "ways", "X", "A"], "", syntax_3, 2),
             (&["snobol4", "ways", "", "A"], "", syntax_3, 2),
             (&["snobol4", "ways", "'A';'B'", "A"], "", syntax_3, 2),
             (&["snobol4", "ways", "ARB", "AB"], "", syntax_3, 2),
-            (&["snobol4", "ways", "LEN(1) $ X FAIL", "AB"], "", syntax_3, 2),
+            (
+                &["snobol4", "ways", "LEN(1) $ X FAIL", "AB"],
+                "",
+                syntax_3,
+                2,
+            ),
             (&["snobol4", "ways", "LEN((1))", "A"], "", syntax_3, 2),
             (&["snobol4", "ways", "LEN('1')", "A"], "", syntax_3, 2),
             (&["snobol4", "ways", "LEN( - 1)", "A"], "", syntax_3, 2),
@@ -97,9 +280,24 @@ fn texts_that_are_refused(rt: HostRuntime) -> Result<(), Fail> {
             (&["snobol4", "ways", "FAIL(1)", "A"], "", syntax_3, 2),
             (&["snobol4", "ways", "'A'|'B'", "A"], "", syntax_3, 2),
             (&["snobol4", "ways", "()", "A"], "", syntax_3, 2),
-            (&["snobol4", "ways", "99999999999999999999", "A"], "", syntax_3, 2),
-            (&["snobol4", "ways", "LEN(9223372036854775808)", "A"], "", "snobol4: syntax 2 at line 1\n", 2),
-            (&["snobol4", "ways", "LEN(-9223372036854775808)", "A"], "", "snobol4: syntax 2 at line 1\n", 2),
+            (
+                &["snobol4", "ways", "99999999999999999999", "A"],
+                "",
+                syntax_3,
+                2,
+            ),
+            (
+                &["snobol4", "ways", "LEN(9223372036854775808)", "A"],
+                "",
+                "snobol4: syntax 2 at line 1\n",
+                2,
+            ),
+            (
+                &["snobol4", "ways", "LEN(-9223372036854775808)", "A"],
+                "",
+                "snobol4: syntax 2 at line 1\n",
+                2,
+            ),
         ],
     )
 }
@@ -109,11 +307,48 @@ fn texts_that_are_accepted(rt: HostRuntime) -> Result<(), Fail> {
     check_rows(
         &rt,
         &[
-            (&["snobol4", "ways", "--anchor", " ( 'A' | LEN( 2 ) ) \"'\" ", "A'"], "way 0 2\nexhausted\n", "", 0),
-            (&["snobol4", "ways", "--anchor", "LEN(9223372036854775807)", "A"], "exhausted\n", "", 0),
-            (&["snobol4", "ways", "LEN(-1)", "A"], "", "snobol4: error 7\n", 1),
-            (&["snobol4", "ways", "LEN(-1) | LEN(-2)", "A"], "", "snobol4: error 7\n", 1),
-            (&["snobol4", "ways", "LEN( -0 )", "A"], "way 0 0\nway 1 1\nexhausted\n", "", 0),
+            (
+                &[
+                    "snobol4",
+                    "ways",
+                    "--anchor",
+                    " ( 'A' | LEN( 2 ) ) \"'\" ",
+                    "A'",
+                ],
+                "way 0 2\nexhausted\n",
+                "",
+                0,
+            ),
+            (
+                &[
+                    "snobol4",
+                    "ways",
+                    "--anchor",
+                    "LEN(9223372036854775807)",
+                    "A",
+                ],
+                "exhausted\n",
+                "",
+                0,
+            ),
+            (
+                &["snobol4", "ways", "LEN(-1)", "A"],
+                "",
+                "snobol4: error 7\n",
+                1,
+            ),
+            (
+                &["snobol4", "ways", "LEN(-1) | LEN(-2)", "A"],
+                "",
+                "snobol4: error 7\n",
+                1,
+            ),
+            (
+                &["snobol4", "ways", "LEN( -0 )", "A"],
+                "way 0 0\nway 1 1\nexhausted\n",
+                "",
+                0,
+            ),
         ],
     )
 }
@@ -131,7 +366,10 @@ fn sizes_at_their_limits(rt: HostRuntime) -> Result<(), Fail> {
     let mut output = Device::new(Vec::new(alloc));
     let outcome = ways(alloc, b"LEN(1000000)", &longest, true, 1000, &mut output);
     assert_eq!(rt; outcome, WaysOutcome::Done);
-    assert_eq!(rt; output.into_inner().as_slice(), b"way 0 1000000\nexhausted\n".as_slice());
+    assert_eq!(rt;
+        output.into_inner().as_slice(),
+        b"way 0 1000000\nexhausted\n".as_slice()
+    );
     let mut output = Device::new(Vec::new(alloc));
     let outcome = ways(alloc, b"LEN(1)", &too_long, true, 1000, &mut output);
     assert_eq!(rt; outcome, WaysOutcome::Error { code: 8 });
@@ -156,7 +394,10 @@ fn writers_that_fill_up(rt: HostRuntime) -> Result<(), Fail> {
         if room < lines.len() {
             assert_eq!(rt; outcome, WaysOutcome::WriteFault, "room for {room}");
             assert!(rt; output.failed());
-            assert_eq!(rt; held.as_slice().split_at(room).0, lines.as_slice().split_at(room).0);
+            assert_eq!(rt;
+                held.as_slice().split_at(room).0,
+                lines.as_slice().split_at(room).0
+            );
         } else {
             assert_eq!(rt; outcome, WaysOutcome::Done, "room for {room}");
         }

@@ -29,3 +29,8 @@ pub new-requires-clause-table : goal.new-requires-clause-table
 new-requires-clause-table c =
     let same : c.in_ok-text.text.items ≡ c.args.text.now = search rules in
     rw same (whole_table _ _ (rw c.new-nodes.ensures.items at c.in_ok-found.ensures.extends))
+
+pub returns-clause-table : goal.returns-clause-table
+returns-clause-table c =
+    let same : c.in_ok-text.text.items ≡ c.args.text.now = search rules in
+    rw (c.new.ensures.text, c.new.ensures.nodes, same) (whole_table _ _ (rw c.new-nodes.ensures.items at c.in_ok-found.ensures.extends))

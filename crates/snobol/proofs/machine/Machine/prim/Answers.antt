@@ -3,7 +3,7 @@ use Rattle.snobol.proofs.Primitives.{primitive_made, primitive_refused}
 use Rattle.snobol.proofs.machine.Machine.prim.Goals as goal
 
 pub returns : goal.returns
-returns c = rw (← c.self.view_is) (primitive_made _ _ _ _ _ c.in_ok-id.ensures.ok.0 c.in_ok-id.ensures.ok.1)
+returns c = rw (← c.self.view_is) (primitive_made _ _ _ _ _ c.in_ok-id.ensures.good c.in_ok-id.ensures.ok)
 
 pub returns-in_err-id : goal.returns-in_err-id
 returns-in_err-id c =

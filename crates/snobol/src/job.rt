@@ -2,9 +2,9 @@
 ghost use Rattle.std.specs.Prelude.{◌≡◌, ◌⊎◌, ℕ, List, false};
 ghost use Rattle.std.specs.Io.KnownBytes.{Appends};
 ghost use Rattle.snobol.specs.Jobs.{IsDone, status_of};
-ghost use Rattle.snobol.specs.declared.ways.WaysOutcome.{WaysOutcome as Outcome};
+ghost use Rattle.snobol.specs.declared.enumeration.WaysOutcome.{WaysOutcome as Outcome};
 
-use crate::ways::{WaysOutcome, ways};
+use crate::enumeration::{WaysOutcome, ways};
 use sno_io::{Job, Sink, put};
 use std::alloc::{AllocError, Global};
 
@@ -15,12 +15,7 @@ const NO_MEMORY: u8 = 6;
 /// what to `errors`. It answers the program's status: 0 listed, 1 error, 2 pattern refused, 4 and 5 errors 20 and 21,
 /// 6 memory refused (also where there is none for the line), 7 the writer failed. That `errors` fails changes nothing.
 /// The caller owes devices that have not failed.
-pub fn perform<W: Sink, E: Sink>(
-    alloc: Global,
-    job: &Job<'_>,
-    writer: &mut W,
-    errors: &mut E,
-) -> u8
+pub fn perform<W: Sink, E: Sink>(alloc: Global, job: &Job<'_>, writer: &mut W, errors: &mut E) -> u8
     requires writer { W.broken writer.old ≡ false }
     requires errors { E.broken errors.old ≡ false }
     ensures { (outcome : Outcome) × (wrote : List ℕ) × Appends (W.taken writer.old) (W.taken writer.new) wrote × IsDone job.now outcome wrote × ((result ≡ status_of outcome) ⊎ (result ≡ 6)) }

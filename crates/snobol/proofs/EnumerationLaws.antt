@@ -1,0 +1,85 @@
+-- The listing of a pattern, from what its evaluation did.
+use Rattle.std.proofs.Common.{◌≡◌, ℕ, ◌≤◌, Bool, false, nat_lt, List, [], ◌∷◌, ◌++◌, length, codes, refl, ap, sym, ◌∙◌, subst, arith, Option, Some, None, Result, Ok, Err, if◌then◌else◌, inr}
+use Rattle.std.proofs.lemmas.Bool.{le-ltb}
+use Rattle.std.proofs.lemmas.List.{append-nil}
+use Rattle.std.specs.Io.KnownBytes.{Appends}
+use Rattle.sno_io.specs.Devices.{Begins}
+use Rattle.sno_value.specs.declared.ids.ExprId.{ExprId}
+use Rattle.sno_value.specs.declared.ids.PatId.{PatId}
+use Rattle.sno_pattern.specs.Pattern.{Pattern}
+use Rattle.sno_pattern.specs.Table.{tree}
+use Rattle.sno_text.specs.Source.{Source}
+use Rattle.sno_match.specs.Search.{trace}
+use Rattle.snobol.specs.declared.machine.Exit.{Exit}
+use Rattle.snobol.specs.declared.machine.Exit.TheVariants.{Failure, Halt}
+use Rattle.snobol.specs.declared.machine.Stop.{Stop}
+use Rattle.snobol.specs.declared.machine.Stop.TheVariants.{Error as HasError, NoMemory, WriteFault}
+use Rattle.snobol.specs.World.{World, new_world}
+use Rattle.snobol.specs.Action.{End, Error, Ending, Got, Fails, Stops, Outcome, Action, settled, settles, stops, and_then}
+use Rattle.snobol.specs.Forms.{value}
+use Rattle.snobol.specs.Evaluate.{expression, as_pattern}
+use Rattle.snobol.specs.State.{State, new_state, world, Does, tree_of, IsPatternOf}
+use Rattle.snobol.specs.Lines.{lines_of, IsBrokenOff}
+use Rattle.snobol.specs.declared.enumeration.WaysOutcome.{WaysOutcome}
+use Rattle.snobol.specs.Reading.{IsRead}
+use Rattle.snobol.specs.Listing.{lists_ways, lists, listing, Tells, IsListing, outcome_of}
+
+-- the pattern that is listed
+abbrev pub built : Source → ExprId → Action Pattern
+built source e = and_then (expression source (value e)) as_pattern
+
+listing_is : (source : Source) (e : ExprId) (subject : List ℕ) (anchored : Bool) (limit : ℕ) → length subject ≤ 1_000_000
+    → listing source e subject anchored limit ≡ settles (built source e) (lists_ways subject anchored limit) new_world
+listing_is source e subject anchored limit short =
+    let fits : nat_lt 1_000_000 (length subject) ≡ false = le-ltb _ _ short in
+    ap (λ (b : Bool). (if b then stops (Error 8) else settles (built source e) (lists_ways subject anchored limit)) new_world) fits
+
+-- it is listed
+pub listed : (source : Source) (e : ExprId) (subject : List ℕ) (anchored : Bool) (limit : ℕ) (b : State) (id : PatId) → length subject ≤ 1_000_000 → Does tree_of IsPatternOf (built source e) new_state b (Ok id)
+    → listing source e subject anchored limit ≡ record { ending = Got tt; world = world b; wrote = lines_of (trace (tree b.nodes id.0) subject anchored limit []) }
+unfolding settles
+listed source e subject anchored limit b id short did =
+    listing_is source e subject anchored limit short ∙ ap (λ (o : Outcome Pattern). settled o.ending o.world o.wrote (lists_ways subject anchored limit)) did.meets
+
+-- it failed while it was built
+pub listed_failure : (source : Source) (e : ExprId) (subject : List ℕ) (anchored : Bool) (limit : ℕ) (b : State) → length subject ≤ 1_000_000 → Does {X = PatId} tree_of IsPatternOf (built source e) new_state b (Err Failure)
+    → listing source e subject anchored limit ≡ record { ending = Got tt; world = world b; wrote = codes "exhausted\n" }
+unfolding settles
+listed_failure source e subject anchored limit b short did =
+    listing_is source e subject anchored limit short ∙ ap (λ (o : Outcome Pattern). settled o.ending o.world o.wrote (lists_ways subject anchored limit)) did.meets
+
+settled_stop : (subject : List ℕ) (anchored : Bool) (limit code : ℕ) (end : Ending Pattern) (w : World) (wrote : List ℕ) → end ≡ Stops (Error code) → wrote ≡ []
+    → ((settled end w wrote (lists_ways subject anchored limit)).ending ≡ Stops (Error code)) × ((settled end w wrote (lists_ways subject anchored limit)).wrote ≡ [])
+settled_stop subject anchored limit code end w wrote e n = rw (e, n) (refl, refl)
+
+-- it ended the listing, which has written nothing
+pub listed_stop : (source : Source) (e : ExprId) (subject : List ℕ) (anchored : Bool) (limit : ℕ) (b : State) (why : Stop) → length subject ≤ 1_000_000 → Does {X = PatId} tree_of IsPatternOf (built source e) new_state b (Err (Halt why))
+    → Tells (listing source e subject anchored limit) [] (Err why)
+unfolding settles
+listed_stop source e subject anchored limit b (HasError code) short did =
+    let o = built source e new_world in
+    rw (listing_is source e subject anchored limit short) (settled_stop subject anchored limit code o.ending o.world o.wrote did.meets.0 did.meets.1)
+listed_stop source e subject anchored limit b NoMemory short did = ((listing source e subject anchored limit).wrote, refl)
+listed_stop source e subject anchored limit b WriteFault short did = absurd did.meets
+
+-- a beginning of the lines
+pub told_in_part : (o : Outcome Unit) (lines part : List ℕ) (why : Stop) → o.wrote ≡ lines → IsBrokenOff why → Begins part lines → Tells o part (Err why)
+told_in_part o lines part (HasError code) e h b = absurd h
+told_in_part o lines part NoMemory e h b = rw e b
+told_in_part o lines part WriteFault e h b = rw e b
+
+-- what was told of a pattern that is read is its listing
+pub is_listing : (pattern subject : List ℕ) (anchored : Bool) (limit : ℕ) (source : Source) (e : ExprId) (outcome : WaysOutcome) (end : Result Unit Stop) (wrote : List ℕ)
+    → IsRead pattern source e → outcome ≡ outcome_of end → Tells (listing source e subject anchored limit) wrote end → IsListing pattern subject anchored limit outcome wrote
+is_listing pattern subject anchored limit source e outcome (Ok done) wrote read is told =
+    rw is (record { source = source; number = e; read = read; ends = told.0; written = told.1 })
+is_listing pattern subject anchored limit source e outcome (Err (HasError code)) wrote read is told =
+    rw is (record { source = source; number = e; read = read; ends = told.0; written = told.1 })
+is_listing pattern subject anchored limit source e outcome (Err NoMemory) wrote read is told =
+    rw is (inr (record { source = source; number = e; read = read; begins = told }))
+is_listing pattern subject anchored limit source e outcome (Err WriteFault) wrote read is told =
+    rw is (record { source = source; number = e; read = read; begins = told })
+
+pub appends_nothing : (taken : Option (List ℕ)) → Appends taken taken []
+appends_nothing None = tt
+appends_nothing (Some bytes) = sym (append-nil bytes)
