@@ -2,13 +2,14 @@
 use crate::{WaysOutcome, command, perform, status_of, ways};
 use sno_io::{Device, Sink};
 use std::alloc::Global;
+use std::process::Abort;
 use std::test::Fail;
 
 /// The words, what is written to standard output and to standard error, and the status.
 type Row<'a> = (&'a [&'a str], &'a str, &'a str, u8);
 
 /// Runs the words of a row, and compares all that they give.
-fn check_row(rt: &HostRuntime, row: &Row) -> Result<(), Fail> {
+fn check_row<R: Abort + AllocGlobal>(rt: &R, row: &Row) -> Result<(), Fail> {
     let alloc = rt.alloc();
     let job = command(alloc, row.0)?;
     let mut output = Device::new(Vec::new(alloc));
@@ -30,7 +31,7 @@ fn check_row(rt: &HostRuntime, row: &Row) -> Result<(), Fail> {
     Ok(())
 }
 
-fn check_rows(rt: &HostRuntime, rows: &[Row]) -> Result<(), Fail> {
+fn check_rows<R: Abort + AllocGlobal>(rt: &R, rows: &[Row]) -> Result<(), Fail> {
     for row in rows {
         check_row(rt, row)?;
     }

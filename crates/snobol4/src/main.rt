@@ -4,7 +4,7 @@
 use snobol::{Device, Job, Sink, command, perform, status_of};
 use std::alloc::Global;
 use std::env;
-use std::io::{self, BufWriter, ErrorKind, IsTerminal, LineWriter, Write};
+use std::io::{BufWriter, ErrorKind, IsTerminal, LineWriter, Write};
 use std::process::ExitCode;
 
 /// The status of a usage fault.
@@ -56,7 +56,7 @@ fn obey(rt: &HostRuntime, args: &[String]) -> u8 {
 /// Does a job on standard output, which is written through a buffer: by lines where it is a terminal.
 fn work(rt: &HostRuntime, job: &Job) -> u8 {
     let alloc = rt.alloc();
-    let stdout = io::stdout();
+    let stdout = rt.stdout();
     if stdout.is_terminal() {
         match LineWriter::new(alloc, stdout) {
             Ok(writer) => finish(rt, job, writer),
@@ -80,7 +80,7 @@ fn finish<W: Write + Drop>(rt: &HostRuntime, job: &Job, writer: W) -> u8 {
         let _ = eprintln!(rt; "snobol4: write fault");
         return FAULT;
     }
-    let _ = io::stderr().write_all(errors.into_inner().as_slice());
+    let _ = rt.stderr().write_all(errors.into_inner().as_slice());
     status
 }
 
