@@ -103,6 +103,7 @@ pub fn replace(
 ) -> Result<Option<Vec<u8>>, AllocError>
     ensures ok { IfOk result (λ answer. items_of answer ≡ replaced text.now from.now to.now) }
     ensures refused { replaced text.now from.now to.now ≡ None → IsOkAnd result IsNone }
+    ensures null { length text.now ≡ 0 → IsOk result }
 {
     if from.is_empty() || from.len() != to.len() {
         return Ok(None);
