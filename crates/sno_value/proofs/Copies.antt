@@ -1,5 +1,6 @@
 -- Copies of a text, one more at a time.
 use Rattle.std.proofs.Common.{◌≡◌, ℕ, zero, suc, ◌+◌, ◌*◌, ℤ, pos, negsuc, ◌≤ℤ◌, unsigned_abs, List, [], ◌∷◌, ◌++◌, length, refl, sym, ◌∙◌, ap, append_assoc, append-nil, arith, add-one, nat_lt, Ok, Err, Some, if◌then◌else◌}
+use Rattle.std.proofs.lemmas.Grind.{common_steps}
 use Rattle.sno_value.specs.Strings.{copies, duplicate}
 use Rattle.sno_value.specs.declared.strings.TextError.TheVariants.{TooLong}
 
@@ -8,9 +9,11 @@ unfolding copies
 copies-nil zero = refl
 copies-nil (suc n) = copies-nil n
 
-pub copies_empty : (n : ℕ) (text : List ℕ) → length text ≡ 0 → [] ≡ copies n text
-copies_empty n [] h = sym (copies-nil n)
-copies_empty n (b ∷ text) h = absurd (omega arith)
+pub copies_null : (n : ℕ) (text : List ℕ) → n * length text ≡ 0 → [] ≡ copies n text
+unfolding copies
+copies_null zero text h = refl
+copies_null (suc n) [] h = sym (copies-nil n)
+copies_null (suc n) (b ∷ text) h = absurd (grind (arith, common_steps))
 
 copies-last : (n : ℕ) (text : List ℕ) → copies n text ++ text ≡ text ++ copies n text
 unfolding copies
@@ -21,7 +24,7 @@ pub copies_more : (n : ℕ) (text : List ℕ) → copies (n + 1) text ≡ copies
 unfolding copies
 copies_more n text = ap (λ k. copies k text) (add-one n) ∙ sym (copies-last n text)
 
-pub ruleset copying = (copies_more, copies_empty)
+pub ruleset copying = (copies_more, copies_null)
 
 pub duplicate_at : (text : List ℕ) (z : ℤ) → pos 0 ≤ℤ z
     → duplicate text z ≡ (if nat_lt 1_000_000 (unsigned_abs z * length text) then Err TooLong else Ok (Some (copies (unsigned_abs z) text)))

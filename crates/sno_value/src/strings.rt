@@ -1,5 +1,5 @@
 //! The functions TRIM, DUPL, REPLACE and LGT on strings (the book, chapter 3).
-ghost use Rattle.std.specs.Prelude.{◌≡◌, ◌↔◌, ◌<ℤ◌, ◌<◌, ◌≤◌, ◌*◌, ℕ, pos, length, Ok, Err, Some, None, IfOk, IsNone, IsOkAnd, slice_index};
+ghost use Rattle.std.specs.Prelude.{◌≡◌, ◌↔◌, ◌<ℤ◌, ◌<◌, ◌≤◌, ◌*◌, ℕ, pos, length, Ok, Err, Some, None, unsigned_abs, IfOk, IsOk, IsNone, IsOkAnd, slice_index};
 ghost use Rattle.sno_value.specs.Strings.{trimmed, copies, duplicate, replacement, replaced, is_after, items_of, message_of};
 ghost use Rattle.sno_value.specs.declared.strings.TextError.TheVariants.{NoMemory};
 
@@ -59,6 +59,7 @@ pub fn dupl(alloc: Global, text: &[u8], count: i64) -> Result<Option<Vec<u8>>, T
     ensures ok { IfOk result (λ answer. Ok (items_of answer) ≡ duplicate text.now count) }
     ensures too_long { (result ≡ Err TextError.TooLong) ↔ (duplicate text.now count ≡ Err TextError.TooLong) }
     ensures negative { count <ℤ pos 0 → IsOkAnd result IsNone }
+    ensures null { unsigned_abs count * length text.now ≡ 0 → IsOk result }
 {
     if count < 0 {
         return Ok(None);
@@ -73,16 +74,18 @@ pub fn dupl(alloc: Global, text: &[u8], count: i64) -> Result<Option<Vec<u8>>, T
     }
 }
 
-// So many copies of the text. Those of the empty text take no time.
+// So many copies of the text. Where they are null, they take no time and no memory.
 #[tactic(auto, using(crate::proofs::Copies::copying), unfolding(crate::specs::Strings::copies))]
 fn copies_of(alloc: Global, text: &[u8], count: usize) -> Result<Vec<u8>, AllocError>
     requires { count * length text.now ≤ 1_000_000 }
-    ensures { IfOk result (λ copied. copied.items ≡ copies count text.now) }
+    ensures ok { IfOk result (λ copied. copied.items ≡ copies count text.now) }
+    ensures null { count * length text.now ≡ 0 → IsOk result }
 {
-    if text.is_empty() {
+    let total = count * text.len();
+    if total == 0 {
         return Ok(Vec::new(alloc));
     }
-    let mut copied = Vec::with_capacity(alloc, count * text.len())?;
+    let mut copied = Vec::with_capacity(alloc, total)?;
     for _copy in 0..count {
         copied.extend_from_slice(text)?;
     }
@@ -100,6 +103,7 @@ pub fn replace(
 ) -> Result<Option<Vec<u8>>, AllocError>
     ensures ok { IfOk result (λ answer. items_of answer ≡ replaced text.now from.now to.now) }
     ensures refused { replaced text.now from.now to.now ≡ None → IsOkAnd result IsNone }
+    ensures null { length text.now ≡ 0 → IsOk result }
 {
     if from.is_empty() || from.len() != to.len() {
         return Ok(None);

@@ -1,5 +1,5 @@
 //! Values, and the names that can be assigned to.
-ghost use Rattle.std.specs.Prelude.{◌≡◌, IfOk};
+ghost use Rattle.std.specs.Prelude.{◌≡◌, ◌↔◌, ℕ, List, IsTrue, IfOk, OnErr};
 
 use crate::ids::{ExprId, ObjId, PatId, SymId};
 use crate::text::Text;
@@ -29,7 +29,8 @@ pub enum Value {
 impl Value {
     /// An equal value. Only a string takes memory.
     pub fn copy(&self, alloc: Global) -> Result<Value, AllocError>
-        ensures { IfOk result (λ value. value ≡ self.now) }
+        ensures equal { IfOk result (λ value. value ≡ self.now) }
+        ensures only_strings { OnErr result ((text : List ℕ) × (self.now ≡ Value.Str text)) }
     {
         Ok(match self {
             Value::Str(text) => Value::Str(text.copy(alloc)?),
@@ -47,6 +48,34 @@ impl Value {
 mod tests {
     use super::*;
     use std::test::Fail;
+
+    // `==` tells just whether two values are equal.
+    fn is_equal(a: &Value, b: &Value) -> bool
+        ensures { IsTrue result ↔ (a.now ≡ b.now) }
+    {
+        *a == *b
+    }
+
+    #[test]
+    fn compares_values(rt: HostRuntime) -> Result<(), Fail> {
+        let one = Value::Str(Text::new(Vec::from_slice(rt.alloc(), b"1")?));
+        let null = Value::Str(Text::new(Vec::new(rt.alloc())));
+        let values = [
+            one,
+            null,
+            Value::Int(1),
+            Value::Int(0),
+            Value::Pat(PatId(1)),
+            Value::Array(ObjId(1)),
+            Value::Table(ObjId(1)),
+        ];
+        for (i, a) in values.iter().enumerate() {
+            for (j, b) in values.iter().enumerate() {
+                assert_eq!(rt; is_equal(a, b), i == j);
+            }
+        }
+        Ok(())
+    }
 
     #[test]
     fn copies_each_value(rt: HostRuntime) -> Result<(), Fail> {
