@@ -1,8 +1,8 @@
--- Laws of bytes that are written and read in parts.
+-- Laws of bytes that are written in parts.
 use Rattle.std.proofs.Common.{◌≡◌, ℕ, ◌+◌, ◌-◌, List, ◌++◌, length, take, drop, ap, sym, ◌∙◌, append_assoc, arith, Option, None, Some}
 use Rattle.std.proofs.Math.Seq.{take-add}
 use Rattle.std.proofs.lemmas.List.{take-append-drop, length-drop, take_all}
-use Rattle.std.specs.Io.KnownBytes.{Appends, Consumes, Keeps}
+use Rattle.std.specs.Io.KnownBytes.{Appends, Keeps}
 use Rattle.sno_io.specs.Devices.{Begins}
 
 pub appends_then : (a b c : Option (List ℕ)) (xs ys : List ℕ) → Appends a b xs → Appends b c ys → Appends a c (xs ++ ys)
@@ -16,18 +16,6 @@ appends_keeps None b c xs h k = tt
 appends_keeps (Some a) None c xs h k = absurd h
 appends_keeps (Some a) (Some b) None xs h k = absurd k
 appends_keeps (Some a) (Some b) (Some c) xs h k = k ∙ h
-
-pub consumes_then : (a b c : Option (List ℕ)) (xs ys : List ℕ) → Consumes a b xs → Consumes b c ys → Consumes a c (xs ++ ys)
-consumes_then None b c xs ys h k = tt
-consumes_then (Some a) None c xs ys h k = absurd h
-consumes_then (Some a) (Some b) None xs ys h k = absurd k
-consumes_then (Some a) (Some b) (Some c) xs ys h k = h ∙ (ap (λ zs. xs ++ zs) k ∙ sym (append_assoc xs ys c))
-
-pub consumes_keeps : (a b c : Option (List ℕ)) (xs : List ℕ) → Consumes a b xs → Keeps b c → Consumes a c xs
-consumes_keeps None b c xs h k = tt
-consumes_keeps (Some a) None c xs h k = absurd h
-consumes_keeps (Some a) (Some b) None xs h k = absurd k
-consumes_keeps (Some a) (Some b) (Some c) xs h k = h ∙ ap (λ zs. xs ++ zs) (sym k)
 
 pub begins_take : (n : ℕ) (xs : List ℕ) → Begins (take n xs) xs
 begins_take n xs = (drop n xs, take-append-drop n xs)

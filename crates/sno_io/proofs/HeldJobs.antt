@@ -6,7 +6,7 @@ use Rattle.clap.specs.declared.error.Error.{Error}
 use Rattle.clap.specs.declared.parser.matches.ArgMatches.{ArgMatches}
 use Rattle.sno_io.specs.declared.jobs.Job.{Job}
 use Rattle.sno_io.specs.declared.jobs.Job.TheVariants.{Ways}
-use Rattle.sno_io.specs.Words.{HoldsJob, IsJobOf, IsWays, snobol4}
+use Rattle.sno_io.specs.Commands.{HoldsJob, IsJobOf, IsWays, snobol4}
 
 -- where the rows hold no words of `ways`, they hold no job
 pub no_ways : (found : Option (Text × List Row)) (rows : List Row) (o : Option Job) → option_map (λ f. f.1) found ≡ Some rows

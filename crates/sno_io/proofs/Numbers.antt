@@ -6,7 +6,7 @@ use Rattle.clap.specs.declared.parser.matches.Found.{Found}
 use Rattle.clap.specs.declared.parser.matches.MatchedArg.{MatchedArg}
 use Rattle.clap.specs.Words.{Row, Text, first_of, first_value, matched_of, one_of, one_text, read_as, rows_of}
 use Rattle.clap.proofs.WalkLemmas.{one_text-rows, first_value-rows}
-use Rattle.sno_io.specs.Words.{IsNumber}
+use Rattle.sno_io.specs.Commands.{IsNumber}
 
 -- the text that was read is the first of its row
 pub text_found : {B : Type 0} (now : B → Text) (f : Found) (id : Text) (o : Option B) (b : B) → option_map now o ≡ first_value f id → o ≡ Some b → first_of id (rows_of f) ≡ Some (now b)

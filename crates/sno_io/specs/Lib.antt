@@ -1,2 +1,3 @@
+pub mod Commands
 pub mod Devices
-pub mod Words
+pub use Rattle.clap.specs.Words

@@ -3,7 +3,7 @@ ghost use Rattle.std.specs.Prelude.{◌≡◌, ℕ, Bool, codes, false, map, IfE
 ghost use Rattle.clap.specs.Words.{app_of, found_of, kind_of, rows_of, rule_of, subcommand_rows_of};
 ghost use Rattle.clap.specs.declared.builder.value_parser.ValueParser.TheVariants as parsers;
 ghost use Rattle.sno_io.specs.declared.jobs.Job.{Job};
-ghost use Rattle.sno_io.specs.Words.{flag_rule, number_rule, snobol4, status, word_rule, HoldsJob, IsJob, IsJobOf, IsNumber, IsRefusalOf, IsWays};
+ghost use Rattle.sno_io.specs.Commands.{flag_rule, number_rule, snobol4, status, word_rule, HoldsJob, IsJob, IsJobOf, IsNumber, IsRefusalOf, IsWays};
 
 use crate::jobs::Job;
 use clap::builder::ValueParser;

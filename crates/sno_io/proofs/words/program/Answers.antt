@@ -1,7 +1,7 @@
 use Rattle.std.proofs.Common.{ap, codes, true}
 use Rattle.clap.specs.Simple.{Shape, on_top}
 use Rattle.clap.specs.Words.{App, new_app}
-use Rattle.sno_io.specs.Words.{bare_app, ways_app}
+use Rattle.sno_io.specs.Commands.{bare_app, ways_app}
 use Rattle.sno_io.proofs.Commands.{Makes, arg_made, setting_made, subcommand_made}
 use Rattle.sno_io.proofs.words.program.Goals as goal
 

@@ -1,6 +1,6 @@
 use Rattle.std.proofs.Common.{codes, None, refl, Some}
 use Rattle.clap.specs.Words.{found_of, rows_of}
-use Rattle.sno_io.specs.Words.{IsFlag}
+use Rattle.sno_io.specs.Commands.{IsFlag}
 use Rattle.sno_io.proofs.Numbers.{row_text_found, text_found, text_missing}
 use Rattle.sno_io.proofs.words.ways_of.Goals as goal
 
