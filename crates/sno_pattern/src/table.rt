@@ -19,7 +19,7 @@ use std::alloc::Global;
 use std::marker::Model;
 
 /// How many nodes a table holds at most (this profile).
-pub const MOST_NODES: usize = 4_000_000;
+pub(crate) const MOST_NODES: usize = 4_000_000;
 
 /// Why a builder refuses. The first that fits is told.
 #[derive(Clone, Copy, Debug, Drop, PartialEq, Eq)]
