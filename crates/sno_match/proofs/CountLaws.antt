@@ -94,7 +94,7 @@ module _ (m : Session) (start : ℕ) (points : List Point) (state : State) (inv 
   size : length so_far ≡ m.told
   size = omega (arith, inv.told, final-length state left, length-append inv.events (final state left))
 
-  told_is : told_of m ≡ map (counted m.limit) so_far
+  pub told_is : told_of m ≡ map (counted m.limit) so_far
   told_is =
       let n = length-counted m.limit so_far in
       ap (take m.told) (trace_is ∙ map-append (counted m.limit) so_far to_go) ∙

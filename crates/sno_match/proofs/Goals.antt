@@ -8,7 +8,8 @@ use Rattle.sno_pattern.specs.Pattern.{Pattern, Leaf, Fence, Abort, Succeed, Arbn
 use Rattle.sno_pattern.specs.Ends.{ends}
 use Rattle.sno_match.specs.Search.{Goal, Match, CloseCond, CloseImm, CloseRepeat, assigns}
 use Rattle.sno_match.specs.Ways.{Takes, Repeats, one_end, then, by_first, by_second, enough, again, on_success, here}
-use Rattle.sno_match.proofs.EndsRange.{Within, ends-within, Each-at}
+use Rattle.sno_pattern.proofs.EndsRange.{Within}
+use Rattle.sno_match.proofs.EndsRange.{ends-within, Each-at}
 
 repeats-within : (s : List ℕ) (P : ℕ → List ℕ → ℕ → List Pending → Type 0) →
     ((c : ℕ) (h : List ℕ) (e : ℕ) (x : List Pending) → P c h e x → c ≤ length s → Within c (length s) e) →

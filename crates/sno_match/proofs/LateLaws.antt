@@ -9,7 +9,7 @@ use Rattle.sno_match.specs.declared.engine.State.TheVariants as S
 use Rattle.sno_match.specs.declared.goal.Mark.{Mark}
 use Rattle.sno_match.specs.declared.goal.Mark.TheVariants.{Enter, Next}
 use Rattle.sno_match.specs.Point.{Point}
-use Rattle.sno_match.specs.Reading.{left_of, goals_of, after_pattern, after_goals, behind_mark, behind, resume, from_mark, reading}
+use Rattle.sno_match.specs.Reading.{left_of, goals_of, ends_from, after_pattern, after_goals, behind_mark, behind, resume, from_mark, reading}
 use Rattle.sno_match.specs.Session.{Session}
 use Rattle.sno_match.specs.Running.{later, later_starts, to_come}
 use Rattle.sno_match.specs.Search.{Goal, Match, CloseCond, CloseImm, CloseRepeat, Verdict, Exhausted, Aborted, Limit, Waiting, Event, Assign, Cursor, Value, Answer, Outcome, Gives, Search, Finder, emit, or_else, further, tries, abort_if_exhausted, with_answer, if_moved, first_goal, search_within, search, all_events, Ended}
@@ -119,7 +119,7 @@ search-keeps s start goals c pending answers left = search_within-keeps s start 
 module _ (nodes : List Node) (s : List ℕ) (start n : ℕ) where
   after_pattern-within : (p : Pattern) (rest : List Goal) (c : ℕ) (pending : List Pending) (i : ℕ) (r : Outcome) → IsWithin n r → IsWithin n (after_pattern s start p rest c pending i r)
   after_pattern-within (Leaf a) rest c pending i r w =
-      further-within n r (map (λ e. search s start rest e pending) (drop i (ends a s c))) (keep-map (λ e. search s start rest e pending) (drop i (ends a s c)) (λ e. search-keeps s start rest e pending)) w
+      further-within n r (map (λ e. search s start rest e pending) (ends_from i (ends a s c))) (keep-map (λ e. search s start rest e pending) (ends_from i (ends a s c)) (λ e. search-keeps s start rest e pending)) w
   after_pattern-within (Alt p q) rest c pending i r w = further-within n r (search s start (Match q ∷ rest) c pending ∷ []) (search-keeps s start (Match q ∷ rest) c pending, tt) w
   after_pattern-within (Arbno p) rest c pending i r w =
       further-within n r (search s start (Match p ∷ CloseRepeat p c ∷ rest) c pending ∷ []) (search-keeps s start (Match p ∷ CloseRepeat p c ∷ rest) c pending, tt) w

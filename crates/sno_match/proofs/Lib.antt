@@ -8,6 +8,7 @@ pub mod SessionLaws
 pub mod CountLaws
 pub mod EngineLaws
 pub mod NextLaws
+pub mod AnswerLaws
 pub mod CopiedLaws
 pub mod GrowLaws
 pub mod WeightLaws

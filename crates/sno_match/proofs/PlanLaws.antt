@@ -1,12 +1,12 @@
 -- Each plan of the matcher is right.
-use Rattle.std.proofs.Common.{◌≡◌, ℕ, zero, suc, ◌+◌, ◌≤◌, ◌<◌, ◌==◌, Bool, true, false, List, [], ◌∷◌, ◌++◌, Option, Some, None, map, replicate, drop, slice_get, length, refl, sym, ◌∙◌, ap, subst, arith, add-one, eq-eqb, is_some, not}
+use Rattle.std.proofs.Common.{◌≡◌, ℕ, zero, suc, ◌+◌, ◌≤◌, ◌<◌, ◌==◌, Bool, true, false, List, [], ◌∷◌, ◌++◌, Option, Some, None, map, replicate, drop, slice_get, length, Contains, refl, sym, ◌∙◌, ap, subst, arith, add-one, eq-eqb, is_some, not}
 use Rattle.sno_value.specs.declared.value.Name.{Name}
 use Rattle.sno_value.specs.declared.kind.PrimitiveKind.{PrimitiveKind}
 use Rattle.sno_pattern.specs.Pattern.{Pattern, Primitive, Leaf, Fence, Abort, Succeed, Arbno, Alt, Cat, Cond, Imm, Place, Defer}
 use Rattle.sno_pattern.specs.Ends.{ends}
 use Rattle.std.proofs.lemmas.Bool.{ne_eqb}
 use Rattle.sno_value.specs.declared.ids.PatId.{PatId}
-use Rattle.std.proofs.lemmas.Option.{slice_get_within}
+use Rattle.sno_pattern.specs.NextEnd.{ends_of}
 use Rattle.sno_pattern.specs.Shape.{HasShape, end_of}
 use Rattle.sno_pattern.specs.declared.shape.Shape.{Shape}
 use Rattle.sno_pattern.specs.declared.shape.Shape.TheVariants as S
@@ -19,8 +19,11 @@ use Rattle.sno_match.specs.declared.goal.Mark.TheVariants.{Enter, Next}
 use Rattle.sno_match.specs.declared.plan.Front.TheVariants.{Nothing, One, Two}
 use Rattle.sno_match.specs.Search.{Goal, Match, CloseCond, CloseImm, CloseRepeat, Verdict, Exhausted, Aborted, Limit, Waiting, Event, Way, Assign, Cursor, Value, Answer, Outcome, Gives, Search, emit, or_else, further, tries, abort_if_exhausted, with_answer, if_moved, first_goal, search, assigns}
 use Rattle.sno_match.specs.Point.{Point, with_front, rest_of}
-use Rattle.sno_match.specs.Reading.{goals_of, goal_of, body_of, after_pattern, resume, reading, waiting, IsMarked, AllMarked, HasNext}
-use Rattle.sno_match.specs.Plan.{point_at, Goes, IsDue}
+use Rattle.sno_match.specs.Reading.{ends_from, goals_of, goal_of, body_of, after_pattern, resume, reading, waiting, IsMarked, AllMarked, HasNext}
+use Rattle.sno_match.specs.Plan.{point_at, Goes, IsDue, IsPlan, end_plan}
+use Rattle.sno_pattern.proofs.ShapeLaws.{end_of-range}
+use Rattle.sno_pattern.proofs.NextEndLaws.{Contains-end_of, end_of-Contains}
+use Rattle.sno_match.proofs.EndsRange.{from_end}
 use Rattle.sno_match.proofs.SearchLaws.{search-step, search-falls}
 use Rattle.sno_match.proofs.ReadingLaws.{emit-none, resume-emit, resume-stop, resume-exhausted, tries-some, tries-none, next-some, next-limit, next-none, repeats-enter, repeats-next, further-stop}
 
@@ -59,63 +62,90 @@ module _ (nodes : List Node) (s : List ℕ) where
   cat id p q c t start rest pending below answers marked left =
       step_into start rest c pending below answers left id (Cat (tree nodes p.0) (tree nodes q.0)) t ∙ silent start rest c pending below answers left (with_front (N.Match p ∷ N.Match q ∷ []) c (point_at (N.Match id) rest c pending Enter) ∷ below)
 
-  pub alt : (id p q : PatId) (c : ℕ) → tree nodes id.0 ≡ Alt (tree nodes p.0) (tree nodes q.0) → Goes nodes s (N.Match id) c Enter (λ left. []) (λ point below. with_front (N.Match p ∷ []) c point ∷ record point { mark = Next 1 } ∷ below)
+  pub alt : (id p q : PatId) (c : ℕ) → tree nodes id.0 ≡ Alt (tree nodes p.0) (tree nodes q.0) → Goes nodes s (N.Match id) c Enter (λ left. []) (λ point below. with_front (N.Match p ∷ []) c point ∷ record point { mark = Next c } ∷ below)
   alt id p q c t start rest pending below answers marked left =
       step_into start rest c pending below answers left id (Alt (tree nodes p.0) (tree nodes q.0)) t ∙
-      sym (above start rest c pending below answers left id (Alt (tree nodes p.0) (tree nodes q.0)) (N.Match p ∷ []) c 1 t) ∙
-      silent start rest c pending below answers left (with_front (N.Match p ∷ []) c (point_at (N.Match id) rest c pending Enter) ∷ point_at (N.Match id) rest c pending (Next 1) ∷ below)
+      sym (above start rest c pending below answers left id (Alt (tree nodes p.0) (tree nodes q.0)) (N.Match p ∷ []) c c t) ∙
+      silent start rest c pending below answers left (with_front (N.Match p ∷ []) c (point_at (N.Match id) rest c pending Enter) ∷ point_at (N.Match id) rest c pending (Next c) ∷ below)
 
   -- primitives
 
-  module _ (id : PatId) (a : Primitive) (c : ℕ) (t : tree nodes id.0 ≡ Leaf a) where
+  module _ (id : PatId) (a : Primitive) (c : ℕ) (t : tree nodes id.0 ≡ Leaf a) (inside : c ≤ length s) where
+    abbrev from_end_of : List Numbered → List Pending → ℕ → ℕ → Search
+    from_end_of rest pending start e = search s start (goals_of nodes rest) e pending
+
+    is_end : (i : ℕ) (o : Option ℕ) → end_of (tree nodes id.0) s c i ≡ o → slice_get (ends a s c) i ≡ o
+    is_end i o h = subst (λ p. end_of p s c i ≡ o) t h
+
     pub leaf_fail : end_of (tree nodes id.0) s c 0 ≡ None → Goes nodes s (N.Match id) c Enter (λ left. []) (λ point below. below)
     leaf_fail h start rest pending below answers marked left =
-        let none = subst (λ p. end_of p s c 0 ≡ None) t h in
         step_into start rest c pending below answers left id (Leaf a) t ∙
-        ap (resume nodes s start below) (tries-none (λ e. search s start (goals_of nodes rest) e pending) (ends a s c) answers left none) ∙
+        ap (resume nodes s start below) (tries-none (from_end_of rest pending start) (ends a s c) answers left (is_end 0 None h)) ∙
         resume-exhausted nodes s start below answers left marked ∙ silent start rest c pending below answers left below
 
-    pub leaf_only : (e : ℕ) → end_of (tree nodes id.0) s c 0 ≡ Some e → end_of (tree nodes id.0) s c 1 ≡ None → Goes nodes s (N.Match id) c Enter (λ left. []) (λ point below. with_front [] e point ∷ below)
-    leaf_only e h k start rest pending below answers marked left =
-        let here = subst (λ p. end_of p s c 0 ≡ Some e) t h in
-        let none = subst (λ p. end_of p s c 1 ≡ None) t k in
+    -- the ends behind one with a number
+    more_ends : (i next : ℕ) → slice_get (ends a s c) i ≡ Some next → (f : ℕ → Search) (outcome : Outcome) → further outcome (map f (drop i (ends a s c))) ≡ further outcome (map f (ends_from next (ends a s c)))
+    more_ends i next h f outcome = ap (λ (es : List ℕ). further outcome (map f es)) (sym (from_end a s c i next inside h))
+
+    only : (e : ℕ) → end_of (tree nodes id.0) s c 0 ≡ Some e → end_of (tree nodes id.0) s c 1 ≡ None → Goes nodes s (N.Match id) c Enter (λ left. []) (λ point below. with_front [] e point ∷ below)
+    only e h k start rest pending below answers marked left =
+        let f = from_end_of rest pending start in
         step_into start rest c pending below answers left id (Leaf a) t ∙
-        ap (resume nodes s start below) (tries-some (λ e. search s start (goals_of nodes rest) e pending) (ends a s c) e answers left here ∙
-        next-none (λ e. search s start (goals_of nodes rest) e pending) (ends a s c) 1 (search s start (goals_of nodes rest) e pending answers left) none) ∙
+        ap (resume nodes s start below) (tries-some f (ends a s c) e answers left (is_end 0 (Some e) h) ∙ next-none f (ends a s c) 1 (f e answers left) (is_end 1 None k)) ∙
         silent start rest c pending below answers left (with_front [] e (point_at (N.Match id) rest c pending Enter) ∷ below)
 
-    pub leaf_more : (e : ℕ) → end_of (tree nodes id.0) s c 0 ≡ Some e → Goes nodes s (N.Match id) c Enter (λ left. []) (λ point below. with_front [] e point ∷ record point { mark = Next 1 } ∷ below)
-    leaf_more e h start rest pending below answers marked left =
-        let here = subst (λ p. end_of p s c 0 ≡ Some e) t h in
+    more : (e next : ℕ) → end_of (tree nodes id.0) s c 0 ≡ Some e → end_of (tree nodes id.0) s c 1 ≡ Some next →
+        Goes nodes s (N.Match id) c Enter (λ left. []) (λ point below. with_front [] e point ∷ record point { mark = Next next } ∷ below)
+    more e next h k start rest pending below answers marked left =
+        let f = from_end_of rest pending start in
         step_into start rest c pending below answers left id (Leaf a) t ∙
-        ap (resume nodes s start below) (tries-some (λ e. search s start (goals_of nodes rest) e pending) (ends a s c) e answers left here) ∙
-        sym (above start rest c pending below answers left id (Leaf a) [] e 1 t) ∙
-        silent start rest c pending below answers left (with_front [] e (point_at (N.Match id) rest c pending Enter) ∷ point_at (N.Match id) rest c pending (Next 1) ∷ below)
+        ap (resume nodes s start below) (tries-some f (ends a s c) e answers left (is_end 0 (Some e) h) ∙ more_ends 1 next (is_end 1 (Some next) k) f (f e answers left)) ∙
+        sym (above start rest c pending below answers left id (Leaf a) [] e next t) ∙
+        silent start rest c pending below answers left (with_front [] e (point_at (N.Match id) rest c pending Enter) ∷ point_at (N.Match id) rest c pending (Next next) ∷ below)
 
-    pub leaf_due : (i e : ℕ) → end_of (tree nodes id.0) s c i ≡ Some e → IsDue nodes s (N.Match id) c (Next i)
-    leaf_due i e h start rest pending below answers =
-        let here = subst (λ p. end_of p s c i ≡ Some e) t h in
-        next_of start rest c pending below answers 0 id (Leaf a) i t 0 ∙
-        ap (resume nodes s start below) (next-limit (λ e. search s start (goals_of nodes rest) e pending) (ends a s c) i e answers here) ∙
-        resume-stop nodes s start below [] answers zero Limit tt
+    module _ (i e : ℕ) (h : end_of (tree nodes id.0) s c i ≡ Some e) where
+      from_here : (f : ℕ → Search) (outcome : Outcome) → further outcome (map f (ends_from e (ends a s c))) ≡ further outcome (map f (drop i (ends a s c)))
+      from_here f outcome = sym (more_ends i e (is_end i (Some e) h) f outcome)
 
-    pub leaf_next_only : (i e : ℕ) → end_of (tree nodes id.0) s c i ≡ Some e → end_of (tree nodes id.0) s c (i + 1) ≡ None → Goes nodes s (N.Match id) c (Next i) (λ left. []) (λ point below. with_front [] e point ∷ below)
-    leaf_next_only i e h k start rest pending below answers marked left =
-        let here = subst (λ p. end_of p s c i ≡ Some e) t h in
-        let none = rw add-one at (subst (λ p. end_of p s c (i + 1) ≡ None) t k) in
-        next_of start rest c pending below answers left id (Leaf a) i t (suc left) ∙
-        ap (resume nodes s start below) (next-some (λ e. search s start (goals_of nodes rest) e pending) (ends a s c) i e answers left here ∙
-        next-none (λ e. search s start (goals_of nodes rest) e pending) (ends a s c) (suc i) (search s start (goals_of nodes rest) e pending answers left) none) ∙
-        silent start rest c pending below answers left (with_front [] e (point_at (N.Match id) rest c pending Enter) ∷ below)
+      leaf_due : IsDue nodes s (N.Match id) c (Next e)
+      leaf_due start rest pending below answers =
+          let f = from_end_of rest pending start in
+          next_of start rest c pending below answers 0 id (Leaf a) e t 0 ∙
+          ap (resume nodes s start below) (from_here f (Gives [] answers 0 Exhausted) ∙ next-limit f (ends a s c) i e answers (is_end i (Some e) h)) ∙
+          resume-stop nodes s start below [] answers zero Limit tt
 
-    pub leaf_next_more : (i e : ℕ) → end_of (tree nodes id.0) s c i ≡ Some e → Goes nodes s (N.Match id) c (Next i) (λ left. []) (λ point below. with_front [] e point ∷ record point { mark = Next (i + 1) } ∷ below)
-    leaf_next_more i e h start rest pending below answers marked left =
-        let here = subst (λ p. end_of p s c i ≡ Some e) t h in
-        next_of start rest c pending below answers left id (Leaf a) i t (suc left) ∙
-        ap (resume nodes s start below) (next-some (λ e. search s start (goals_of nodes rest) e pending) (ends a s c) i e answers left here) ∙
-        sym (above start rest c pending below answers left id (Leaf a) [] e (suc i) t) ∙
-        ap (λ j. reading nodes s start (with_front [] e (point_at (N.Match id) rest c pending Enter) ∷ point_at (N.Match id) rest c pending (Next j) ∷ below) answers left) (let n : suc i ≡ i + 1 = omega arith in n) ∙
-        silent start rest c pending below answers left (with_front [] e (point_at (N.Match id) rest c pending Enter) ∷ point_at (N.Match id) rest c pending (Next (i + 1)) ∷ below)
+      next_only : end_of (tree nodes id.0) s c (i + 1) ≡ None → Goes nodes s (N.Match id) c (Next e) (λ left. []) (λ point below. with_front [] e point ∷ below)
+      next_only k start rest pending below answers marked left =
+          let f = from_end_of rest pending start in
+          let none = rw add-one at (is_end (i + 1) None k) in
+          next_of start rest c pending below answers left id (Leaf a) e t (suc left) ∙
+          ap (resume nodes s start below) (from_here f (Gives [] answers (suc left) Exhausted) ∙ next-some f (ends a s c) i e answers left (is_end i (Some e) h) ∙
+          next-none f (ends a s c) (suc i) (f e answers left) none) ∙
+          silent start rest c pending below answers left (with_front [] e (point_at (N.Match id) rest c pending Enter) ∷ below)
+
+      next_more : (next : ℕ) → end_of (tree nodes id.0) s c (i + 1) ≡ Some next → Goes nodes s (N.Match id) c (Next e) (λ left. []) (λ point below. with_front [] e point ∷ record point { mark = Next next } ∷ below)
+      next_more next k start rest pending below answers marked left =
+          let f = from_end_of rest pending start in
+          let some = rw add-one at (is_end (i + 1) (Some next) k) in
+          next_of start rest c pending below answers left id (Leaf a) e t (suc left) ∙
+          ap (resume nodes s start below) (from_here f (Gives [] answers (suc left) Exhausted) ∙ next-some f (ends a s c) i e answers left (is_end i (Some e) h) ∙
+          more_ends (suc i) next some f (f e answers left)) ∙
+          sym (above start rest c pending below answers left id (Leaf a) [] e next t) ∙
+          silent start rest c pending below answers left (with_front [] e (point_at (N.Match id) rest c pending Enter) ∷ point_at (N.Match id) rest c pending (Next next) ∷ below)
+
+    end_fits : (i e : ℕ) → end_of (tree nodes id.0) s c i ≡ Some e → (e ≤ length s) × HasNext (tree nodes id.0) s c e
+    end_fits i e h =
+        let within = end_of-range (tree nodes id.0) s c i (Some e) inside (sym h) in
+        (within.1, subst (λ (q : Pattern). HasNext q s c e) (sym t) (Contains-end_of (Leaf a) s c i e (subst (λ p. end_of p s c i ≡ Some e) t h)))
+
+    -- the plan at an end, and at the one behind it
+    pub leaf_enter : (e : ℕ) → end_of (tree nodes id.0) s c 0 ≡ Some e → (o : Option ℕ) → end_of (tree nodes id.0) s c 1 ≡ o → IsPlan nodes s (N.Match id) c Enter (end_plan e o)
+    leaf_enter e h None k = (only e h k, due-enter (N.Match id) c, tt, (end_fits 0 e h).0)
+    leaf_enter e h (Some next) k = (more e next h k, due-enter (N.Match id) c, tt, (end_fits 0 e h).0, (end_fits 1 next k).1)
+
+    pub leaf_next : (i e : ℕ) → end_of (tree nodes id.0) s c i ≡ Some e → (o : Option ℕ) → end_of (tree nodes id.0) s c (i + 1) ≡ o → IsPlan nodes s (N.Match id) c (Next e) (end_plan e o)
+    leaf_next i e h None k = (next_only i e h k, leaf_due i e h, tt, (end_fits i e h).0)
+    leaf_next i e h (Some next) k = (next_more i e h next k, leaf_due i e h, tt, (end_fits i e h).0, (end_fits (i + 1) next k).1)
 
   -- one more alternative
 
@@ -155,24 +185,24 @@ module _ (nodes : List Node) (s : List ℕ) where
     cut t start rest pending below answers left = next_of start rest c pending below answers left id Fence i t left ∙ resume-stop nodes s start below [] answers left Aborted tt
 
   module _ (id : PatId) (c : ℕ) where
-    pub arbno : (p : Pattern) → tree nodes id.0 ≡ Arbno p → Goes nodes s (N.Match id) c Enter (λ left. []) (λ point below. with_front [] c point ∷ record point { mark = Next 1 } ∷ below)
+    pub arbno : (p : Pattern) → tree nodes id.0 ≡ Arbno p → Goes nodes s (N.Match id) c Enter (λ left. []) (λ point below. with_front [] c point ∷ record point { mark = Next c } ∷ below)
     arbno p t start rest pending below answers marked left =
         step_into start rest c pending below answers left id (Arbno p) t ∙
-        sym (above start rest c pending below answers left id (Arbno p) [] c 1 t) ∙
-        silent start rest c pending below answers left (with_front [] c (point_at (N.Match id) rest c pending Enter) ∷ point_at (N.Match id) rest c pending (Next 1) ∷ below)
+        sym (above start rest c pending below answers left id (Arbno p) [] c c t) ∙
+        silent start rest c pending below answers left (with_front [] c (point_at (N.Match id) rest c pending Enter) ∷ point_at (N.Match id) rest c pending (Next c) ∷ below)
 
-    pub succeed : tree nodes id.0 ≡ Succeed → Goes nodes s (N.Match id) c Enter (λ left. []) (λ point below. with_front [] c point ∷ record point { mark = Next 1 } ∷ below)
+    pub succeed : tree nodes id.0 ≡ Succeed → Goes nodes s (N.Match id) c Enter (λ left. []) (λ point below. with_front [] c point ∷ record point { mark = Next c } ∷ below)
     succeed t start rest pending below answers marked left =
         step_into start rest c pending below answers left id Succeed t ∙
         ap (resume nodes s start below) (repeats-enter (search s start (goals_of nodes rest) c pending) answers left (search-falls s start (goals_of nodes rest) c pending)) ∙
-        sym (above start rest c pending below answers left id Succeed [] c 1 t) ∙
-        silent start rest c pending below answers left (with_front [] c (point_at (N.Match id) rest c pending Enter) ∷ point_at (N.Match id) rest c pending (Next 1) ∷ below)
+        sym (above start rest c pending below answers left id Succeed [] c c t) ∙
+        silent start rest c pending below answers left (with_front [] c (point_at (N.Match id) rest c pending Enter) ∷ point_at (N.Match id) rest c pending (Next c) ∷ below)
 
-    pub fence : tree nodes id.0 ≡ Fence → Goes nodes s (N.Match id) c Enter (λ left. []) (λ point below. with_front [] c point ∷ record point { mark = Next 1 } ∷ below)
+    pub fence : tree nodes id.0 ≡ Fence → Goes nodes s (N.Match id) c Enter (λ left. []) (λ point below. with_front [] c point ∷ record point { mark = Next c } ∷ below)
     fence t start rest pending below answers marked left =
         step_into start rest c pending below answers left id Fence t ∙
-        sym (above start rest c pending below answers left id Fence [] c 1 t) ∙
-        silent start rest c pending below answers left (with_front [] c (point_at (N.Match id) rest c pending Enter) ∷ point_at (N.Match id) rest c pending (Next 1) ∷ below)
+        sym (above start rest c pending below answers left id Fence [] c c t) ∙
+        silent start rest c pending below answers left (with_front [] c (point_at (N.Match id) rest c pending Enter) ∷ point_at (N.Match id) rest c pending (Next c) ∷ below)
 
     pub abort : tree nodes id.0 ≡ Abort →
         (start : ℕ) (rest : List Numbered) (pending : List Pending) (below : List Point) (answers : List Answer) (left : ℕ) →
@@ -226,25 +256,16 @@ module _ (nodes : List Node) (s : List ℕ) where
         ap (λ x. resume nodes s start below (search s start (Match x ∷ goals_of nodes rest) c pending answers left)) (sym t) ∙
         silent start rest c pending below answers left (with_front (N.Match id ∷ []) c (point_at (N.CloseRepeat id from) rest c pending Enter) ∷ below)
 
-pub none_of : (o : Option ℕ) (b : Bool) → is_some o ≡ not b → b ≡ true → o ≡ None
-none_of None b h t = refl
-none_of (Some x) true h t = absurd (cc)
-none_of (Some x) false h t = absurd (cc)
+-- an end that is there is one of the ends, and one of the ends is there
+pub end_in : (nodes : List Node) (id : ℕ) (s : List ℕ) (c i e : ℕ) → end_of (tree nodes id) s c i ≡ Some e → Contains (ends_of (tree nodes id) s c) e
+end_in nodes id s c i e h = Contains-end_of (tree nodes id) s c i e h
 
-pub some_of : (xs : List ℕ) (i : ℕ) → i < length xs → slice_get xs i ≡ None → ⊥
-some_of [] i h e = absurd (omega arith)
-some_of (x ∷ xs) zero h e = cc
-some_of (x ∷ xs) (suc i) h e = some_of xs i (omega arith) e
+pub ends_in : (nodes : List Node) (id : ℕ) (a : Primitive) (s : List ℕ) (c e : ℕ) → tree nodes id ≡ Leaf a → HasNext (tree nodes id) s c e → Contains (ends_of (tree nodes id) s c) e
+ends_in nodes id a s c e t h =
+    subst (λ (q : Pattern). Contains (ends_of q s c) e) (sym t) (subst (λ (q : Pattern). HasNext q s c e) t h)
 
--- an end that is there is one of the ends
-pub more_in : (nodes : List Node) (id : ℕ) (a : Primitive) (s : List ℕ) (c i : ℕ) → tree nodes id ≡ Leaf a → (o : Option ℕ) (b : Bool) → end_of (tree nodes id) s c i ≡ o → is_some o ≡ not b → b ≡ false → HasNext (tree nodes id) s c i
-more_in nodes id a s c i t None b e h k = let clash : false ≡ true = h ∙ ap not k in cc
-more_in nodes id a s c i t (Some end) b e h k =
-    subst (λ (q : Pattern). HasNext q s c i) (sym t) (slice_get_within (ends a s c) i end (subst (λ (q : Pattern). end_of q s c i ≡ Some end) t e))
-
-pub no_end : (nodes : List Node) (id : ℕ) (a : Primitive) (s : List ℕ) (c i : ℕ) → tree nodes id ≡ Leaf a → HasNext (tree nodes id) s c i → end_of (tree nodes id) s c i ≡ None → ⊥
-no_end nodes id a s c i t h e =
-    some_of (ends a s c) i (subst (λ (q : Pattern). HasNext q s c i) t h) (subst (λ (q : Pattern). end_of q s c i ≡ None) t e)
+pub number_of : (nodes : List Node) (id : ℕ) (s : List ℕ) (c e : ℕ) → Contains (ends_of (tree nodes id) s c) e → (i : ℕ) × (end_of (tree nodes id) s c i ≡ Some e)
+number_of nodes id s c e h = end_of-Contains (tree nodes id) s c e h
 
 -- a shape without a further alternative
 pub no_next : (nodes : List Node) (id : ℕ) (s : List ℕ) (c i : ℕ) (shape : Shape) → HasShape nodes id shape → HasNext (tree nodes id) s c i →

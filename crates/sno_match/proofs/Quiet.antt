@@ -7,9 +7,11 @@ use Rattle.sno_match.specs.declared.event.Pending.{Pending}
 use Rattle.sno_pattern.specs.Pattern.{Pattern, Primitive, Leaf, Fence, Abort, Succeed, Arbno, Alt, Cat, Cond, Imm, Place, Defer}
 use Rattle.sno_pattern.specs.Ends.{ends}
 use Rattle.sno_match.specs.Search.{Goal, Match, CloseCond, CloseImm, CloseRepeat, assigns, Assign, Cursor, Answer, Search, Finder, tries, if_moved, first_goal, search_within}
-use Rattle.sno_match.specs.Ways.{IsQuiet, one_end, by_first, by_second, enough, again, here, Taken}
+use Rattle.sno_pattern.specs.Quiet.{IsQuiet}
+use Rattle.sno_match.specs.Ways.{one_end, by_first, by_second, enough, again, here, Taken}
 use Rattle.sno_match.proofs.Finds.{Each, Each-to, Found, Put, put, Amid, Either, found-same, found-put, found-none, found-limit, found-emit, found-or, found-tries}
-use Rattle.sno_match.proofs.EndsRange.{Within, ends-within}
+use Rattle.sno_pattern.proofs.EndsRange.{Within}
+use Rattle.sno_match.proofs.EndsRange.{ends-within}
 use Rattle.sno_match.proofs.Goals.{Goes, done, pass, keep, skip, more, cat-to, cat-from, alt-left, alt-right, arbno-enough, arbno-again, cond-to, cond-from, imm-to, imm-from, keep-from, skip-from, more-from, place-to}
 
 abbrev pub taken : List ℕ → ℕ → ℕ → List Pending → Taken

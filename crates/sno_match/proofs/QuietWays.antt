@@ -5,9 +5,11 @@ use Rattle.sno_match.specs.declared.event.Pending.{Pending}
 use Rattle.sno_pattern.specs.Pattern.{Pattern}
 use Rattle.sno_pattern.specs.Ends.{count_from}
 use Rattle.sno_match.specs.Search.{Match, Verdict, Exhausted, Aborted, Limit, Waiting, Event, Ended, Answer, Outcome, Gives, search, starts, whole, all_events, trace}
-use Rattle.sno_match.specs.Ways.{IsQuiet, Takes, Taken, MayStart, IsAdmitted, way_in, ways_in, AreWays, AreExhausted}
+use Rattle.sno_pattern.specs.Quiet.{IsQuiet}
+use Rattle.sno_match.specs.Ways.{Takes, Taken, MayStart, IsAdmitted, way_in, ways_in, AreWays, AreExhausted}
 use Rattle.sno_match.proofs.Finds.{Each, Each-map, Each-to, IsInner, Found, Finds, put, Amid, found-same, found-tries}
-use Rattle.sno_match.proofs.EndsRange.{Within, count_from-within}
+use Rattle.sno_pattern.proofs.EndsRange.{Within}
+use Rattle.sno_match.proofs.EndsRange.{count_from-within}
 use Rattle.sno_match.proofs.Goals.{Goes, done, pass}
 use Rattle.sno_match.proofs.Quiet.{taken, Meets, amid-at, amid-place, search_within-finds}
 use Rattle.sno_match.proofs.ToldWays.{are-ways}

@@ -10,7 +10,7 @@ use Rattle.sno_match.specs.declared.goal.Mark.{Mark}
 use Rattle.sno_match.specs.declared.goal.Mark.TheVariants.{Enter, Next}
 use Rattle.sno_match.specs.Search.{Goal, Match, CloseCond, CloseImm, CloseRepeat, Verdict, Exhausted, Aborted, Limit, Waiting, Event, Way, Assign, Cursor, Value, Answer, Outcome, Gives, Search, Finder, emit, or_else, further, tries, abort_if_exhausted, with_answer, if_moved, first_goal, search, assigns}
 use Rattle.sno_match.specs.Point.{Point}
-use Rattle.sno_match.specs.Reading.{left_of, goals_of, after_pattern, after_goals, behind_mark, behind, resume, from_mark, reading, IsMarked, AllMarked}
+use Rattle.sno_match.specs.Reading.{left_of, goals_of, ends_from, after_pattern, after_goals, behind_mark, behind, resume, from_mark, reading, IsMarked, AllMarked}
 use Rattle.sno_match.proofs.SearchLaws.{Falls, search-step, search-falls, or_else-falls, left_of-emit}
 
 pub emit-none : (outcome : Outcome) → emit [] outcome ≡ outcome
@@ -39,7 +39,7 @@ abort-emit es (Gives fs answers left Waiting) = refl
 module _ (s : List ℕ) (start : ℕ) where
   after_pattern-emit : (p : Pattern) (rest : List Goal) (c : ℕ) (pending : List Pending) (i : ℕ) (es : List (Event × ℕ)) (outcome : Outcome) →
       after_pattern s start p rest c pending i (emit es outcome) ≡ emit es (after_pattern s start p rest c pending i outcome)
-  after_pattern-emit (Leaf a) rest c pending i es outcome = further-emit es outcome (map (λ e. search s start rest e pending) (drop i (ends a s c)))
+  after_pattern-emit (Leaf a) rest c pending i es outcome = further-emit es outcome (map (λ e. search s start rest e pending) (ends_from i (ends a s c)))
   after_pattern-emit (Alt p q) rest c pending i es outcome = further-emit es outcome (search s start (Match q ∷ rest) c pending ∷ [])
   after_pattern-emit (Arbno p) rest c pending i es outcome = further-emit es outcome (search s start (Match p ∷ CloseRepeat p c ∷ rest) c pending ∷ [])
   after_pattern-emit Succeed rest c pending i es outcome =
@@ -99,7 +99,7 @@ abort-stop es answers left Waiting h = refl
 module _ (s : List ℕ) (start : ℕ) (es : List (Event × ℕ)) (answers : List Answer) (left : ℕ) (verdict : Verdict) (h : IsStop verdict) where
   after_pattern-stop : (p : Pattern) (rest : List Goal) (c : ℕ) (pending : List Pending) (i : ℕ) →
       after_pattern s start p rest c pending i (Gives es answers left verdict) ≡ Gives es answers left verdict
-  after_pattern-stop (Leaf a) rest c pending i = further-stop es answers left verdict (map (λ e. search s start rest e pending) (drop i (ends a s c))) h
+  after_pattern-stop (Leaf a) rest c pending i = further-stop es answers left verdict (map (λ e. search s start rest e pending) (ends_from i (ends a s c))) h
   after_pattern-stop (Alt p q) rest c pending i = further-stop es answers left verdict (search s start (Match q ∷ rest) c pending ∷ []) h
   after_pattern-stop (Arbno p) rest c pending i = further-stop es answers left verdict (search s start (Match p ∷ CloseRepeat p c ∷ rest) c pending ∷ []) h
   after_pattern-stop Succeed rest c pending i = further-stop es answers left verdict (replicate (suc left) (search s start rest c pending)) h

@@ -7,7 +7,8 @@ use Rattle.sno_pattern.specs.Table.{tree}
 use Rattle.sno_match.specs.declared.event.Event.{Event as Told}
 use Rattle.sno_match.specs.declared.event.Event.TheVariants as V
 use Rattle.sno_match.specs.Search.{Exhausted, Event, Ended}
-use Rattle.sno_match.specs.Ways.{IsQuiet, AreWays, AreExhausted}
+use Rattle.sno_pattern.specs.Quiet.{IsQuiet}
+use Rattle.sno_match.specs.Ways.{AreWays, AreExhausted}
 use Rattle.sno_match.specs.Events.{in_trace}
 use Rattle.sno_match.specs.Session.{Session, answers_of, trace_of, told_of, IsTold, TellsWays}
 use Rattle.sno_match.proofs.QuietWays.{quiet-ways}

@@ -1,6 +1,8 @@
 -- What a move of the matcher does to the searches still to come.
 use Rattle.std.specs.Prelude.{ℕ, zero, suc, ◌≡◌, ◌<◌, ◌≤◌, ◌+◌, ◌-◌, ◌*◌, List, [], ◌∷◌, Option, None, Some, length}
+use Rattle.sno_value.specs.declared.ids.PatId.{PatId}
 use Rattle.sno_pattern.specs.Table.{Node}
+use Rattle.sno_match.specs.declared.goal.Goal.TheVariants.{Match}
 use Rattle.sno_match.specs.declared.event.Event.{Event as Told}
 use Rattle.sno_match.specs.declared.event.Event.TheVariants as V
 use Rattle.sno_match.specs.declared.event.Pending.{Pending}
@@ -10,7 +12,7 @@ use Rattle.sno_match.specs.declared.plan.Plan.{Plan}
 use Rattle.sno_match.specs.declared.plan.Plan.TheVariants as P
 use Rattle.sno_match.specs.Search.{Event, Answer, Outcome, Gives, Search, emit}
 use Rattle.sno_match.specs.Events.{in_trace, cost, pending_after}
-use Rattle.sno_match.specs.Point.{Point, replaced, branched, closed, below}
+use Rattle.sno_match.specs.Point.{Point, with_front, replaced, branched, closed, below}
 use Rattle.sno_match.specs.State.{verdict_of, after_move, HasAsked}
 use Rattle.sno_match.specs.Plan.{goals_in}
 use Rattle.sno_match.specs.Reading.{reading, waiting}
@@ -64,3 +66,9 @@ CarriesOut (P.Ask prim expr) c old told new = (told ≡ Some (V.Value prim expr)
 CarriesOut P.Fail c old told new = (told ≡ None) × (new ≡ below old)
 CarriesOut P.Abort c old told new = (told ≡ Some V.Aborted) × (new ≡ old)
 CarriesOut P.Cut c old told new = ⊥
+
+-- the stack once the deferred part at its top is answered
+abbrev pub answered : Option PatId → List Point → List Point
+answered None points = below points
+answered (Some id) [] = []
+answered (Some id) (point ∷ rest) = with_front (Match id ∷ []) point.cursor point ∷ rest

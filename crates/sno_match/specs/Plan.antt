@@ -22,6 +22,11 @@ goals_in (Two first second) = first ∷ second ∷ []
 abbrev pub point_at : Numbered → List Numbered → ℕ → List Pending → Mark → Point
 point_at goal rest cursor pending mark = record { goals = goal ∷ rest; cursor = cursor; pending = pending; mark = mark }
 
+-- what is done at an end of a primitive that may have another behind it
+abbrev pub end_plan : ℕ → Option ℕ → Plan
+end_plan end None = P.Replace Nothing end
+end_plan end (Some next) = P.Branch Nothing end next
+
 -- for one step the stack goes on as the new one, once these events are told
 abbrev pub Goes : List Node → List ℕ → Numbered → ℕ → Mark → (ℕ → List (Event × ℕ)) → (Point → List Point → List Point) → Type 0
 Goes nodes s goal cursor mark told next =

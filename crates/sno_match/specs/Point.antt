@@ -23,7 +23,7 @@ abbrev pub replaced : List Goal → ℕ → List Point → List Point
 replaced front cursor [] = []
 replaced front cursor (point ∷ below) = with_front front cursor point ∷ below
 
--- the point stays, with the number of its next alternative
+-- the point stays, with the cursor from which its next alternative goes on
 abbrev pub branched : List Goal → ℕ → ℕ → List Point → List Point
 branched front cursor next [] = []
 branched front cursor next (point ∷ below) = with_front front cursor point ∷ record point { mark = Next next } ∷ below

@@ -1,5 +1,5 @@
 -- A stack of resumption points, read as the searches still to come, each behind the one above it.
-use Rattle.std.specs.Prelude.{ℕ, zero, suc, ◌≡◌, ◌<◌, ◌≤◌, List, [], ◌∷◌, ◌++◌, Option, Some, None, length, map, drop, replicate}
+use Rattle.std.specs.Prelude.{ℕ, zero, suc, ◌≡◌, ◌<◌, ◌≤◌, List, [], ◌∷◌, ◌++◌, Option, Some, None, length, map, filter, nat_le, replicate, Contains}
 use Rattle.sno_pattern.specs.Pattern.{Pattern, Leaf, Fence, Abort, Succeed, Arbno, Alt, Cat, Cond, Imm, Place, Defer}
 use Rattle.sno_pattern.specs.Ends.{ends}
 use Rattle.sno_pattern.specs.Table.{Node, tree}
@@ -29,23 +29,27 @@ goals_of nodes goals = map (goal_of nodes) goals
 abbrev pub left_of : Outcome → ℕ
 left_of (Gives events answers left verdict) = left
 
--- what follows an outcome, where the pattern's next alternative has this number
+-- the ends from this one on
+abbrev pub ends_from : ℕ → List ℕ → List ℕ
+ends_from next es = filter (λ e. nat_le next e) es
+
+-- what follows an outcome, where the pattern's next alternative goes on from this cursor
 abbrev pub after_pattern : (s : List ℕ) (start : ℕ) → Pattern → List Goal → ℕ → List Pending → ℕ → Outcome → Outcome
-after_pattern s start (Leaf a) rest c pending i outcome = further outcome (map (λ e. search s start rest e pending) (drop i (ends a s c)))
-after_pattern s start (Alt p q) rest c pending i outcome = further outcome (search s start (Match q ∷ rest) c pending ∷ [])
-after_pattern s start (Arbno p) rest c pending i outcome = further outcome (search s start (Match p ∷ CloseRepeat p c ∷ rest) c pending ∷ [])
-after_pattern s start Succeed rest c pending i outcome = further outcome (replicate (suc (left_of outcome)) (search s start rest c pending))
-after_pattern s start Fence rest c pending i outcome = abort_if_exhausted outcome
-after_pattern s start pattern rest c pending i outcome = outcome
+after_pattern s start (Leaf a) rest c pending next outcome = further outcome (map (λ e. search s start rest e pending) (ends_from next (ends a s c)))
+after_pattern s start (Alt p q) rest c pending next outcome = further outcome (search s start (Match q ∷ rest) c pending ∷ [])
+after_pattern s start (Arbno p) rest c pending next outcome = further outcome (search s start (Match p ∷ CloseRepeat p c ∷ rest) c pending ∷ [])
+after_pattern s start Succeed rest c pending next outcome = further outcome (replicate (suc (left_of outcome)) (search s start rest c pending))
+after_pattern s start Fence rest c pending next outcome = abort_if_exhausted outcome
+after_pattern s start pattern rest c pending next outcome = outcome
 
 abbrev pub after_goals : (s : List ℕ) (start : ℕ) → List Goal → ℕ → List Pending → ℕ → Outcome → Outcome
-after_goals s start (Match p ∷ rest) c pending i outcome = after_pattern s start p rest c pending i outcome
-after_goals s start goals c pending i outcome = outcome
+after_goals s start (Match p ∷ rest) c pending next outcome = after_pattern s start p rest c pending next outcome
+after_goals s start goals c pending next outcome = outcome
 
--- what follows an outcome at a point whose next alternative has a number
+-- what follows an outcome at a point
 abbrev pub behind_mark : (s : List ℕ) (start : ℕ) → Mark → List Goal → ℕ → List Pending → Outcome → Outcome
 behind_mark s start Enter goals c pending outcome = outcome
-behind_mark s start (Next i) goals c pending outcome = after_goals s start goals c pending i outcome
+behind_mark s start (Next at) goals c pending outcome = after_goals s start goals c pending at outcome
 
 abbrev pub behind : List Node → (s : List ℕ) (start : ℕ) → Point → Outcome → Outcome
 behind nodes s start point outcome = behind_mark s start point.mark (goals_of nodes point.goals) point.cursor point.pending outcome
@@ -57,7 +61,7 @@ resume nodes s start (point ∷ rest) outcome = resume nodes s start rest (behin
 
 abbrev pub from_mark : (s : List ℕ) (start : ℕ) → Mark → List Goal → ℕ → List Pending → Search
 from_mark s start Enter goals c pending answers left = search s start goals c pending answers left
-from_mark s start (Next i) goals c pending answers left = after_goals s start goals c pending i (Gives [] answers left Exhausted)
+from_mark s start (Next at) goals c pending answers left = after_goals s start goals c pending at (Gives [] answers left Exhausted)
 
 -- the whole stack
 abbrev pub reading : List Node → (s : List ℕ) (start : ℕ) → List Point → Search
@@ -68,7 +72,7 @@ reading nodes s start (point ∷ rest) answers left =
 -- below the top no point is still to be entered
 abbrev pub IsMarked : Mark → Type 0
 IsMarked Enter = ⊥
-IsMarked (Next i) = Unit {0}
+IsMarked (Next at) = Unit {0}
 
 abbrev pub AllMarked : List Point → Type 0
 AllMarked [] = Unit {0}
@@ -85,20 +89,20 @@ abbrev pub AllKnown : List Node → List Numbered → Type 0
 AllKnown nodes [] = Unit {0}
 AllKnown nodes (goal ∷ rest) = IsKnown nodes goal × AllKnown nodes rest
 
--- the pattern has an alternative with this number, which is not the first
+-- the pattern has an alternative that is not the first and goes on from this cursor
 abbrev pub HasNext : Pattern → List ℕ → ℕ → ℕ → Type 0
-HasNext (Leaf a) s c i = i < length (ends a s c)
-HasNext (Alt p q) s c i = Unit {0}
-HasNext (Arbno p) s c i = Unit {0}
-HasNext Succeed s c i = Unit {0}
-HasNext Fence s c i = Unit {0}
-HasNext pattern s c i = ⊥
+HasNext (Leaf a) s c at = Contains (ends a s c) at
+HasNext (Alt p q) s c at = Unit {0}
+HasNext (Arbno p) s c at = Unit {0}
+HasNext Succeed s c at = Unit {0}
+HasNext Fence s c at = Unit {0}
+HasNext pattern s c at = ⊥
 
--- a point stays only under the number of an alternative that its first goal has
+-- a point stays only under an alternative that its first goal has
 abbrev pub MarkFits : List Node → List ℕ → Mark → List Numbered → ℕ → Type 0
 MarkFits nodes s Enter goals c = Unit {0}
-MarkFits nodes s (Next i) (N.Match id ∷ rest) c = HasNext (tree nodes id.0) s c i
-MarkFits nodes s (Next i) goals c = ⊥
+MarkFits nodes s (Next at) (N.Match id ∷ rest) c = HasNext (tree nodes id.0) s c at
+MarkFits nodes s (Next at) goals c = ⊥
 
 -- the point is of this table and has its cursor in the subject
 pub record Fits (nodes : List Node) (s : List ℕ) (point : Point) : Type 0 where

@@ -11,7 +11,8 @@ use Rattle.sno_match.specs.declared.event.Event.{Event as Told}
 use Rattle.sno_match.specs.declared.event.Event.TheVariants as V
 use Rattle.sno_match.specs.Events.{in_trace, is_last, is_value, cost, pending_after, last_pending, last_count}
 use Rattle.sno_match.specs.Search.{Event, Answer, trace}
-use Rattle.sno_match.specs.Ways.{IsQuiet, AreWays}
+use Rattle.sno_pattern.specs.Quiet.{IsQuiet}
+use Rattle.sno_match.specs.Ways.{AreWays}
 
 pub record Session : Type 0 where
   -- the table that was lent last

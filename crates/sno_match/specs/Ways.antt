@@ -4,21 +4,8 @@ use Rattle.sno_value.specs.declared.value.Name.{Name}
 use Rattle.sno_match.specs.declared.event.Pending.{Pending}
 use Rattle.sno_pattern.specs.Pattern.{Pattern, Leaf, Fence, Abort, Succeed, Arbno, Alt, Cat, Cond, Imm, Place, Defer}
 use Rattle.sno_pattern.specs.Ends.{ends}
+use Rattle.sno_pattern.specs.Quiet.{IsQuiet}
 use Rattle.sno_match.specs.Search.{assigns, Exhausted, Aborted, Waiting, Event, Way, Value, Ended, Answer, trace}
-
--- no deferred part, FENCE, ABORT or SUCCEED
-abbrev pub IsQuiet : Pattern → Type 0
-IsQuiet (Leaf a) = Unit {0}
-IsQuiet Fence = ⊥
-IsQuiet Abort = ⊥
-IsQuiet Succeed = ⊥
-IsQuiet (Arbno p) = IsQuiet p
-IsQuiet (Alt p q) = IsQuiet p × IsQuiet q
-IsQuiet (Cat p q) = IsQuiet p × IsQuiet q
-IsQuiet (Cond p target) = IsQuiet p
-IsQuiet (Imm p target) = IsQuiet p
-IsQuiet (Place target) = Unit {0}
-IsQuiet (Defer primitive expression) = ⊥
 
 -- the number at the first difference is smaller
 abbrev pub Before : List ℕ → List ℕ → Type 0

@@ -1,5 +1,5 @@
 //! A match that is asked for one event after another.
-ghost use Rattle.std.specs.Prelude.{◌≡◌, ◌<◌, ◌≤◌, ◌+◌, ◌-◌, ◌*◌, ◌++◌, [], ◌∷◌, false, true, length, drop, take, IfOk, IsOk, OnOk, OnErr};
+ghost use Rattle.std.specs.Prelude.{◌≡◌, ◌<◌, ◌≤◌, ◌+◌, ◌-◌, ◌*◌, ◌++◌, [], ◌∷◌, false, true, length, drop, take, IfOk, IfSome, IsOk, OnOk, OnErr};
 ghost use Rattle.sno_match.specs.Session.{SameMatch, IsTold, StaysAt, IsCounted, TellsWays, Begins, begins, told_of};
 ghost use Rattle.sno_match.specs.Events.{last_pending};
 ghost use Rattle.sno_match.specs.State.{after};
@@ -7,7 +7,7 @@ ghost use Rattle.sno_match.specs.Running.{Advances};
 
 use crate::event::{Event, Pending};
 use crate::goal::Goal;
-use crate::moves::make_move;
+use crate::moves::{make_move, put_answer};
 use crate::points::Points;
 use crate::snapshot::Snapshot;
 use sno_pattern::Patterns;
@@ -170,6 +170,29 @@ impl<P: Points> Engine<P> {
         self.start += 1;
         self.steps += 1;
         Ok(None)
+    }
+
+    /// The answer to the Value that was told last: None lets the deferred part fail, and a number puts its tree in the
+    /// part's place. Where memory is refused nothing was answered, and the call may be made again.
+    ///
+    /// The table is that of the call before; builders may have made it longer.
+    pub fn answer(&mut self, patterns: &Patterns, given: Option<PatId>) -> Result<(), AllocError>
+        requires table { Begins self.old.nodes patterns.now }
+        requires waiting { self.old.waits ≡ true }
+        requires known { IfSome given (λ id. id.0 < length patterns.now) }
+        ensures ok { OnOk result (self.new ≡ record self.old { nodes = patterns.now; answers = self.old.answers ++ given ∷ []; waits = false; points = self.new.points; records = self.new.records }) }
+        ensures err { OnErr result (self.new ≡ record self.old { nodes = patterns.now }) }
+        ensures told { told_of self.new ≡ told_of self.old }
+        ensures counts { IsCounted self.new }
+    {
+        self.lent = Snapshot::of(patterns);
+        self.answers.push(given)?;
+        if let Err(refused) = put_answer(&mut self.points, given) {
+            let _taken_back = self.answers.pop();
+            return Err(refused);
+        }
+        self.state = State::Going;
+        Ok(())
     }
 
     /// Whether a Value was told and not yet answered.

@@ -15,11 +15,13 @@ pub enum Goal {
     CloseRepeat { arbno: PatId, start: usize },
 }
 
-/// Whether the first goal of a point is still to be entered, or the number of its next alternative. Taking up an
-/// alternative that exists is one step.
+/// What is due at a point. Either is one step, but that backing into a FENCE costs nothing.
 #[derive(Clone, Copy, Debug, PartialEq, Eq)]
 pub enum Mark {
+    /// Its first goal is to be entered.
     Enter,
+    /// The next alternative of its first goal goes on from here: a further end of a primitive, the right side of `|`, a
+    /// repetition of ARBNO, SUCCEED again.
     Next(usize),
 }
 

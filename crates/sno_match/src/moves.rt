@@ -4,13 +4,14 @@ ghost use Rattle.sno_match.specs.Point.{HasFirst, replaced, branched};
 ghost use Rattle.sno_match.specs.Reading.{IsStack, HasPoint};
 ghost use Rattle.sno_match.specs.Plan.{goals_in};
 ghost use Rattle.sno_match.specs.State.{after_move, owed};
-ghost use Rattle.sno_match.specs.Move.{Makes, CarriesOut, Costs};
+ghost use Rattle.sno_match.specs.Move.{Makes, CarriesOut, Costs, answered};
 
 use crate::event::{Event, Pending};
-use crate::goal::{Mark, Top};
+use crate::goal::{Goal, Top};
 use crate::plan::{Front, Plan, plan_of};
 use crate::points::Points;
 use sno_pattern::Patterns;
+use sno_value::PatId;
 use std::alloc::AllocError;
 
 /// Does what is due at the newest point: at most one step, and at most one event. Where memory is refused nothing has
@@ -94,6 +95,24 @@ fn carry_out<P: Points>(
         Plan::Abort => Ok(Some(Event::Aborted)),
         Plan::Cut => unreachable!(),
     }
+}
+
+/// The deferred part that the newest point waits for fails, or a pattern takes its place.
+pub(crate) fn put_answer<P: Points>(points: &mut P, given: Option<PatId>) -> Result<(), AllocError>
+    requires { HasFirst (P.points points.old) }
+    ensures ok { OnOk result (P.points points.new ≡ answered given (P.points points.old)) }
+    ensures records { P.records points.new ≤ P.records points.old + 1 }
+    ensures err { OnErr result ((P.points points.new ≡ P.points points.old) × (P.records points.new ≡ P.records points.old)) }
+{
+    let Some(id) = given else {
+        points.pop();
+        return Ok(());
+    };
+    let Top::Open(_goal, cursor, _mark) = points.top() else {
+        unreachable!();
+    };
+    points.replace(&[Goal::Match(id)], cursor)?;
+    Ok(())
 }
 
 fn replace_by<P: Points>(points: &mut P, front: Front, at: usize) -> Result<(), AllocError>

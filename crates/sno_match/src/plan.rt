@@ -1,9 +1,10 @@
 //! What is to be done at the newest resumption point.
-ghost use Rattle.std.specs.Prelude.{◌≡◌, ◌<◌, ◌≤◌, [], ◌∷◌, length};
+ghost use Rattle.std.specs.Prelude.{ℕ, ◌≡◌, ◌+◌, ◌<◌, ◌≤◌, [], ◌∷◌, length, Contains, Some};
 ghost use Rattle.sno_pattern.specs.Table.{tree};
-ghost use Rattle.sno_pattern.specs.Shape.{IsPrimitive};
+ghost use Rattle.sno_pattern.specs.Shape.{IsPrimitive, end_of};
+ghost use Rattle.sno_pattern.specs.NextEnd.{ends_of};
 ghost use Rattle.sno_match.specs.Reading.{IsKnown, MarkFits, HasNext};
-ghost use Rattle.sno_match.specs.Plan.{IsPlan};
+ghost use Rattle.sno_match.specs.Plan.{IsPlan, end_plan};
 
 use crate::event::Pending;
 use crate::goal::{Goal, Mark};
@@ -23,7 +24,8 @@ pub enum Front {
 pub(crate) enum Plan {
     /// The first goal gives way to these, from this cursor.
     Replace(Front, usize),
-    /// The point stays under the number of its next alternative, and above it these take the place of the first goal.
+    /// The point stays, with the cursor from which its next alternative goes on, and above it these take the place of the
+    /// first goal, from the cursor before.
     Branch(Front, usize, usize),
     /// The assignment joins the pending list.
     Close(Pending),
@@ -56,8 +58,8 @@ pub(crate) fn plan_of(
 {
     match mark {
         Mark::Enter => enter_goal(patterns, subject, goal, cursor),
-        Mark::Next(i) => match goal {
-            Goal::Match(id) => next_of_pattern(patterns, subject, id, cursor, i),
+        Mark::Next(at) => match goal {
+            Goal::Match(id) => next_of_pattern(patterns, subject, id, cursor, at),
             Goal::CloseCond { .. } => unreachable!(),
             Goal::CloseImm { .. } => unreachable!(),
             Goal::CloseRepeat { .. } => unreachable!(),
@@ -100,8 +102,8 @@ fn enter_pattern(patterns: &Patterns, subject: &[u8], id: PatId, cursor: usize) 
     match patterns.shape(id) {
         Shape::Primitive => enter_primitive(patterns, subject, id, cursor),
         Shape::Cat(p, q) => Plan::Replace(Front::Two(Goal::Match(p), Goal::Match(q)), cursor),
-        Shape::Alt(p, _q) => Plan::Branch(Front::One(Goal::Match(p)), cursor, 1),
-        Shape::Arbno(_p) => Plan::Branch(Front::Nothing, cursor, 1),
+        Shape::Alt(p, _q) => Plan::Branch(Front::One(Goal::Match(p)), cursor, cursor),
+        Shape::Arbno(_p) => Plan::Branch(Front::Nothing, cursor, cursor),
         Shape::Cond(p, target) => {
             let close = Goal::CloseCond {
                 target,
@@ -117,15 +119,14 @@ fn enter_pattern(patterns: &Patterns, subject: &[u8], id: PatId, cursor: usize) 
             Plan::Replace(Front::Two(Goal::Match(p), close), cursor)
         }
         Shape::Cursor(target) => Plan::Cursor(target),
-        Shape::Fence => Plan::Branch(Front::Nothing, cursor, 1),
+        Shape::Fence => Plan::Branch(Front::Nothing, cursor, cursor),
         Shape::Abort => Plan::Abort,
-        Shape::Succeed => Plan::Branch(Front::Nothing, cursor, 1),
+        Shape::Succeed => Plan::Branch(Front::Nothing, cursor, cursor),
         Shape::Defer(expression) => Plan::Ask(None, expression),
         Shape::DeferPrim(primitive, expression) => Plan::Ask(Some(primitive), expression),
     }
 }
 
-/// A primitive's point stays only where the primitive has a further end.
 fn enter_primitive(patterns: &Patterns, subject: &[u8], id: PatId, cursor: usize) -> Plan
     requires known { id.0 < length patterns.now }
     requires primitive { IsPrimitive (tree patterns.now id.0) }
@@ -135,20 +136,17 @@ fn enter_primitive(patterns: &Patterns, subject: &[u8], id: PatId, cursor: usize
     let Some(end) = patterns.end_at(id, subject, cursor, 0) else {
         return Plan::Fail;
     };
-    if patterns.end_at(id, subject, cursor, 1).is_none() {
-        return Plan::Replace(Front::Nothing, end);
-    }
-    Plan::Branch(Front::Nothing, end, 1)
+    take_end(patterns, subject, id, cursor, end)
 }
 
-fn next_of_pattern(patterns: &Patterns, subject: &[u8], id: PatId, cursor: usize, i: usize) -> Plan
+fn next_of_pattern(patterns: &Patterns, subject: &[u8], id: PatId, cursor: usize, at: usize) -> Plan
     requires known { id.0 < length patterns.now }
     requires inside { cursor ≤ length subject.now }
-    requires next { HasNext (tree patterns.now id.0) subject.now cursor i }
-    ensures { IsPlan patterns.now subject.now (Goal.Match id) cursor (Mark.Next i) result }
+    requires next { HasNext (tree patterns.now id.0) subject.now cursor at }
+    ensures { IsPlan patterns.now subject.now (Goal.Match id) cursor (Mark.Next at) result }
 {
     match patterns.shape(id) {
-        Shape::Primitive => next_of_primitive(patterns, subject, id, cursor, i),
+        Shape::Primitive => take_end(patterns, subject, id, cursor, at),
         Shape::Alt(_p, q) => Plan::Replace(Front::One(Goal::Match(q)), cursor),
         Shape::Arbno(p) => {
             let close = Goal::CloseRepeat {
@@ -157,30 +155,22 @@ fn next_of_pattern(patterns: &Patterns, subject: &[u8], id: PatId, cursor: usize
             };
             Plan::Replace(Front::Two(Goal::Match(p), close), cursor)
         }
-        Shape::Succeed => Plan::Branch(Front::Nothing, cursor, 1),
+        Shape::Succeed => Plan::Branch(Front::Nothing, cursor, cursor),
         Shape::Fence => Plan::Cut,
         _ => unreachable!(),
     }
 }
 
-fn next_of_primitive(
-    patterns: &Patterns,
-    subject: &[u8],
-    id: PatId,
-    cursor: usize,
-    i: usize,
-) -> Plan
+/// A primitive's point stays only where there is an end behind this one.
+fn take_end(patterns: &Patterns, subject: &[u8], id: PatId, cursor: usize, end: usize) -> Plan
     requires known { id.0 < length patterns.now }
-    requires primitive { IsPrimitive (tree patterns.now id.0) }
     requires inside { cursor ≤ length subject.now }
-    requires next { HasNext (tree patterns.now id.0) subject.now cursor i }
-    ensures { IsPlan patterns.now subject.now (Goal.Match id) cursor (Mark.Next i) result }
+    requires end { Contains (ends_of (tree patterns.now id.0) subject.now cursor) end }
+    ensures { (i : ℕ) → end_of (tree patterns.now id.0) subject.now cursor i ≡ Some end
+        → result ≡ end_plan end (end_of (tree patterns.now id.0) subject.now cursor (i + 1)) }
 {
-    let Some(end) = patterns.end_at(id, subject, cursor, i) else {
-        unreachable!();
-    };
-    if patterns.end_at(id, subject, cursor, i + 1).is_none() {
-        return Plan::Replace(Front::Nothing, end);
+    match patterns.end_behind(id, subject, cursor, end) {
+        None => Plan::Replace(Front::Nothing, end),
+        Some(next) => Plan::Branch(Front::Nothing, end, next),
     }
-    Plan::Branch(Front::Nothing, end, i + 1)
 }

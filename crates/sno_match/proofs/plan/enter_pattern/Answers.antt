@@ -22,7 +22,7 @@ returns-in-Alt c =
       plans.due-enter c.args.patterns.now c.args.subject.now (N.Match c.args.id) c.args.cursor,
       (p, tt),
       c.requires.inside,
-      plans.next_in c.args.patterns.now c.args.id.0 (Alt (tree c.args.patterns.now c.in-Alt.p.0) (tree c.args.patterns.now c.in-Alt._q.0)) c.args.subject.now c.args.cursor 1 c.in-Alt.ensures.2 tt,
+      plans.next_in c.args.patterns.now c.args.id.0 (Alt (tree c.args.patterns.now c.in-Alt.p.0) (tree c.args.patterns.now c.in-Alt._q.0)) c.args.subject.now c.args.cursor c.args.cursor c.in-Alt.ensures.2 tt,
     )
 
 pub returns-in-Arbno : goal.returns-in-Arbno
@@ -31,7 +31,7 @@ returns-in-Arbno c = (
   plans.due-enter c.args.patterns.now c.args.subject.now (N.Match c.args.id) c.args.cursor,
   tt,
   c.requires.inside,
-  plans.next_in c.args.patterns.now c.args.id.0 (Arbno (tree c.args.patterns.now c.in-Arbno._p.0)) c.args.subject.now c.args.cursor 1 c.in-Arbno.ensures.1 tt,
+  plans.next_in c.args.patterns.now c.args.id.0 (Arbno (tree c.args.patterns.now c.in-Arbno._p.0)) c.args.subject.now c.args.cursor c.args.cursor c.in-Arbno.ensures.1 tt,
 )
 
 pub returns-in-Cond : goal.returns-in-Cond
@@ -64,7 +64,7 @@ returns-in-Fence c = (
   plans.due-enter c.args.patterns.now c.args.subject.now (N.Match c.args.id) c.args.cursor,
   tt,
   c.requires.inside,
-  plans.next_in c.args.patterns.now c.args.id.0 Fence c.args.subject.now c.args.cursor 1 c.in-Fence.ensures tt,
+  plans.next_in c.args.patterns.now c.args.id.0 Fence c.args.subject.now c.args.cursor c.args.cursor c.in-Fence.ensures tt,
 )
 
 pub returns-in-Abort : goal.returns-in-Abort
@@ -79,7 +79,7 @@ returns-in-Succeed c = (
   plans.due-enter c.args.patterns.now c.args.subject.now (N.Match c.args.id) c.args.cursor,
   tt,
   c.requires.inside,
-  plans.next_in c.args.patterns.now c.args.id.0 Succeed c.args.subject.now c.args.cursor 1 c.in-Succeed.ensures tt,
+  plans.next_in c.args.patterns.now c.args.id.0 Succeed c.args.subject.now c.args.cursor c.args.cursor c.in-Succeed.ensures tt,
 )
 
 pub returns-in-Defer : goal.returns-in-Defer
