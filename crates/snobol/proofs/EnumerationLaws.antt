@@ -1,5 +1,5 @@
 -- The listing of a pattern, from what its evaluation did.
-use Rattle.std.proofs.Common.{◌≡◌, ℕ, ◌≤◌, Bool, false, nat_lt, List, [], ◌∷◌, ◌++◌, length, codes, refl, ap, sym, ◌∙◌, subst, arith, Option, Some, None, Result, Ok, Err, if◌then◌else◌, inr}
+use Rattle.std.proofs.Common.{◌≡◌, ℕ, ◌≤◌, ◌<◌, Bool, false, nat_lt, List, [], ◌∷◌, ◌++◌, length, codes, refl, ap, sym, ◌∙◌, subst, arith, Option, Some, None, Result, Ok, Err, if◌then◌else◌, inr}
 use Rattle.std.proofs.lemmas.Bool.{le-ltb}
 use Rattle.std.proofs.lemmas.List.{append-nil}
 use Rattle.std.specs.Io.KnownBytes.{Appends}
@@ -8,7 +8,9 @@ use Rattle.sno_value.specs.declared.ids.ExprId.{ExprId}
 use Rattle.sno_value.specs.declared.ids.PatId.{PatId}
 use Rattle.sno_pattern.specs.Pattern.{Pattern}
 use Rattle.sno_pattern.specs.Table.{tree}
-use Rattle.sno_text.specs.Source.{Source}
+use Rattle.sno_text.specs.Source.{Source, IsTable}
+use Rattle.sno_text.specs.Trees.{Tree, Stands}
+use Rattle.sno_text.specs.Refusals.{IsAccepted}
 use Rattle.sno_match.specs.Search.{trace}
 use Rattle.snobol.specs.declared.machine.Exit.{Exit}
 use Rattle.snobol.specs.declared.machine.Exit.TheVariants.{Failure, Halt}
@@ -83,3 +85,8 @@ is_listing pattern subject anchored limit source e outcome (Err WriteFault) wrot
 pub appends_nothing : (taken : Option (List ℕ)) → Appends taken taken []
 appends_nothing None = tt
 appends_nothing (Some bytes) = sym (append-nil bytes)
+
+-- an expression that the reader accepts is read
+pub is_read : (text : List ℕ) (source : Source) (e : ExprId) → ((t : Tree) × IsAccepted text t × Stands source.nodes e t) → source.text ≡ text → e.0 < length source.nodes → IsTable (length source.text) source.nodes → IsRead text source e
+is_read text source e accepted same number table =
+    record { tree = accepted.0; accepted = accepted.1; stands = accepted.2; source_text = same; number = number; table = table }

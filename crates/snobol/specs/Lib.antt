@@ -6,7 +6,6 @@ pub mod Forms
 pub mod Evaluate
 pub mod State
 pub mod Pile
-pub mod Narrow
 pub mod Reading
 pub mod Lines
 pub mod Variables

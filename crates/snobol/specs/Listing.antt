@@ -13,8 +13,7 @@ use Rattle.snobol.specs.World.{World, new_world}
 use Rattle.snobol.specs.Action.{End, Error, Ending, Got, Stops, Outcome, Action, stops, settles, either, and_then}
 use Rattle.snobol.specs.Forms.{value}
 use Rattle.snobol.specs.Evaluate.{expression, as_pattern}
-use Rattle.snobol.specs.Narrow.{IsRefusal}
-use Rattle.snobol.specs.Reading.{IsRead}
+use Rattle.snobol.specs.Reading.{IsRead, IsRefusal}
 use Rattle.snobol.specs.Lines.{lines_of}
 
 abbrev pub writes : List ℕ → Action Unit

@@ -11,10 +11,8 @@ mod functions;
 mod job;
 mod listing;
 mod machine;
-mod narrow;
 mod operators;
 mod pile;
-mod read;
 
 pub use enumeration::{WaysOutcome, ways};
 pub use job::perform;

@@ -1,12 +1,12 @@
 use Rattle.std.proofs.Common.{◌≡◌}
 use Rattle.snobol.proofs.Ordered.{table_ordered}
-use Rattle.snobol.proofs.EnumerationLaws.{is_listing}
+use Rattle.snobol.proofs.EnumerationLaws.{is_listing, is_read}
 use Rattle.snobol.proofs.enumeration.ways.Goals as goal
 
 pub list-end-requires-clause-ordered : goal.list-end-requires-clause-ordered
-list-end-requires-clause-ordered g c = table_ordered c.in-Ok.read.0 c.in-Ok.ensures.read.table
+list-end-requires-clause-ordered g c = table_ordered c.in-Ok.read.0 c.in-Ok.ensures.table
 
 pub returns-clause-listing : goal.returns-clause-listing
 returns-clause-listing g c =
     let h = c.list-end.ensures.listing in
-    (h.0, h.1, is_listing c.args.pattern.now c.args.subject.now c.args.anchored c.args.limit c.in-Ok.read.0 c.in-Ok.read.1 c.outcome_of.result c.list-end.result h.0 c.in-Ok.ensures.read c.outcome_of.ensures h.2)
+    (h.0, h.1, is_listing c.args.pattern.now c.args.subject.now c.args.anchored c.args.limit c.in-Ok.read.0 c.in-Ok.read.1 c.outcome_of.result c.list-end.result h.0 (is_read _ _ _ c.in-Ok.ensures.accepted c.in-Ok.ensures.source c.in-Ok.ensures.number c.in-Ok.ensures.table) c.outcome_of.ensures h.2)
