@@ -1,6 +1,5 @@
 -- What is asked of a value, and patterns that become values.
-use Rattle.std.proofs.Common.{Vec, Global, ◌≡◌, ℕ, ℤ, pos, ◌<◌, Bool, true, false, List, [], ◌∷◌, refl, sym, ◌∙◌, ap, subst, Option, None, Some, Result, Ok, Err, if◌then◌else◌}
-use Rattle.std.proofs.lemmas.List.{append-nil}
+use Rattle.std.proofs.Common.{Vec, Global, ◌≡◌, ℕ, ℤ, pos, true, false, List, refl, ap, Option, None, Some, Result, Ok, Err}
 use Rattle.sno_value.specs.declared.ids.PatId.{PatId}
 use Rattle.sno_value.specs.declared.value.Value.{Value as Stored}
 use Rattle.sno_value.specs.declared.value.Value.TheVariants as stored
@@ -9,15 +8,14 @@ use Rattle.sno_value.specs.Arithmetic.{difference_of}
 use Rattle.sno_text.specs.declared.node.Operator.{Operator}
 use Rattle.sno_text.specs.declared.node.Operator.TheVariants.{Alternate, Concatenate, Add, Subtract, Divide, Multiply, Power, Conditional, Immediate}
 use Rattle.sno_pattern.specs.Pattern.{Pattern}
-use Rattle.sno_pattern.specs.Table.{Node, tree}
+use Rattle.sno_pattern.specs.Table.{Node}
 use Rattle.snobol.specs.declared.machine.Exit.{Exit}
 use Rattle.snobol.specs.declared.machine.Exit.TheVariants.{Failure, Halt}
-use Rattle.snobol.specs.declared.machine.Stop.{Stop}
 use Rattle.snobol.specs.declared.machine.Stop.TheVariants.{Error as HasError, NoMemory, WriteFault}
 use Rattle.snobol.specs.Action.{Action, gives, and_then, either}
 use Rattle.snobol.specs.Values.{Value, Pat, shown, IsValueOf}
 use Rattle.snobol.specs.Evaluate.{number_of, operation, text_of, makes_value, is_null, is_patternable, as_pattern, joined_patterns, joined, concatenation, on_numbers, result_of, wrong_type}
-use Rattle.snobol.specs.State.{State, Grows, Does, tree_of, IsPatternOf}
+use Rattle.snobol.specs.State.{State, Does, tree_of, IsPatternOf}
 use Rattle.snobol.specs.Converted.{has_text, IsThere}
 use Rattle.snobol.specs.Operations.{both, is_arithmetic, calculated}
 use Rattle.snobol.proofs.Outcomes.{gives_does, stops_does, no_memory_does, grows_none, shown_stays, then_got, then_err}
@@ -118,7 +116,7 @@ pub first_refused : (join : Pattern → Pattern → Pattern) (x y : Value) (a b 
     → Does {X = PatId} tree_of IsPatternOf (as_pattern x) a b (Err e) → Does {X = Stored} shown IsValueOf (joined_patterns join x y) a b (Err e)
 first_refused join x y a b e h k p =
     rw (patterns_in_turn join x y h k)
-      (then_err tree_of IsPatternOf shown IsValueOf (as_pattern x) (λ p. and_then (as_pattern y) (λ q. makes_value (join p q))) a b e p)
+    (then_err tree_of IsPatternOf shown IsValueOf (as_pattern x) (λ p. and_then (as_pattern y) (λ q. makes_value (join p q))) a b e p)
 
 pub second_refused : (join : Pattern → Pattern → Pattern) (x : Value) (y : Stored) (a b c : State) (id : PatId) (e : Exit) → is_patternable x ≡ true → is_patternable (shown a.nodes y) ≡ true → IsValueOf a.nodes y
     → Does tree_of IsPatternOf (as_pattern x) a b (Ok id) → Does {X = PatId} tree_of IsPatternOf (as_pattern (shown b.nodes y)) b c (Err e)
@@ -126,8 +124,8 @@ pub second_refused : (join : Pattern → Pattern → Pattern) (x : Value) (y : S
 second_refused join x y a b c id e h k v p q =
     let old : as_pattern (shown b.nodes y) ≡ as_pattern (shown a.nodes y) = ap as_pattern (shown_stays a.nodes b.nodes y p.grows v) in
     rw (patterns_in_turn join x (shown a.nodes y) h k)
-      (then_got tree_of IsPatternOf shown IsValueOf (as_pattern x) (λ t. and_then (as_pattern (shown a.nodes y)) (λ u. makes_value (join t u))) a b c id (Err e) p
-        (then_err tree_of IsPatternOf shown IsValueOf (as_pattern (shown a.nodes y)) (λ u. makes_value (join (tree_of b.nodes id) u)) b c e (rw old at q)))
+    (then_got tree_of IsPatternOf shown IsValueOf (as_pattern x) (λ t. and_then (as_pattern (shown a.nodes y)) (λ u. makes_value (join t u))) a b c id (Err e) p
+    (then_err tree_of IsPatternOf shown IsValueOf (as_pattern (shown a.nodes y)) (λ u. makes_value (join (tree_of b.nodes id) u)) b c e (rw old at q)))
 
 pub both_joined : (join : Pattern → Pattern → Pattern) (x : Value) (y : Stored) (a b c d : State) (first second : PatId) (r : Result Stored Exit)
     → is_patternable x ≡ true → is_patternable (shown a.nodes y) ≡ true → IsValueOf a.nodes y
@@ -138,8 +136,8 @@ both_joined join x y a b c d first second r h k v p q m =
     let old : as_pattern (shown b.nodes y) ≡ as_pattern (shown a.nodes y) = ap as_pattern (shown_stays a.nodes b.nodes y p.grows v) in
     let stays : tree_of c.nodes first ≡ tree_of b.nodes first = tree_stays b.nodes c.nodes first.0 q.grows p.answer in
     rw (patterns_in_turn join x (shown a.nodes y) h k)
-      (then_got tree_of IsPatternOf shown IsValueOf (as_pattern x) (λ t. and_then (as_pattern (shown a.nodes y)) (λ u. makes_value (join t u))) a b d first r p
-        (then_got tree_of IsPatternOf shown IsValueOf (as_pattern (shown a.nodes y)) (λ u. makes_value (join (tree_of b.nodes first) u)) b c d second r (rw old at q) (rw stays at m)))
+    (then_got tree_of IsPatternOf shown IsValueOf (as_pattern x) (λ t. and_then (as_pattern (shown a.nodes y)) (λ u. makes_value (join t u))) a b d first r p
+    (then_got tree_of IsPatternOf shown IsValueOf (as_pattern (shown a.nodes y)) (λ u. makes_value (join (tree_of b.nodes first) u)) b c d second r (rw old at q) (rw stays at m)))
 
 -- a text that is there is no error 1
 pub text_refused : (act : Action Value) (v : Stored) (s : State) (e : Exit) → has_text v ≡ true → IsThere {X = Vec ℕ Global} (λ t. t.items) (text_of (shown s.nodes v)) (Err e) → Does {X = Stored} shown IsValueOf act s s (Err e)

@@ -1,5 +1,5 @@
 //! The operators.
-ghost use Rattle.std.specs.Prelude.{◌≡◌, ◌<◌, ◌≤◌, List, length, IsTrue};
+ghost use Rattle.std.specs.Prelude.{◌≡◌, ◌<◌, List, length, IsTrue};
 ghost use Rattle.sno_pattern.specs.Table.{Node};
 ghost use Rattle.snobol.specs.Values.{shown, IsValueOf};
 ghost use Rattle.snobol.specs.Evaluate.{makes_value, joined, joined_patterns, text_of, number_of, concatenation, alternation, result_of, operation, signed};
@@ -8,7 +8,9 @@ ghost use Rattle.snobol.specs.Converted.{IsThere, has_text};
 ghost use Rattle.snobol.specs.State.{State, Does, tree_of};
 
 use crate::convert::{as_pattern, has_text, is_null, is_patternable, number_of, text_of};
-use crate::machine::{DATA_TYPE, Exit, LATER, Machine, TOO_LONG, error};
+use crate::machine::{
+    BAD_COUNT, DATA_TYPE, DIVISION_BY_ZERO, Exit, LATER, Machine, OVERFLOW, TOO_LONG, error,
+};
 use sno_text::{Operator, UnaryOperator};
 use sno_value::{Arith, PatId, Text, Value, add, div, mul, pow, sub};
 use std::alloc::Global;
@@ -112,12 +114,7 @@ fn joined_texts(alloc: Global, x: Value, y: Value) -> Result<Value, Exit>
 }
 
 /// A pattern of two. Both types are judged before a node is made.
-fn joined_patterns(
-    machine: &mut Machine,
-    join: Join,
-    x: Value,
-    y: Value,
-) -> Result<Value, Exit>
+fn joined_patterns(machine: &mut Machine, join: Join, x: Value, y: Value) -> Result<Value, Exit>
     requires x { IsValueOf machine.old.nodes x }
     requires y { IsValueOf machine.old.nodes y }
     ensures { Does shown IsValueOf (joined_patterns (join_of join) (shown machine.old.nodes x) (shown machine.old.nodes y)) machine.old machine.new result }
@@ -131,12 +128,7 @@ fn joined_patterns(
 }
 
 /// The pattern of two patterns.
-fn pattern_of(
-    machine: &mut Machine,
-    join: Join,
-    first: PatId,
-    second: PatId,
-) -> Result<Value, Exit>
+fn pattern_of(machine: &mut Machine, join: Join, first: PatId, second: PatId) -> Result<Value, Exit>
     requires first { first.0 < length machine.old.nodes }
     requires second { second.0 < length machine.old.nodes }
     ensures { Does shown IsValueOf (makes_value (join_of join (tree_of machine.old.nodes first) (tree_of machine.old.nodes second))) machine.old machine.new result }
@@ -183,8 +175,8 @@ fn computed(outcome: Result<i64, Arith>) -> Result<Value, Exit>
 {
     match outcome {
         Ok(number) => Ok(Value::Int(number)),
-        Err(Arith::Overflow) => Err(error(2)),
-        Err(Arith::DivisionByZero) => Err(error(3)),
-        Err(Arith::BadExponent) => Err(error(7)),
+        Err(Arith::Overflow) => Err(error(OVERFLOW)),
+        Err(Arith::DivisionByZero) => Err(error(DIVISION_BY_ZERO)),
+        Err(Arith::BadExponent) => Err(error(BAD_COUNT)),
     }
 }
