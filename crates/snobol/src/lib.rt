@@ -10,3 +10,5 @@ mod functions;
 mod machine;
 mod operators;
 mod pile;
+#[cfg(test)]
+mod tests;

@@ -106,7 +106,7 @@ fn joined_texts(alloc: Global, x: Value, y: Value) -> Result<Value, Exit>
 {
     let mut first = text_of(alloc, x)?;
     let second = text_of(alloc, y)?;
-    if second.len() > MOST_BYTES || first.len() > MOST_BYTES - second.len() {
+    if first.len() + second.len() > MOST_BYTES {
         return Err(error(TOO_LONG));
     }
     first.extend_from_slice(&second)?;
