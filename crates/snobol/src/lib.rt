@@ -23,6 +23,5 @@ pub use sno_text::ReadError;
 
 #[cfg(test)]
 mod form_tests;
-
 #[cfg(test)]
 mod tests;

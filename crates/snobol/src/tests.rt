@@ -377,7 +377,6 @@ fn sizes_at_their_limits(rt: HostRuntime) -> Result<(), Fail> {
     assert_eq!(rt; outcome, WaysOutcome::Error { code: 8 });
     assert!(rt; output.into_inner().is_empty());
     let mut output = Device::new(Vec::new(alloc));
-    let mut output = Device::new(Vec::new(alloc));
     let outcome = ways(alloc, b"'A", &too_long, true, 1000, &mut output);
     assert!(rt; matches!(outcome, WaysOutcome::Refused(_)));
     let deep = copies(alloc, b'(', 41)?;
@@ -417,7 +416,11 @@ fn writers_that_fill_up(rt: HostRuntime) -> Result<(), Fail> {
         let mut output = Device::new(Shut { taken, room });
         let outcome = ways(alloc, b"'A' | 'AB'", b"AB", true, 1000, &mut output);
         let fits = room >= lines.len();
-        let expected = if fits { WaysOutcome::Done } else { WaysOutcome::WriteFault };
+        let expected = if fits {
+            WaysOutcome::Done
+        } else {
+            WaysOutcome::WriteFault
+        };
         assert_eq!(rt; outcome, expected, "room for {room}");
         assert_eq!(rt; output.failed(), !fits);
         let Shut { taken, room: _ } = output.into_inner();
