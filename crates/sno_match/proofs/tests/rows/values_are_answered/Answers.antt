@@ -1,5 +1,4 @@
-use Rattle.std.proofs.Common.{[], sym, ◌∙◌, ap, append-nil}
-use Rattle.sno_match.specs.Session.{Session}
+use Rattle.std.proofs.Common.{[], sym, ◌∙◌, append-nil}
 use Rattle.sno_match.proofs.tests.rows.values_are_answered.Goals as goal
 
 pub next-requires-4-clause-table : goal.next-requires-4-clause-table

@@ -1,4 +1,4 @@
-use Rattle.std.proofs.Common.{ℕ, ◌+◌, ◌*◌}
+use Rattle.std.proofs.Common.{◌+◌, ◌*◌}
 use Rattle.sno_match.proofs.tests.reference.Search.+reference.Given as goal
 
 abbrev pub decreases-search : goal.decreases-search
