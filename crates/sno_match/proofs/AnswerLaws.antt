@@ -1,5 +1,5 @@
 -- An answer takes the place of the deferred part.
-use Rattle.std.proofs.Common.{◌≡◌, ℕ, zero, suc, ◌+◌, ◌-◌, ◌*◌, ◌≤◌, ◌<◌, Bool, true, false, List, [], ◌∷◌, ◌++◌, Option, Some, None, length, map, take, IfSome, refl, sym, ◌∙◌, ap, subst, arith, append_assoc, append-nil, length-append}
+use Rattle.std.proofs.Common.{◌≡◌, ℕ, ◌+◌, ◌-◌, ◌≤◌, ◌<◌, Bool, true, List, [], ◌∷◌, ◌++◌, Option, Some, None, length, take, IfSome, refl, sym, ◌∙◌, ap, subst, arith, append_assoc, length-append}
 use Rattle.std.proofs.lemmas.List.{map-append}
 use Rattle.std.proofs.Math.Seq.{take-append_seam}
 use Rattle.std.specs.Option.{option_map}
@@ -7,17 +7,16 @@ use Rattle.sno_value.specs.declared.ids.PatId.{PatId}
 use Rattle.sno_pattern.specs.Table.{Node, tree}
 use Rattle.sno_match.specs.declared.goal.Goal.{Goal as Numbered}
 use Rattle.sno_match.specs.declared.goal.Goal.TheVariants as N
-use Rattle.sno_match.specs.declared.event.Event.{Event as Told}
 use Rattle.sno_match.specs.declared.event.Pending.{Pending}
 use Rattle.sno_match.specs.declared.engine.State.{State}
 use Rattle.sno_match.specs.declared.engine.State.TheVariants as S
-use Rattle.sno_match.specs.Search.{Event, Answer, Outcome, Search, emit, further, whole}
+use Rattle.sno_match.specs.Search.{Answer, emit, further, whole}
 use Rattle.sno_match.specs.Point.{Point, with_front, rest_of, below, HasFirst}
 use Rattle.sno_match.specs.Reading.{AllKnown, AllMarked, Fits, IsStack}
-use Rattle.sno_match.specs.State.{waits, ended}
+use Rattle.sno_match.specs.State.{waits}
 use Rattle.sno_match.specs.Move.{answered}
-use Rattle.sno_match.specs.Session.{Session, answers_of, trace_of, told_of, IsCounted, Begins}
-use Rattle.sno_match.specs.Running.{to_come, later, counted, seen, IsMatch, AnswersIn}
+use Rattle.sno_match.specs.Session.{Session, answers_of, told_of, IsCounted, Begins}
+use Rattle.sno_match.specs.Running.{to_come, later, seen, IsMatch, AnswersIn}
 use Rattle.sno_match.proofs.ReadingLaws.{resume-exhausted}
 use Rattle.sno_match.proofs.MoveLaws.{below-kept}
 use Rattle.sno_match.proofs.CountLaws.{told_is, match_counted}

@@ -1,17 +1,16 @@
 -- What the counts and the pending list of a match are.
-use Rattle.std.proofs.Common.{◌≡◌, ℕ, zero, suc, ◌+◌, ◌-◌, ◌*◌, ◌≤◌, ◌<◌, ◌||◌, min, Bool, true, false, List, [], ◌∷◌, ◌++◌, Option, Some, None, length, map, take, slice_get, IfSome, IsTrue, refl, sym, ◌∙◌, ap, subst, arith, append_assoc, append-nil, length-append}
+use Rattle.std.proofs.Common.{◌≡◌, ℕ, ◌+◌, ◌-◌, ◌*◌, ◌≤◌, List, [], ◌∷◌, ◌++◌, length, map, take, slice_get, IfSome, refl, sym, ◌∙◌, ap, subst, arith, append_assoc, append-nil, length-append}
 use Rattle.std.proofs.lemmas.List.{map-append, take_at}
 use Rattle.sno_pattern.specs.Table.{tree}
-use Rattle.sno_match.specs.declared.event.Event.{Event as Told}
 use Rattle.sno_match.specs.declared.event.Event.TheVariants as V
 use Rattle.sno_match.specs.declared.event.Pending.{Pending}
 use Rattle.sno_match.specs.declared.engine.State.{State}
 use Rattle.sno_match.specs.declared.engine.State.TheVariants as S
-use Rattle.sno_match.specs.Search.{Exhausted, Aborted, Limit, Waiting, Event, Ended, Answer, Outcome, Gives, whole, all_events}
-use Rattle.sno_match.specs.Events.{in_trace, is_last, is_value, cost, pending_after, last_pending, last_count}
+use Rattle.sno_match.specs.Search.{Event, Ended, whole, all_events}
+use Rattle.sno_match.specs.Events.{pending_after, last_pending, last_count}
 use Rattle.sno_match.specs.Point.{Point}
-use Rattle.sno_match.specs.State.{verdict_of, over, owed, LastIn}
-use Rattle.sno_match.specs.Session.{Session, answers_of, trace_of, told_of, IsTold, IsCounted}
+use Rattle.sno_match.specs.State.{verdict_of, over}
+use Rattle.sno_match.specs.Session.{Session, answers_of, trace_of, told_of, IsCounted}
 use Rattle.sno_match.specs.Running.{to_come, counted, IsMatch}
 use Rattle.sno_match.proofs.WeightLaws.{few_told}
 use Rattle.sno_match.proofs.LateLaws.{AllLeft, coming-within}

@@ -1,5 +1,5 @@
 -- One move of the engine, or one start: what is kept between two calls is kept.
-use Rattle.std.proofs.Common.{◌≡◌, ℕ, zero, suc, ◌+◌, ◌-◌, ◌*◌, ◌≤◌, ◌<◌, Bool, true, false, List, [], ◌∷◌, Option, Some, None, length, refl, sym, ◌∙◌, ap, subst, arith}
+use Rattle.std.proofs.Common.{◌≡◌, ℕ, ◌+◌, ◌-◌, ◌*◌, ◌≤◌, ◌<◌, Bool, false, List, [], ◌∷◌, Option, Some, None, length, refl, sym, ◌∙◌, ap, subst, arith}
 use Rattle.sno_value.specs.declared.ids.PatId.{PatId}
 use Rattle.sno_pattern.specs.Table.{Node}
 use Rattle.sno_match.specs.declared.goal.Goal.TheVariants as N

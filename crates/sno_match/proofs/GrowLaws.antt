@@ -1,19 +1,18 @@
 -- A table that grows leaves the reading of a stack.
-use Rattle.std.proofs.Common.{◌≡◌, ℕ, zero, suc, ◌+◌, ◌-◌, ◌≤◌, ◌<◌, Bool, List, [], ◌∷◌, ◌++◌, Option, Some, None, length, map, refl, sym, ◌∙◌, ap, subst, arith, length-append}
+use Rattle.std.proofs.Common.{◌≡◌, ℕ, ◌-◌, ◌<◌, List, [], ◌∷◌, ◌++◌, Option, Some, None, length, map, refl, sym, ◌∙◌, ap, subst, arith, length-append}
 use Rattle.sno_value.specs.declared.ids.PatId.{PatId}
 use Rattle.sno_pattern.specs.Pattern.{Pattern, Arbno}
 use Rattle.sno_pattern.specs.Table.{Node, tree}
 use Rattle.sno_pattern.proofs.TableLaws.{tree-append}
 use Rattle.sno_match.specs.declared.goal.Goal.{Goal as Numbered}
 use Rattle.sno_match.specs.declared.goal.Goal.TheVariants as N
-use Rattle.sno_match.specs.declared.event.Pending.{Pending}
 use Rattle.sno_match.specs.declared.goal.Mark.{Mark}
 use Rattle.sno_match.specs.declared.goal.Mark.TheVariants.{Enter, Next}
 use Rattle.sno_match.specs.declared.engine.State.{State}
 use Rattle.sno_match.specs.declared.engine.State.TheVariants as S
-use Rattle.sno_match.specs.Search.{Goal, Match, CloseRepeat, Exhausted, Answer, Outcome, Gives, Search, emit, further, search, with_answer, whole, trace}
-use Rattle.sno_match.specs.Point.{Point, below, rest_of}
-use Rattle.sno_match.specs.Reading.{body_of, goal_of, goals_of, behind, behind_mark, from_mark, resume, reading, waiting, IsKnown, AllKnown, AllFit, Fits, MarkFits, HasNext, IsStack}
+use Rattle.sno_match.specs.Search.{Match, CloseRepeat, Answer, Outcome, emit, further, search, with_answer, whole, trace}
+use Rattle.sno_match.specs.Point.{Point, rest_of}
+use Rattle.sno_match.specs.Reading.{body_of, goal_of, goals_of, behind, behind_mark, from_mark, resume, reading, waiting, IsKnown, AllKnown, AllFit, MarkFits, HasNext}
 use Rattle.sno_match.specs.Session.{Session, answers_of, trace_of, Begins}
 use Rattle.sno_match.specs.Running.{later, later_starts, to_come, AnswersIn, IsMatch}
 

@@ -1,6 +1,5 @@
 -- Every event of a search is told with no more steps left than it began with.
-use Rattle.std.proofs.Common.{◌≡◌, ℕ, zero, suc, ◌+◌, ◌≤◌, ◌<◌, ◌==◌, Bool, true, false, List, [], ◌∷◌, ◌++◌, Option, Some, None, map, drop, replicate, arith}
-use Rattle.sno_value.specs.declared.value.Name.{Name}
+use Rattle.std.proofs.Common.{ℕ, zero, suc, ◌≤◌, ◌==◌, Bool, true, false, List, [], ◌∷◌, ◌++◌, Some, None, map, replicate, arith}
 use Rattle.sno_pattern.specs.Pattern.{Pattern, Leaf, Fence, Abort, Succeed, Arbno, Alt, Cat, Cond, Imm, Place, Defer}
 use Rattle.sno_pattern.specs.Ends.{ends}
 use Rattle.sno_match.specs.declared.event.Pending.{Pending}
@@ -12,7 +11,7 @@ use Rattle.sno_match.specs.Point.{Point}
 use Rattle.sno_match.specs.Reading.{left_of, goals_of, ends_from, after_pattern, after_goals, behind_mark, behind, resume, from_mark, reading}
 use Rattle.sno_match.specs.Session.{Session}
 use Rattle.sno_match.specs.Running.{later, later_starts, to_come}
-use Rattle.sno_match.specs.Search.{Goal, Match, CloseCond, CloseImm, CloseRepeat, Verdict, Exhausted, Aborted, Limit, Waiting, Event, Assign, Cursor, Value, Answer, Outcome, Gives, Search, Finder, emit, or_else, further, tries, abort_if_exhausted, with_answer, if_moved, first_goal, search_within, search, all_events, Ended}
+use Rattle.sno_match.specs.Search.{Goal, Match, CloseCond, CloseImm, CloseRepeat, Exhausted, Aborted, Limit, Waiting, Event, Assign, Cursor, Value, Answer, Outcome, Gives, Search, Finder, emit, or_else, further, tries, abort_if_exhausted, with_answer, if_moved, first_goal, search_within, search, all_events, Ended}
 
 abbrev pub AllLeft : ℕ → List (Event × ℕ) → Type 0
 AllLeft n [] = Unit {0}

@@ -1,6 +1,6 @@
 -- A move that carries out a right plan leaves the reading of the stack.
-use Rattle.std.proofs.Common.{◌≡◌, ℕ, zero, suc, ◌+◌, ◌-◌, ◌*◌, ◌≤◌, ◌<◌, List, [], ◌∷◌, ◌++◌, Option, Some, None, length, refl, sym, ◌∙◌, ap, subst, arith}
-use Rattle.sno_pattern.specs.Table.{Node, tree}
+use Rattle.std.proofs.Common.{◌≡◌, ℕ, suc, ◌+◌, ◌-◌, ◌≤◌, ◌<◌, List, [], ◌∷◌, ◌++◌, Option, Some, None, length, refl, sym, ◌∙◌, ap, subst, arith}
+use Rattle.sno_pattern.specs.Table.{Node}
 use Rattle.sno_match.specs.declared.event.Event.{Event as Told}
 use Rattle.sno_match.specs.declared.event.Event.TheVariants as V
 use Rattle.sno_match.specs.declared.event.Pending.{Pending}
@@ -10,15 +10,14 @@ use Rattle.sno_match.specs.declared.goal.Mark.{Mark}
 use Rattle.sno_match.specs.declared.goal.Mark.TheVariants.{Enter, Next}
 use Rattle.sno_match.specs.declared.plan.Plan.{Plan}
 use Rattle.sno_match.specs.declared.plan.Plan.TheVariants as P
-use Rattle.sno_match.specs.Search.{Exhausted, Limit, Aborted, Event, Way, Answer, Outcome, Gives, emit}
-use Rattle.sno_match.specs.Events.{cost}
-use Rattle.sno_match.specs.Point.{Point, with_front, replaced, branched, closed, below, rest_of, HasFirst}
-use Rattle.sno_match.specs.Reading.{reading, waiting, AllMarked, AllKnown, AllFit, Fits, MarkFits, IsKnown, IsMarked, IsStack, HasPoint}
-use Rattle.sno_match.specs.Plan.{IsPlan, IsDue, Goes, goals_in, point_at}
+use Rattle.sno_match.specs.Search.{Exhausted, Limit, Way, Answer, Gives, emit}
+use Rattle.sno_match.specs.Point.{Point, with_front, replaced, branched, closed, below}
+use Rattle.sno_match.specs.Reading.{reading, AllMarked, AllKnown, AllFit, Fits, MarkFits, IsStack}
+use Rattle.sno_match.specs.Plan.{IsPlan, IsDue, goals_in, point_at}
 use Rattle.sno_match.specs.State.{after_move, HasAsked}
 use Rattle.sno_match.specs.Move.{Makes, Costs, CarriesOut, entries, price, way_after, standing}
 use Rattle.sno_match.specs.Top.{Finishes}
-use Rattle.sno_match.proofs.ReadingLaws.{emit-none, resume-emit, resume-exhausted}
+use Rattle.sno_match.proofs.ReadingLaws.{resume-emit, resume-exhausted}
 
 pub plan_due : (nodes : List Node) (s : List ℕ) (goal : Numbered) (c : ℕ) (mark : Mark) (plan : Plan) → IsPlan nodes s goal c mark plan → Costs plan → IsDue nodes s goal c mark
 plan_due nodes s goal c mark (P.Replace front at) p h = p.1

@@ -1,5 +1,5 @@
 -- One call of `next`: the table that is lent, the moves up to an event, and a last event told again.
-use Rattle.std.proofs.Common.{◌≡◌, ℕ, zero, suc, ◌+◌, ◌-◌, ◌*◌, ◌≤◌, ◌<◌, ◌||◌, min, Bool, true, false, List, [], ◌∷◌, ◌++◌, Option, Some, None, length, map, slice_get, IsTrue, refl, sym, ◌∙◌, ap, subst, arith, append-nil}
+use Rattle.std.proofs.Common.{◌≡◌, ℕ, ◌+◌, ◌-◌, Bool, true, false, List, [], ◌∷◌, ◌++◌, Option, Some, length, map, slice_get, IsTrue, refl, sym, ◌∙◌, ap, subst, arith, append-nil}
 use Rattle.sno_value.specs.declared.ids.PatId.{PatId}
 use Rattle.sno_pattern.specs.Table.{Node}
 use Rattle.sno_match.specs.declared.event.Event.{Event as Told}
@@ -10,7 +10,7 @@ use Rattle.sno_match.specs.declared.engine.State.TheVariants as S
 use Rattle.sno_match.specs.Search.{Event, Ended}
 use Rattle.sno_match.specs.Events.{in_trace, is_last, is_value, cost, pending_after}
 use Rattle.sno_match.specs.Point.{Point}
-use Rattle.sno_match.specs.State.{verdict_of, waits, ended, LastIn}
+use Rattle.sno_match.specs.State.{verdict_of, waits, ended}
 use Rattle.sno_match.specs.Session.{Session, trace_of, SameMatch, IsTold, StaysAt, Begins}
 use Rattle.sno_match.specs.Running.{counted, seen, IsMatch, GoesOn}
 use Rattle.sno_match.proofs.SessionLaws.{at_place}

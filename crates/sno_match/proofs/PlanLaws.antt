@@ -1,5 +1,5 @@
 -- Each plan of the matcher is right.
-use Rattle.std.proofs.Common.{◌≡◌, ℕ, zero, suc, ◌+◌, ◌≤◌, ◌<◌, ◌==◌, Bool, true, false, List, [], ◌∷◌, ◌++◌, Option, Some, None, map, replicate, drop, slice_get, length, Contains, refl, sym, ◌∙◌, ap, subst, arith, add-one, eq-eqb, is_some, not}
+use Rattle.std.proofs.Common.{◌≡◌, ℕ, zero, suc, ◌+◌, ◌≤◌, List, [], ◌∷◌, ◌++◌, Option, Some, None, map, drop, slice_get, length, Contains, refl, sym, ◌∙◌, ap, subst, add-one, eq-eqb}
 use Rattle.sno_value.specs.declared.value.Name.{Name}
 use Rattle.sno_value.specs.declared.kind.PrimitiveKind.{PrimitiveKind}
 use Rattle.sno_pattern.specs.Pattern.{Pattern, Primitive, Leaf, Fence, Abort, Succeed, Arbno, Alt, Cat, Cond, Imm, Place, Defer}
@@ -14,18 +14,16 @@ use Rattle.sno_pattern.specs.Table.{Node, tree}
 use Rattle.sno_match.specs.declared.goal.Goal.{Goal as Numbered}
 use Rattle.sno_match.specs.declared.goal.Goal.TheVariants as N
 use Rattle.sno_match.specs.declared.event.Pending.{Pending}
-use Rattle.sno_match.specs.declared.goal.Mark.{Mark}
 use Rattle.sno_match.specs.declared.goal.Mark.TheVariants.{Enter, Next}
-use Rattle.sno_match.specs.declared.plan.Front.TheVariants.{Nothing, One, Two}
-use Rattle.sno_match.specs.Search.{Goal, Match, CloseCond, CloseImm, CloseRepeat, Verdict, Exhausted, Aborted, Limit, Waiting, Event, Way, Assign, Cursor, Value, Answer, Outcome, Gives, Search, emit, or_else, further, tries, abort_if_exhausted, with_answer, if_moved, first_goal, search, assigns}
+use Rattle.sno_match.specs.Search.{Match, CloseRepeat, Exhausted, Aborted, Limit, Assign, Cursor, Value, Answer, Outcome, Gives, Search, emit, further, with_answer, if_moved, first_goal, search, assigns}
 use Rattle.sno_match.specs.Point.{Point, with_front, rest_of}
-use Rattle.sno_match.specs.Reading.{ends_from, goals_of, goal_of, body_of, after_pattern, resume, reading, waiting, IsMarked, AllMarked, HasNext}
+use Rattle.sno_match.specs.Reading.{ends_from, goals_of, goal_of, body_of, after_pattern, resume, reading, waiting, HasNext}
 use Rattle.sno_match.specs.Plan.{point_at, Goes, IsDue, IsPlan, end_plan}
 use Rattle.sno_pattern.proofs.ShapeLaws.{end_of-range}
 use Rattle.sno_pattern.proofs.NextEndLaws.{Contains-end_of, end_of-Contains}
 use Rattle.sno_match.proofs.EndsRange.{from_end}
 use Rattle.sno_match.proofs.SearchLaws.{search-step, search-falls}
-use Rattle.sno_match.proofs.ReadingLaws.{emit-none, resume-emit, resume-stop, resume-exhausted, tries-some, tries-none, next-some, next-limit, next-none, repeats-enter, repeats-next, further-stop}
+use Rattle.sno_match.proofs.ReadingLaws.{emit-none, resume-emit, resume-stop, resume-exhausted, tries-some, tries-none, next-some, next-limit, next-none, repeats-enter, repeats-next}
 
 module _ (nodes : List Node) (s : List ℕ) where
   -- a step is due where a goal is to be entered

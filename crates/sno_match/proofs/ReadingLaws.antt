@@ -1,17 +1,15 @@
 -- Each move of the matcher leaves the reading of its stack as it was.
-use Rattle.std.proofs.Common.{◌≡◌, ℕ, zero, suc, pred, ◌+◌, ◌-◌, ◌≤◌, ◌<◌, ◌==◌, Bool, true, false, List, [], ◌∷◌, ◌++◌, Option, Some, None, map, replicate, drop, slice_get, refl, sym, ◌∙◌, ap, subst, arith, append_assoc}
-use Rattle.sno_value.specs.declared.value.Name.{Name}
-use Rattle.sno_value.specs.declared.kind.PrimitiveKind.{PrimitiveKind}
-use Rattle.sno_pattern.specs.Pattern.{Pattern, Primitive, Leaf, Fence, Abort, Succeed, Arbno, Alt, Cat, Cond, Imm, Place, Defer}
+use Rattle.std.proofs.Common.{◌≡◌, ℕ, zero, suc, ◌≤◌, List, [], ◌∷◌, ◌++◌, Some, None, map, replicate, drop, slice_get, refl, sym, ◌∙◌, ap, arith, append_assoc}
+use Rattle.sno_pattern.specs.Pattern.{Pattern, Leaf, Fence, Abort, Succeed, Arbno, Alt, Cat, Cond, Imm, Place, Defer}
 use Rattle.sno_pattern.specs.Ends.{ends}
-use Rattle.sno_pattern.specs.Table.{Node, tree}
+use Rattle.sno_pattern.specs.Table.{Node}
 use Rattle.sno_match.specs.declared.event.Pending.{Pending}
 use Rattle.sno_match.specs.declared.goal.Mark.{Mark}
 use Rattle.sno_match.specs.declared.goal.Mark.TheVariants.{Enter, Next}
-use Rattle.sno_match.specs.Search.{Goal, Match, CloseCond, CloseImm, CloseRepeat, Verdict, Exhausted, Aborted, Limit, Waiting, Event, Way, Assign, Cursor, Value, Answer, Outcome, Gives, Search, Finder, emit, or_else, further, tries, abort_if_exhausted, with_answer, if_moved, first_goal, search, assigns}
+use Rattle.sno_match.specs.Search.{Goal, Match, CloseCond, CloseImm, CloseRepeat, Verdict, Exhausted, Aborted, Limit, Waiting, Event, Answer, Outcome, Gives, Search, emit, or_else, further, tries, abort_if_exhausted, search}
 use Rattle.sno_match.specs.Point.{Point}
 use Rattle.sno_match.specs.Reading.{left_of, goals_of, ends_from, after_pattern, after_goals, behind_mark, behind, resume, from_mark, reading, IsMarked, AllMarked}
-use Rattle.sno_match.proofs.SearchLaws.{Falls, search-step, search-falls, or_else-falls, left_of-emit}
+use Rattle.sno_match.proofs.SearchLaws.{Falls, left_of-emit}
 
 pub emit-none : (outcome : Outcome) → emit [] outcome ≡ outcome
 emit-none (Gives es answers left verdict) = refl

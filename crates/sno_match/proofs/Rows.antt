@@ -1,9 +1,9 @@
 -- Worked rows, computed from the definitions.
-use Rattle.std.proofs.Common.{◌≡◌, ℕ, Bool, true, false, List, [], ◌∷◌, refl, map, Option, Some, None}
+use Rattle.std.proofs.Common.{◌≡◌, ℕ, true, false, [], ◌∷◌, refl, Some, None}
 use Rattle.sno_value.specs.declared.value.Name.{Name}
 use Rattle.sno_value.specs.declared.value.Name.TheVariants.{Var}
-use Rattle.sno_pattern.specs.Pattern.{Pattern, Leaf, Text, Arb, Bal, Fail, Len, Rem, Fence, Abort, Arbno, Alt, Cat, Succeed, Cond, Imm, Place, Defer}
-use Rattle.sno_match.specs.Search.{Event, Way, Assign, Cursor, Value, Ended, assigns, Exhausted, Aborted, Limit, trace}
+use Rattle.sno_pattern.specs.Pattern.{Pattern, Leaf, Text, Arb, Bal, Fail, Len, Fence, Arbno, Alt, Cat, Succeed, Cond, Imm, Defer}
+use Rattle.sno_match.specs.Search.{Way, Assign, Value, Ended, assigns, Exhausted, Aborted, Limit, trace}
 
 abbrev variable : ℕ → Name
 variable n = Var (record { 0 = n })

@@ -1,12 +1,10 @@
 -- The search costs what it costs: steps only fall, and any depth that is enough gives the same.
-use Rattle.std.proofs.Common.{◌≡◌, ℕ, zero, suc, ◌+◌, ◌-◌, ◌≤◌, ◌<◌, ◌==◌, Bool, true, false, List, [], ◌∷◌, ◌++◌, Option, Some, None, map, replicate, refl, sym, ◌∙◌, ap, arith, append_assoc}
-use Rattle.sno_value.specs.declared.value.Name.{Name}
-use Rattle.sno_value.specs.declared.kind.PrimitiveKind.{PrimitiveKind}
+use Rattle.std.proofs.Common.{◌≡◌, ℕ, zero, suc, ◌≤◌, ◌==◌, Bool, true, false, List, [], ◌∷◌, Some, None, map, replicate, refl, ◌∙◌, ap, arith}
 use Rattle.sno_match.specs.declared.event.Pending.{Pending}
-use Rattle.sno_pattern.specs.Pattern.{Pattern, Leaf, Fence, Abort, Succeed, Arbno, Alt, Cat, Cond, Imm, Place, Defer}
+use Rattle.sno_pattern.specs.Pattern.{Leaf, Fence, Abort, Succeed, Arbno, Alt, Cat, Cond, Imm, Place, Defer}
 use Rattle.sno_pattern.specs.Ends.{ends}
 use Rattle.sno_match.specs.Reading.{left_of}
-use Rattle.sno_match.specs.Search.{Goal, Match, CloseCond, CloseImm, CloseRepeat, Verdict, Exhausted, Aborted, Limit, Waiting, Event, Assign, Cursor, Value, Answer, Outcome, Gives, Search, Finder, emit, or_else, further, tries, abort_if_exhausted, with_answer, if_moved, first_goal, search_within, search}
+use Rattle.sno_match.specs.Search.{Goal, Match, CloseCond, CloseImm, CloseRepeat, Exhausted, Aborted, Limit, Waiting, Event, Assign, Cursor, Value, Answer, Outcome, Gives, Search, Finder, emit, or_else, further, tries, abort_if_exhausted, with_answer, if_moved, first_goal, search_within, search}
 
 abbrev pub Falls : Search → Type 0
 Falls f = (answers : List Answer) (left : ℕ) → left_of (f answers left) ≤ left

@@ -1,5 +1,5 @@
 -- The story of a match, from one event to the next.
-use Rattle.std.proofs.Common.{◌≡◌, ℕ, zero, suc, ◌+◌, ◌-◌, ◌*◌, ◌≤◌, ◌<◌, ◌||◌, min, Bool, true, false, List, [], ◌∷◌, ◌++◌, Option, Some, None, length, map, slice_get, IsTrue, refl, sym, ◌∙◌, ap, subst, arith, add-one, append_assoc, append-nil, length-append}
+use Rattle.std.proofs.Common.{◌≡◌, ℕ, suc, ◌+◌, ◌-◌, ◌*◌, ◌≤◌, ◌<◌, ◌||◌, Bool, true, false, List, [], ◌∷◌, ◌++◌, Option, Some, None, length, map, slice_get, IsTrue, refl, sym, ◌∙◌, ap, subst, arith, append_assoc, append-nil, length-append}
 use Rattle.std.proofs.lemmas.List.{map-append}
 use Rattle.std.proofs.Math.Nat.{sub-zero}
 use Rattle.sno_value.specs.declared.ids.PatId.{PatId}
@@ -11,17 +11,16 @@ use Rattle.sno_match.specs.declared.event.Event.TheVariants as V
 use Rattle.sno_match.specs.declared.event.Pending.{Pending}
 use Rattle.sno_match.specs.declared.engine.State.{State}
 use Rattle.sno_match.specs.declared.engine.State.TheVariants as S
-use Rattle.sno_match.specs.Search.{Match, Verdict, Exhausted, Aborted, Limit, Waiting, Event, Ended, Answer, Outcome, Gives, Search, emit, further, search, whole, starts, trace, all_events, last_event}
-use Rattle.sno_match.specs.Events.{in_trace, is_last, is_value, cost, pending_after, last_pending, last_count}
-use Rattle.sno_match.specs.Point.{Point, with_front, HasFirst}
+use Rattle.sno_match.specs.Search.{Match, Exhausted, Aborted, Limit, Waiting, Event, Answer, Outcome, Gives, Search, emit, further, search, whole, all_events, last_event}
+use Rattle.sno_match.specs.Events.{in_trace, is_last, is_value, pending_after, last_pending, last_count}
+use Rattle.sno_match.specs.Point.{Point, HasFirst}
 use Rattle.sno_match.specs.Top.{first_point}
-use Rattle.sno_match.specs.Reading.{reading, waiting, IsStack, AllMarked}
-use Rattle.sno_match.specs.State.{verdict_of, after, after_move, waits, ended, over, owed, LastIn, HasAsked}
+use Rattle.sno_match.specs.Reading.{IsStack}
+use Rattle.sno_match.specs.State.{after, after_move, waits, ended, over, owed, LastIn, HasAsked}
 use Rattle.sno_match.specs.Move.{Makes, entries, price, way_after, standing}
-use Rattle.sno_match.specs.Session.{Session, answers_of, trace_of, SameMatch, IsTold, StaysAt}
-use Rattle.sno_match.specs.Running.{later, later_starts, to_come, counted, seen, IsMatch, AnswersIn, GoesOn, work, Advances}
-use Rattle.sno_match.proofs.WeightLaws.{few_told}
-use Rattle.sno_match.proofs.ReadingLaws.{emit-emit, emit-none, further-emit, further-stop, resume-exhausted, resume-stop}
+use Rattle.sno_match.specs.Session.{Session, answers_of, trace_of, IsTold}
+use Rattle.sno_match.specs.Running.{later, later_starts, to_come, counted, seen, IsMatch, GoesOn}
+use Rattle.sno_match.proofs.ReadingLaws.{emit-emit, emit-none, further-emit, further-stop, resume-stop}
 
 pub all_events-emit : (es : List (Event × ℕ)) (outcome : Outcome) → all_events (emit es outcome) ≡ es ++ all_events outcome
 all_events-emit es (Gives fs answers left verdict) = append_assoc es fs (last_event verdict left)

@@ -1,5 +1,5 @@
 -- The events told of a match tell its ways.
-use Rattle.std.proofs.Common.{◌≡◌, ℕ, zero, suc, ◌+◌, ◌-◌, ◌<◌, ◌≤◌, min, Option, Some, None, List, [], ◌∷◌, length, map, take, slice_get, Contains, refl, sym, ◌∙◌, ap, subst, arith}
+use Rattle.std.proofs.Common.{◌≡◌, ℕ, zero, suc, ◌+◌, ◌-◌, ◌<◌, min, Some, List, [], ◌∷◌, length, map, take, slice_get, Contains, ap, subst, arith}
 use Rattle.std.proofs.lemmas.Option.{slice_get_within}
 use Rattle.std.specs.declared.result.Result.{Result}
 use Rattle.std.specs.declared.result.Result.TheVariants.{Ok, Err}
@@ -7,9 +7,7 @@ use Rattle.sno_pattern.specs.Table.{tree}
 use Rattle.sno_match.specs.declared.event.Event.{Event as Told}
 use Rattle.sno_match.specs.declared.event.Event.TheVariants as V
 use Rattle.sno_match.specs.Search.{Exhausted, Event, Ended}
-use Rattle.sno_pattern.specs.Quiet.{IsQuiet}
-use Rattle.sno_match.specs.Ways.{AreWays, AreExhausted}
-use Rattle.sno_match.specs.Events.{in_trace}
+use Rattle.sno_match.specs.Ways.{AreExhausted}
 use Rattle.sno_match.specs.Session.{Session, answers_of, trace_of, told_of, IsTold, TellsWays}
 use Rattle.sno_match.proofs.QuietWays.{quiet-ways}
 

@@ -1,5 +1,5 @@
 -- What a move of the matcher does to the searches still to come.
-use Rattle.std.specs.Prelude.{ℕ, zero, suc, ◌≡◌, ◌<◌, ◌≤◌, ◌+◌, ◌-◌, ◌*◌, List, [], ◌∷◌, Option, None, Some, length}
+use Rattle.std.specs.Prelude.{ℕ, ◌≡◌, ◌<◌, ◌≤◌, ◌+◌, ◌-◌, ◌*◌, List, [], ◌∷◌, Option, None, Some, length}
 use Rattle.sno_value.specs.declared.ids.PatId.{PatId}
 use Rattle.sno_pattern.specs.Table.{Node}
 use Rattle.sno_match.specs.declared.goal.Goal.TheVariants.{Match}
@@ -10,7 +10,7 @@ use Rattle.sno_match.specs.declared.engine.State.{State}
 use Rattle.sno_match.specs.declared.engine.State.TheVariants as S
 use Rattle.sno_match.specs.declared.plan.Plan.{Plan}
 use Rattle.sno_match.specs.declared.plan.Plan.TheVariants as P
-use Rattle.sno_match.specs.Search.{Event, Answer, Outcome, Gives, Search, emit}
+use Rattle.sno_match.specs.Search.{Event, Answer, Gives, Search, emit}
 use Rattle.sno_match.specs.Events.{in_trace, cost, pending_after}
 use Rattle.sno_match.specs.Point.{Point, with_front, replaced, branched, closed, below}
 use Rattle.sno_match.specs.State.{verdict_of, after_move, HasAsked}

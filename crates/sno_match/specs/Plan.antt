@@ -1,7 +1,6 @@
 -- A plan is right where carrying it out leaves the reading of the stack.
 use Rattle.std.specs.Prelude.{ℕ, zero, suc, ◌≡◌, ◌≤◌, List, [], ◌∷◌, ◌++◌, Option, Some, None, length}
-use Rattle.sno_value.specs.declared.value.Name.{Name}
-use Rattle.sno_pattern.specs.Table.{Node, tree}
+use Rattle.sno_pattern.specs.Table.{Node}
 use Rattle.sno_match.specs.declared.goal.Goal.{Goal as Numbered}
 use Rattle.sno_match.specs.declared.event.Pending.{Pending}
 use Rattle.sno_match.specs.declared.goal.Mark.{Mark}
@@ -10,9 +9,9 @@ use Rattle.sno_match.specs.declared.plan.Front.{Front}
 use Rattle.sno_match.specs.declared.plan.Front.TheVariants.{Nothing, One, Two}
 use Rattle.sno_match.specs.declared.plan.Plan.{Plan}
 use Rattle.sno_match.specs.declared.plan.Plan.TheVariants as P
-use Rattle.sno_match.specs.Search.{Verdict, Aborted, Limit, Event, Assign, Cursor, Value, Answer, Outcome, Gives, emit}
-use Rattle.sno_match.specs.Point.{Point, with_front, closed, rest_of}
-use Rattle.sno_match.specs.Reading.{reading, waiting, AllMarked, AllKnown, IsKnown, MarkFits}
+use Rattle.sno_match.specs.Search.{Aborted, Limit, Event, Assign, Cursor, Value, Answer, Gives, emit}
+use Rattle.sno_match.specs.Point.{Point, with_front, rest_of}
+use Rattle.sno_match.specs.Reading.{reading, waiting, AllMarked, AllKnown, MarkFits}
 
 abbrev pub goals_in : Front → List Numbered
 goals_in Nothing = []

@@ -1,5 +1,5 @@
 -- Resumption points, and what the operations on a stack of them do. The newest point stands first.
-use Rattle.std.specs.Prelude.{ℕ, ◌≡◌, List, [], ◌∷◌, ◌++◌, Option, Some, None}
+use Rattle.std.specs.Prelude.{ℕ, List, [], ◌∷◌, ◌++◌}
 use Rattle.sno_match.specs.declared.goal.Goal.{Goal}
 use Rattle.sno_match.specs.declared.event.Pending.{Pending}
 use Rattle.sno_match.specs.declared.goal.Mark.{Mark}

@@ -1,6 +1,6 @@
 -- A stack of resumption points, read as the searches still to come, each behind the one above it.
-use Rattle.std.specs.Prelude.{ℕ, zero, suc, ◌≡◌, ◌<◌, ◌≤◌, List, [], ◌∷◌, ◌++◌, Option, Some, None, length, map, filter, nat_le, replicate, Contains}
-use Rattle.sno_pattern.specs.Pattern.{Pattern, Leaf, Fence, Abort, Succeed, Arbno, Alt, Cat, Cond, Imm, Place, Defer}
+use Rattle.std.specs.Prelude.{ℕ, suc, ◌≡◌, ◌<◌, ◌≤◌, List, [], ◌∷◌, length, map, filter, nat_le, replicate, Contains}
+use Rattle.sno_pattern.specs.Pattern.{Pattern, Leaf, Fence, Succeed, Arbno, Alt}
 use Rattle.sno_pattern.specs.Ends.{ends}
 use Rattle.sno_pattern.specs.Table.{Node, tree}
 use Rattle.sno_match.specs.declared.goal.Goal.{Goal as Numbered}
@@ -8,7 +8,7 @@ use Rattle.sno_match.specs.declared.goal.Goal.TheVariants as N
 use Rattle.sno_match.specs.declared.event.Pending.{Pending}
 use Rattle.sno_match.specs.declared.goal.Mark.{Mark}
 use Rattle.sno_match.specs.declared.goal.Mark.TheVariants.{Enter, Next}
-use Rattle.sno_match.specs.Search.{Goal, Match, CloseCond, CloseImm, CloseRepeat, Verdict, Exhausted, Outcome, Gives, Search, further, abort_if_exhausted, with_answer, search, Answer}
+use Rattle.sno_match.specs.Search.{Goal, Match, CloseCond, CloseImm, CloseRepeat, Exhausted, Outcome, Gives, Search, further, abort_if_exhausted, with_answer, search}
 use Rattle.sno_match.specs.Point.{Point, rest_of, below}
 
 -- the body of an ARBNO

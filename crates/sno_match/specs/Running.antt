@@ -1,5 +1,5 @@
 -- What is kept of a match between two calls.
-use Rattle.std.specs.Prelude.{ℕ, zero, suc, ◌≡◌, ◌≤◌, ◌<◌, ◌+◌, ◌-◌, ◌*◌, Bool, true, false, List, [], ◌∷◌, ◌++◌, Option, Some, None, map, length}
+use Rattle.std.specs.Prelude.{ℕ, ◌≡◌, ◌≤◌, ◌<◌, ◌+◌, ◌-◌, ◌*◌, Bool, true, false, List, [], ◌∷◌, ◌++◌, Option, Some, None, map, length}
 use Rattle.sno_value.specs.declared.ids.PatId.{PatId}
 use Rattle.sno_pattern.specs.Table.{Node, tree}
 use Rattle.sno_pattern.specs.Ends.{count_from}
@@ -8,7 +8,7 @@ use Rattle.sno_match.specs.declared.event.Pending.{Pending}
 use Rattle.sno_match.specs.declared.engine.State.{State}
 use Rattle.sno_match.specs.declared.engine.State.TheVariants as S
 use Rattle.sno_match.specs.Events.{last_pending, last_count}
-use Rattle.sno_match.specs.Search.{Match, Event, Answer, Search, Outcome, Gives, emit, further, search, whole}
+use Rattle.sno_match.specs.Search.{Match, Event, Answer, Search, Gives, emit, further, search, whole}
 use Rattle.sno_match.specs.Point.{Point}
 use Rattle.sno_match.specs.State.{verdict_of, waits, ended, over, owed, LastIn, HasAsked}
 use Rattle.sno_match.specs.Reading.{reading, waiting, IsStack}

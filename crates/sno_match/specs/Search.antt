@@ -1,5 +1,5 @@
 -- What a match tells: a search by recursion over lists of goals.
-use Rattle.std.specs.Prelude.{ℕ, zero, suc, ◌+◌, ◌-◌, ◌==◌, Bool, true, false, List, [], ◌∷◌, ◌++◌, Option, Some, None, length, map, replicate}
+use Rattle.std.specs.Prelude.{ℕ, zero, suc, ◌≡◌, ◌≤◌, ◌-◌, ◌==◌, Bool, true, false, List, [], ◌∷◌, ◌++◌, Option, Some, None, length, map, replicate}
 use Rattle.sno_value.specs.declared.value.Name.{Name}
 use Rattle.sno_value.specs.declared.kind.PrimitiveKind.{PrimitiveKind}
 use Rattle.sno_match.specs.declared.event.Pending.{Pending}
@@ -147,3 +147,15 @@ all_events (Gives events answers left verdict) = events ++ last_event verdict le
 abbrev pub trace : Pattern → List ℕ → Bool → ℕ → List Answer → List (Event × ℕ)
 trace p s anchored limit answers =
     map (λ told. (told.0, limit - told.1)) (all_events (whole p s anchored answers limit))
+
+-- The definition without the depth: what a search is, for each list of goals. Each goal that is entered takes a step,
+-- and SUCCEED is tried without end, since any more tries than there are steps are as good.
+pub record SearchRows : Type 0 where
+  pub way : (s : List ℕ) (start c : ℕ) (pending : List Pending) (answers : List Answer) (left : ℕ) →
+      search s start [] c pending answers left ≡ Gives ((Way start c pending, left) ∷ []) answers left Exhausted
+  pub due : (s : List ℕ) (start : ℕ) (goal : Goal) (rest : List Goal) (c : ℕ) (pending : List Pending) (answers : List Answer) →
+      search s start (goal ∷ rest) c pending answers 0 ≡ Gives [] answers 0 Limit
+  pub step : (s : List ℕ) (start : ℕ) (goal : Goal) (rest : List Goal) (c : ℕ) (pending : List Pending) (answers : List Answer) (left : ℕ) →
+      search s start (goal ∷ rest) c pending answers (suc left) ≡ first_goal s (search s start) goal rest c pending answers left
+  pub succeed : (s : List ℕ) (start : ℕ) (rest : List Goal) (c : ℕ) (pending : List Pending) (answers : List Answer) (left more : ℕ) → left ≤ more →
+      first_goal s (search s start) (Match Succeed) rest c pending answers left ≡ tries (search s start rest c pending ∷ replicate (suc more) (search s start rest c pending)) answers left

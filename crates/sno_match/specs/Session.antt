@@ -1,10 +1,9 @@
 -- A match as its callers see it.
-use Rattle.std.specs.Prelude.{ℕ, suc, ◌≡◌, ◌≤◌, ◌+◌, ◌-◌, ◌*◌, ◌||◌, cond, Bool, true, false, List, [], ◌∷◌, ◌++◌, Option, Some, None, map, length, min, take, slice_get, IfSome, IsTrue}
+use Rattle.std.specs.Prelude.{ℕ, ◌≡◌, ◌≤◌, ◌+◌, ◌-◌, ◌*◌, ◌||◌, Bool, false, List, [], ◌++◌, Option, Some, map, length, min, take, slice_get, IfSome, IsTrue}
 use Rattle.std.specs.Option.{option_map}
 use Rattle.std.specs.declared.result.Result.{Result}
 use Rattle.std.specs.declared.result.Result.TheVariants.{Ok}
 use Rattle.sno_value.specs.declared.ids.PatId.{PatId}
-use Rattle.sno_pattern.specs.Pattern.{Pattern}
 use Rattle.sno_pattern.specs.Table.{Node, tree}
 use Rattle.sno_match.specs.declared.event.Pending.{Pending}
 use Rattle.sno_match.specs.declared.event.Event.{Event as Told}

@@ -2,8 +2,7 @@
 use Rattle.std.specs.Prelude.{ℕ, ◌≡◌, List, [], ◌∷◌}
 use Rattle.sno_match.specs.declared.goal.Goal.{Goal}
 use Rattle.sno_match.specs.declared.event.Pending.{Pending}
-use Rattle.sno_match.specs.declared.goal.Mark.{Mark}
-use Rattle.sno_match.specs.declared.goal.Mark.TheVariants.{Enter, Next}
+use Rattle.sno_match.specs.declared.goal.Mark.TheVariants.{Enter}
 use Rattle.sno_match.specs.declared.goal.Top.{Top}
 use Rattle.sno_match.specs.declared.goal.Top.TheVariants as T
 use Rattle.sno_match.specs.Point.{Point}

@@ -126,7 +126,7 @@ impl<P: Points> Engine<P> {
         ensures err { OnErr result (self.new ≡ self.old) }
         ensures counts { IsCounted self.new }
     {
-        if self.points.depth() == 0 {
+        if self.points() == 0 {
             let told = self.take_start()?;
             return Ok(told);
         }

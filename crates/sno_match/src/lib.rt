@@ -15,7 +15,7 @@ pub use copied::CopiedGoals;
 pub use engine::Engine;
 pub use event::{Event, Pending};
 pub use goal::{Goal, Mark, Top};
-pub use laws::{none_begins, quiet_ways};
+pub use laws::{none_begins, quiet_ways, search_rows};
 pub use points::Points;
 
 /// The matcher in use.

@@ -5,7 +5,6 @@ use Rattle.std.proofs.lemmas.Option.{slice_get_past}
 use Rattle.sno_value.specs.declared.ids.PatId.{PatId}
 use Rattle.sno_value.specs.declared.kind.PrimitiveKind.{PrimitiveKind}
 use Rattle.sno_value.specs.declared.value.Value.{Value as Stored}
-use Rattle.sno_value.specs.declared.value.Value.TheVariants as stored
 use Rattle.sno_pattern.specs.declared.argument.Arg.TheVariants.{Count}
 use Rattle.sno_text.specs.declared.node.Node.{Node as Form}
 use Rattle.sno_text.specs.Source.{Source}

@@ -1,5 +1,5 @@
 -- What a builder does.
-use Rattle.std.proofs.Common.{◌≡◌, ℕ, ◌+◌, ◌<◌, nat_lt, Bool, true, List, [], ◌∷◌, ◌++◌, length, get_or, refl, sym, ◌∙◌, ap, subst, length-append, arith, Option, None, Some, Result, Ok, Err}
+use Rattle.std.proofs.Common.{◌≡◌, ℕ, ◌+◌, ◌<◌, nat_lt, true, List, [], ◌∷◌, ◌++◌, length, get_or, refl, ◌∙◌, ap, length-append, arith, Ok}
 use Rattle.std.proofs.Math.Seq.{get_or-append_seam}
 use Rattle.std.proofs.lemmas.Bool.{lt-ltb}
 use Rattle.sno_value.specs.declared.ids.PatId.{PatId}
@@ -8,7 +8,7 @@ use Rattle.sno_pattern.specs.Table.{Node, tree, tree_over, trees_onto, no_patter
 use Rattle.sno_pattern.proofs.TableLaws.{tree-append}
 use Rattle.sno_pattern.specs.Built.{Appends}
 use Rattle.snobol.specs.Evaluate.{makes}
-use Rattle.snobol.specs.State.{State, world, Grows, Does, tree_of, IsPatternOf}
+use Rattle.snobol.specs.State.{State, Grows, Does, tree_of, IsPatternOf}
 
 -- a pattern stays what it is
 pub tree_stays : (old new : List Node) (id : ℕ) → Grows old new → id < length old → tree new id ≡ tree old id

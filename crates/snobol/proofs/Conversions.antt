@@ -1,6 +1,5 @@
 -- What is asked of a value, and patterns that become values.
-use Rattle.std.proofs.Common.{Vec, Global, ◌≡◌, ℕ, ℤ, pos, ◌<◌, Bool, true, false, List, [], ◌∷◌, refl, sym, ◌∙◌, ap, subst, Option, None, Some, Result, Ok, Err, if◌then◌else◌}
-use Rattle.std.proofs.lemmas.List.{append-nil}
+use Rattle.std.proofs.Common.{Vec, Global, ◌≡◌, ℕ, ℤ, pos, true, false, List, refl, ap, Option, None, Some, Result, Ok, Err}
 use Rattle.sno_value.specs.declared.ids.PatId.{PatId}
 use Rattle.sno_value.specs.declared.value.Value.{Value as Stored}
 use Rattle.sno_value.specs.declared.value.Value.TheVariants as stored
@@ -9,15 +8,14 @@ use Rattle.sno_value.specs.Arithmetic.{difference_of}
 use Rattle.sno_text.specs.declared.node.Operator.{Operator}
 use Rattle.sno_text.specs.declared.node.Operator.TheVariants.{Alternate, Concatenate, Add, Subtract, Divide, Multiply, Power, Conditional, Immediate}
 use Rattle.sno_pattern.specs.Pattern.{Pattern}
-use Rattle.sno_pattern.specs.Table.{Node, tree}
+use Rattle.sno_pattern.specs.Table.{Node}
 use Rattle.snobol.specs.declared.machine.Exit.{Exit}
 use Rattle.snobol.specs.declared.machine.Exit.TheVariants.{Failure, Halt}
-use Rattle.snobol.specs.declared.machine.Stop.{Stop}
 use Rattle.snobol.specs.declared.machine.Stop.TheVariants.{Error as HasError, NoMemory, WriteFault}
 use Rattle.snobol.specs.Action.{Action, gives, and_then, either}
 use Rattle.snobol.specs.Values.{Value, Pat, shown, IsValueOf}
 use Rattle.snobol.specs.Evaluate.{number_of, operation, text_of, makes_value, is_null, is_patternable, as_pattern, joined_patterns, joined, concatenation, on_numbers, result_of, wrong_type}
-use Rattle.snobol.specs.State.{State, Grows, Does, tree_of, IsPatternOf}
+use Rattle.snobol.specs.State.{State, Does, tree_of, IsPatternOf}
 use Rattle.snobol.specs.Converted.{has_text, IsThere}
 use Rattle.snobol.specs.Operations.{both, is_arithmetic, calculated}
 use Rattle.snobol.proofs.Outcomes.{gives_does, stops_does, no_memory_does, grows_none, shown_stays, then_got, then_err}

@@ -1,5 +1,5 @@
 -- A primitive with its argument.
-use Rattle.std.proofs.Common.{◌≡◌, ◌∙◌, Bool, true, false, ℕ, ◌<◌, ◌≤◌, ◌↔◌, nat_lt, pos, negsuc, ℤ, ◌<ℤ◌, ◌≤ℤ◌, List, [], ◌∷◌, length, refl, sym, arith, Result, Ok, Err, IsErrOf}
+use Rattle.std.proofs.Common.{◌≡◌, ◌∙◌, false, ℕ, ◌<◌, ◌↔◌, nat_lt, pos, negsuc, List, [], ◌∷◌, length, refl, sym, arith, Result, Ok, Err, IsErrOf}
 use Rattle.std.proofs.lemmas.List.{append-nil}
 use Rattle.std.proofs.lemmas.Bool.{le-ltb}
 use Rattle.std.proofs.lemmas.Int.{ints}
@@ -10,16 +10,15 @@ use Rattle.sno_pattern.specs.declared.argument.Arg.TheVariants.{Count, Set}
 use Rattle.sno_pattern.specs.declared.table.BuildError.{BuildError}
 use Rattle.sno_pattern.specs.declared.table.BuildError.TheVariants as refusal
 use Rattle.sno_pattern.specs.Pattern.{Pattern, Leaf}
-use Rattle.sno_pattern.specs.Table.{Node, LeafNode}
+use Rattle.sno_pattern.specs.Table.{LeafNode}
 use Rattle.sno_pattern.specs.Built.{Appends}
 use Rattle.sno_pattern.specs.Arguments.{IsGoodArg, IsNullSet, IsBadCount, primitive_of, with_count, with_set}
 use Rattle.sno_pattern.specs.Sets.{set_of}
-use Rattle.snobol.specs.declared.machine.Exit.{Exit}
 use Rattle.snobol.specs.declared.machine.Exit.TheVariants.{Halt}
 use Rattle.snobol.specs.declared.machine.Stop.TheVariants.{Error as HasError}
 use Rattle.snobol.specs.Action.{Error, Stops, Action, stops}
 use Rattle.snobol.specs.Evaluate.{makes}
-use Rattle.snobol.specs.State.{State, world, Grows, Does, tree_of, IsPatternOf, exit_of}
+use Rattle.snobol.specs.State.{State, world, Does, tree_of, IsPatternOf, exit_of}
 use Rattle.snobol.specs.Primitives.{with_bytes, makes_primitive}
 use Rattle.snobol.proofs.Outcomes.{no_memory_does}
 use Rattle.snobol.proofs.Builders.{made}

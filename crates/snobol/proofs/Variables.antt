@@ -1,9 +1,8 @@
 -- The patterns with which variables begin stand where they are looked for.
-use Rattle.std.proofs.Common.{lit<, ◌≡◌, ℕ, ◌+◌, ◌<◌, ◌≤◌, Bool, true, false, List, [], ◌∷◌, ◌++◌, length, map, refl, sym, ◌∙◌, ap, length-append, arith, Option, None, Some, option_map, IfSome, if◌then◌else◌}
+use Rattle.std.proofs.Common.{lit<, ◌≡◌, ℕ, ◌<◌, ◌≤◌, true, false, List, [], ◌∷◌, length, map, refl, ◌∙◌, length-append, arith, Some, option_map, IfSome, if◌then◌else◌}
 use Rattle.std.specs.List.{AllByRecursion}
 use Rattle.std.specs.Str.{bytes_eq}
 use Rattle.sno_pattern.specs.Table.{Node, tree}
-use Rattle.sno_value.specs.declared.ids.PatId.{PatId}
 use Rattle.snobol.specs.Builtins.{found, pattern_variables}
 use Rattle.snobol.specs.Variables.{variable_numbers}
 use Rattle.snobol.specs.State.{Grows, new_state, tree_of, IsPatternOf}

@@ -4,7 +4,6 @@ use Rattle.sno_value.specs.declared.value.Value.{Value as Stored}
 use Rattle.sno_value.specs.declared.value.Value.TheVariants.{Str, Int}
 use Rattle.snobol.specs.declared.machine.Exit.{Exit}
 use Rattle.snobol.specs.declared.machine.Exit.TheVariants.{Failure, Halt}
-use Rattle.snobol.specs.declared.machine.Stop.{Stop}
 use Rattle.snobol.specs.declared.machine.Stop.TheVariants.{Error as HasError, NoMemory, WriteFault}
 
 -- a string or an integer

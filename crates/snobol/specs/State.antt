@@ -1,5 +1,5 @@
 -- What contracts see of a machine, and what its functions did.
-use Rattle.std.specs.Prelude.{◌≡◌, ℕ, ◌<◌, ◌≤◌, List, [], ◌∷◌, ◌++◌, length, Option, None, Some, Result, Ok, Err}
+use Rattle.std.specs.Prelude.{◌≡◌, ◌<◌, List, [], ◌∷◌, ◌++◌, length, Result, Ok, Err}
 use Rattle.sno_value.specs.declared.ids.PatId.{PatId}
 use Rattle.sno_pattern.specs.declared.table.BuildError.{BuildError}
 use Rattle.sno_pattern.specs.declared.table.BuildError.TheVariants as refusal
@@ -7,10 +7,9 @@ use Rattle.sno_pattern.specs.Pattern.{Pattern, Arb, Bal, Rem, Fail}
 use Rattle.sno_pattern.specs.Table.{Node, LeafNode, FenceNode, AbortNode, SucceedNode, tree}
 use Rattle.snobol.specs.declared.machine.Exit.{Exit}
 use Rattle.snobol.specs.declared.machine.Exit.TheVariants.{Failure, Halt}
-use Rattle.snobol.specs.declared.machine.Stop.{Stop}
 use Rattle.snobol.specs.declared.machine.Stop.TheVariants.{Error as HasError, NoMemory, WriteFault}
 use Rattle.snobol.specs.World.{World}
-use Rattle.snobol.specs.Action.{End, Error, Ending, Got, Fails, Stops, Outcome, Action}
+use Rattle.snobol.specs.Action.{Error, Got, Fails, Stops, Outcome, Action}
 
 pub record State : Type 0 where
   pub nodes : List Node

@@ -1,5 +1,5 @@
 //! The operators.
-ghost use Rattle.std.specs.Prelude.{◌≡◌, ◌<◌, ◌≤◌, List, length, IsTrue};
+ghost use Rattle.std.specs.Prelude.{◌≡◌, ◌<◌, List, length, IsTrue};
 ghost use Rattle.sno_pattern.specs.Table.{Node};
 ghost use Rattle.snobol.specs.Values.{shown, IsValueOf};
 ghost use Rattle.snobol.specs.Evaluate.{makes_value, joined, joined_patterns, text_of, number_of, concatenation, alternation, result_of, operation, signed};
@@ -8,7 +8,9 @@ ghost use Rattle.snobol.specs.Converted.{IsThere, has_text};
 ghost use Rattle.snobol.specs.State.{State, Does, tree_of};
 
 use crate::convert::{as_pattern, has_text, is_null, is_patternable, number_of, text_of};
-use crate::machine::{DATA_TYPE, Exit, LATER, Machine, TOO_LONG, error};
+use crate::machine::{
+    BAD_COUNT, DATA_TYPE, DIVISION_BY_ZERO, Exit, LATER, Machine, OVERFLOW, TOO_LONG, error,
+};
 use sno_text::{Operator, UnaryOperator};
 use sno_value::{Arith, PatId, Text, Value, add, div, mul, pow, sub};
 use std::alloc::Global;
@@ -104,7 +106,7 @@ fn joined_texts(alloc: Global, x: Value, y: Value) -> Result<Value, Exit>
 {
     let mut first = text_of(alloc, x)?;
     let second = text_of(alloc, y)?;
-    if second.len() > MOST_BYTES || first.len() > MOST_BYTES - second.len() {
+    if first.len() + second.len() > MOST_BYTES {
         return Err(error(TOO_LONG));
     }
     first.extend_from_slice(&second)?;
@@ -173,8 +175,8 @@ fn computed(outcome: Result<i64, Arith>) -> Result<Value, Exit>
 {
     match outcome {
         Ok(number) => Ok(Value::Int(number)),
-        Err(Arith::Overflow) => Err(error(2)),
-        Err(Arith::DivisionByZero) => Err(error(3)),
-        Err(Arith::BadExponent) => Err(error(7)),
+        Err(Arith::Overflow) => Err(error(OVERFLOW)),
+        Err(Arith::DivisionByZero) => Err(error(DIVISION_BY_ZERO)),
+        Err(Arith::BadExponent) => Err(error(BAD_COUNT)),
     }
 }

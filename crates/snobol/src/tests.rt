@@ -2,6 +2,7 @@
 use crate::{WaysOutcome, command, perform, status_of, ways};
 use sno_io::{Device, Sink};
 use std::alloc::Global;
+use std::io::{self, Write};
 use std::process::Abort;
 use std::test::Fail;
 
@@ -404,29 +405,51 @@ fn sizes_at_their_limits(rt: HostRuntime) -> Result<(), Fail> {
     let outcome = ways(alloc, b"'A", &too_long, true, 1000, &mut output);
     assert!(rt; matches!(outcome, WaysOutcome::Refused(_)));
     let deep = copies(alloc, b'(', 41)?;
+    let mut output = Device::new(Vec::new(alloc));
     let outcome = ways(alloc, &deep, b"", true, 1000, &mut output);
     assert!(rt; matches!(outcome, WaysOutcome::Refused(_)));
     Ok(())
 }
 
-/// A writer that takes so many bytes and then none: what was written is exactly a beginning.
+/// A writer with room for so many bytes, which takes none when it is full.
+#[derive(Drop)]
+struct Shut {
+    taken: Vec<u8>,
+    room: usize,
+}
+
+impl Write for Shut {
+    fn write(&mut self, bytes: &[u8]) -> io::Result<usize> {
+        let count = bytes.len().min(self.room);
+        self.taken.extend_from_slice(&bytes[..count])?;
+        self.room -= count;
+        Ok(count)
+    }
+
+    fn flush(&mut self) -> io::Result<()> {
+        Ok(())
+    }
+}
+
+/// What was written to a writer that fills up is exactly a beginning.
 #[test]
 fn writers_that_fill_up(rt: HostRuntime) -> Result<(), Fail> {
-    let lines = b"way 0 1\nway 0 2\nexhausted\n";
+    let alloc = rt.alloc();
+    let lines = b"way 0 1\nway 0 2\nexhausted\n".as_slice();
     for room in 0..30 {
-        let mut held = copies(rt.alloc(), b'?', 64)?;
-        let mut output = Device::new(&mut held.as_mut_slice()[..room]);
-        let outcome = ways(rt.alloc(), b"'A' | 'AB'", b"AB", true, 1000, &mut output);
-        if room < lines.len() {
-            assert_eq!(rt; outcome, WaysOutcome::WriteFault, "room for {room}");
-            assert!(rt; output.failed());
-            assert_eq!(rt;
-                held.as_slice().split_at(room).0,
-                lines.as_slice().split_at(room).0
-            );
+        let taken = Vec::new(alloc);
+        let mut output = Device::new(Shut { taken, room });
+        let outcome = ways(alloc, b"'A' | 'AB'", b"AB", true, 1000, &mut output);
+        let fits = room >= lines.len();
+        let expected = if fits {
+            WaysOutcome::Done
         } else {
-            assert_eq!(rt; outcome, WaysOutcome::Done, "room for {room}");
-        }
+            WaysOutcome::WriteFault
+        };
+        assert_eq!(rt; outcome, expected, "room for {room}");
+        assert_eq!(rt; output.failed(), !fits);
+        let Shut { taken, room: _ } = output.into_inner();
+        assert!(rt; taken.len() == room.min(lines.len()) && lines.starts_with(&taken));
     }
     Ok(())
 }

@@ -1,4 +1,3 @@
-use Rattle.std.proofs.Common.{arith, ◌<◌, length, ◌≡◌}
 use Rattle.sno_match.specs.declared.goal.Goal.TheVariants as N
 use Rattle.sno_match.proofs.PlanLaws as plans
 use Rattle.sno_match.proofs.plan.enter_goal.Goals as goal

@@ -1,4 +1,4 @@
-use Rattle.std.proofs.Common.{◌≡◌, ◌<◌, length, Some, sym, ◌∙◌, refl}
+use Rattle.std.proofs.Common.{sym, ◌∙◌, refl}
 use Rattle.sno_match.specs.declared.goal.Goal.TheVariants as N
 use Rattle.sno_match.proofs.PlanLaws as plans
 use Rattle.sno_match.proofs.plan.enter_primitive.Goals as goal

@@ -1,4 +1,3 @@
-use Rattle.std.proofs.Common.{arith}
 use Rattle.sno_match.proofs.plan.plan_of.Goals as goal
 
 pub returns-in-Enter : goal.returns-in-Enter

@@ -1,4 +1,4 @@
-use Rattle.std.proofs.Common.{◌≡◌, map, reverse, [], ◌∷◌, ◌∙◌, sym}
+use Rattle.std.proofs.Common.{map, reverse, [], ◌∷◌, ◌∙◌, sym}
 use Rattle.sno_match.specs.Point.{rest_of}
 use Rattle.sno_match.specs.Copied.{point_of}
 use Rattle.sno_match.proofs.CopiedLaws.{top_is}

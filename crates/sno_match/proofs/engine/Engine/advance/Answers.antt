@@ -1,4 +1,4 @@
-use Rattle.std.proofs.Common.{◌≡◌, ◌<◌, ◌≤◌, ◌+◌, ◌*◌, length, arith, refl, sym, ◌∙◌, ap, subst, Option, Some, None}
+use Rattle.std.proofs.Common.{arith, refl}
 use Rattle.sno_match.proofs.EngineLaws as laws
 use Rattle.sno_match.proofs.CountLaws.{match_few, match_counted}
 use Rattle.sno_match.proofs.engine.Engine.advance.Goals as goal

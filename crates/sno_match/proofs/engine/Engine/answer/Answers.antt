@@ -1,4 +1,3 @@
-use Rattle.std.proofs.Common.{◌≡◌, ◌<◌, ◌≤◌, ◌++◌, ◌∷◌, [], length, arith, refl, sym, ◌∙◌, ap, subst}
 use Rattle.sno_match.proofs.AnswerLaws as laws
 use Rattle.sno_match.proofs.engine.Engine.answer.Goals as goal
 

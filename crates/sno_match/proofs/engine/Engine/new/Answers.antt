@@ -1,4 +1,4 @@
-use Rattle.std.proofs.Common.{◌≡◌, ◌<◌, ◌≤◌, length, arith, rules, sym}
+use Rattle.std.proofs.Common.{◌≤◌, arith}
 use Rattle.sno_match.proofs.SessionLaws as laws
 use Rattle.sno_match.proofs.engine.Engine.new.Goals as goal
 

@@ -1,6 +1,5 @@
-use Rattle.std.proofs.Common.{◌≡◌, ◌<◌, ◌≤◌, length, arith, refl, sym, ◌∙◌, ap, subst}
+use Rattle.std.proofs.Common.{refl, ◌∙◌}
 use Rattle.std.proofs.lemmas.Result.{err_from_is_err_and}
-use Rattle.sno_match.specs.Session.{IsCounted}
 use Rattle.sno_match.proofs.CountLaws.{match_counted}
 use Rattle.sno_match.proofs.NextLaws as laws
 use Rattle.sno_match.proofs.SessionWays.{told-ways, refused-ways}

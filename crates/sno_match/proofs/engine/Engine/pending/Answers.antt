@@ -1,5 +1,5 @@
-use Rattle.std.proofs.Common.{◌≡◌, ◌≤◌, refl, sym, subst}
-use Rattle.sno_match.proofs.CountLaws.{match_few, match_counted}
+use Rattle.std.proofs.Common.{refl}
+use Rattle.sno_match.proofs.CountLaws.{match_counted}
 use Rattle.sno_match.proofs.engine.Engine.pending.Goals as goal
 
 pub returns-clause-last : goal.returns-clause-last

@@ -1,5 +1,4 @@
-use Rattle.std.proofs.Common.{◌≡◌, ◌≤◌, refl, sym, subst}
-use Rattle.sno_match.proofs.CountLaws.{match_few, match_counted}
+use Rattle.sno_match.proofs.CountLaws.{match_few}
 use Rattle.sno_match.proofs.engine.Engine.told.Goals as goal
 
 pub returns-clause-few : goal.returns-clause-few
