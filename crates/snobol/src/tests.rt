@@ -259,14 +259,29 @@ fn texts_that_are_refused(rt: HostRuntime) -> Result<(), Fail> {
     check_rows(
         &rt,
         &[
-            (&["snobol4", "ways", "'A", "A"], "", "snobol4: syntax 1 at line 1\n", 2),
+            (
+                &["snobol4", "ways", "'A", "A"],
+                "",
+                "snobol4: syntax 1 at line 1\n",
+                2,
+            ),
             (&["snobol4", "ways", "", "A"], "", syntax_3, 2),
             (&["snobol4", "ways", "'A';'B'", "A"], "", syntax_3, 2),
             (&["snobol4", "ways", "LEN(1)'B'", "A"], "", syntax_3, 2),
             (&["snobol4", "ways", "'A'|'B'", "A"], "", syntax_3, 2),
             (&["snobol4", "ways", "()", "A"], "", syntax_3, 2),
-            (&["snobol4", "ways", "9223372036854775808", "A"], "", syntax_2, 2),
-            (&["snobol4", "ways", "9223372036854775808 )", "A"], "", syntax_3, 2),
+            (
+                &["snobol4", "ways", "9223372036854775808", "A"],
+                "",
+                syntax_2,
+                2,
+            ),
+            (
+                &["snobol4", "ways", "9223372036854775808 )", "A"],
+                "",
+                syntax_3,
+                2,
+            ),
         ],
     )
 }
@@ -276,21 +291,91 @@ fn errors_of_patterns(rt: HostRuntime) -> Result<(), Fail> {
     check_rows(
         &rt,
         &[
-            (&["snobol4", "ways", "LEN(-1)", "A"], "", "snobol4: error 7\n", 1),
-            (&["snobol4", "ways", "POS(-1)", "A"], "", "snobol4: error 7\n", 1),
-            (&["snobol4", "ways", "SPAN('')", "A"], "", "snobol4: error 6\n", 1),
-            (&["snobol4", "ways", "ANY()", "A"], "", "snobol4: error 6\n", 1),
-            (&["snobol4", "ways", "LEN('A')", "A"], "", "snobol4: error 1\n", 1),
-            (&["snobol4", "ways", "LEN(LEN(1))", "A"], "", "snobol4: error 1\n", 1),
-            (&["snobol4", "ways", "1 / 0", "A"], "", "snobol4: error 3\n", 1),
-            (&["snobol4", "ways", "9223372036854775807 + 1", "A"], "", "snobol4: error 2\n", 1),
-            (&["snobol4", "ways", "2 ** -1", "A"], "", "snobol4: error 7\n", 1),
-            (&["snobol4", "ways", "NOSUCH(1 / 0)", "A"], "", "snobol4: error 3\n", 1),
-            (&["snobol4", "ways", "NOSUCH(1)", "A"], "", "snobol4: error 4\n", 1),
-            (&["snobol4", "ways", "SIZE(1 / 0)", "A"], "", "snobol4: error 90\n", 1),
+            (
+                &["snobol4", "ways", "LEN(-1)", "A"],
+                "",
+                "snobol4: error 7\n",
+                1,
+            ),
+            (
+                &["snobol4", "ways", "POS(-1)", "A"],
+                "",
+                "snobol4: error 7\n",
+                1,
+            ),
+            (
+                &["snobol4", "ways", "SPAN('')", "A"],
+                "",
+                "snobol4: error 6\n",
+                1,
+            ),
+            (
+                &["snobol4", "ways", "ANY()", "A"],
+                "",
+                "snobol4: error 6\n",
+                1,
+            ),
+            (
+                &["snobol4", "ways", "LEN('A')", "A"],
+                "",
+                "snobol4: error 1\n",
+                1,
+            ),
+            (
+                &["snobol4", "ways", "LEN(LEN(1))", "A"],
+                "",
+                "snobol4: error 1\n",
+                1,
+            ),
+            (
+                &["snobol4", "ways", "1 / 0", "A"],
+                "",
+                "snobol4: error 3\n",
+                1,
+            ),
+            (
+                &["snobol4", "ways", "9223372036854775807 + 1", "A"],
+                "",
+                "snobol4: error 2\n",
+                1,
+            ),
+            (
+                &["snobol4", "ways", "2 ** -1", "A"],
+                "",
+                "snobol4: error 7\n",
+                1,
+            ),
+            (
+                &["snobol4", "ways", "NOSUCH(1 / 0)", "A"],
+                "",
+                "snobol4: error 3\n",
+                1,
+            ),
+            (
+                &["snobol4", "ways", "NOSUCH(1)", "A"],
+                "",
+                "snobol4: error 4\n",
+                1,
+            ),
+            (
+                &["snobol4", "ways", "SIZE(1 / 0)", "A"],
+                "",
+                "snobol4: error 90\n",
+                1,
+            ),
             (&["snobol4", "ways", "X", "A"], "", "snobol4: error 90\n", 1),
-            (&["snobol4", "ways", "LEN(1) $ X", "A"], "", "snobol4: error 90\n", 1),
-            (&["snobol4", "ways", "&ANCHOR", "A"], "", "snobol4: error 90\n", 1),
+            (
+                &["snobol4", "ways", "LEN(1) $ X", "A"],
+                "",
+                "snobol4: error 90\n",
+                1,
+            ),
+            (
+                &["snobol4", "ways", "&ANCHOR", "A"],
+                "",
+                "snobol4: error 90\n",
+                1,
+            ),
         ],
     )
 }
@@ -300,14 +385,54 @@ fn numbers_as_patterns(rt: HostRuntime) -> Result<(), Fail> {
     check_rows(
         &rt,
         &[
-            (&["snobol4", "ways", "--anchor", "1 +2", "12"], "way 0 2\nexhausted\n", "", 0),
-            (&["snobol4", "ways", "--anchor", "2 ** 3 ** 2", "512"], "way 0 3\nexhausted\n", "", 0),
-            (&["snobol4", "ways", "--anchor", "2 * 3 / 2 * 2", "1"], "way 0 1\nexhausted\n", "", 0),
-            (&["snobol4", "ways", "--anchor", "1 - 2 - 3", "-4"], "way 0 2\nexhausted\n", "", 0),
-            (&["snobol4", "ways", "--anchor", "-7 / 2", "-3"], "way 0 2\nexhausted\n", "", 0),
-            (&["snobol4", "ways", "--anchor", "0 ** 0", "1"], "way 0 1\nexhausted\n", "", 0),
-            (&["snobol4", "ways", "--anchor", "+'007'", "7"], "way 0 1\nexhausted\n", "", 0),
-            (&["snobol4", "ways", "--anchor", "LEN(1 + 1)", "AB"], "way 0 2\nexhausted\n", "", 0),
+            (
+                &["snobol4", "ways", "--anchor", "1 +2", "12"],
+                "way 0 2\nexhausted\n",
+                "",
+                0,
+            ),
+            (
+                &["snobol4", "ways", "--anchor", "2 ** 3 ** 2", "512"],
+                "way 0 3\nexhausted\n",
+                "",
+                0,
+            ),
+            (
+                &["snobol4", "ways", "--anchor", "2 * 3 / 2 * 2", "1"],
+                "way 0 1\nexhausted\n",
+                "",
+                0,
+            ),
+            (
+                &["snobol4", "ways", "--anchor", "--", "1 - 2 - 3", "-4"],
+                "way 0 2\nexhausted\n",
+                "",
+                0,
+            ),
+            (
+                &["snobol4", "ways", "--anchor", "--", "-7 / 2", "-3"],
+                "way 0 2\nexhausted\n",
+                "",
+                0,
+            ),
+            (
+                &["snobol4", "ways", "--anchor", "0 ** 0", "1"],
+                "way 0 1\nexhausted\n",
+                "",
+                0,
+            ),
+            (
+                &["snobol4", "ways", "--anchor", "+'007'", "7"],
+                "way 0 1\nexhausted\n",
+                "",
+                0,
+            ),
+            (
+                &["snobol4", "ways", "--anchor", "LEN(1 + 1)", "AB"],
+                "way 0 2\nexhausted\n",
+                "",
+                0,
+            ),
         ],
     )
 }
@@ -317,20 +442,106 @@ fn every_primitive(rt: HostRuntime) -> Result<(), Fail> {
     check_rows(
         &rt,
         &[
-            (&["snobol4", "ways", "ARB", "AB"], "way 0 0\nway 0 1\nway 0 2\nway 1 1\nway 1 2\nway 2 2\nexhausted\n", "", 0),
-            (&["snobol4", "ways", "--anchor", "BAL", "(A)B"], "way 0 3\nway 0 4\nexhausted\n", "", 0),
-            (&["snobol4", "ways", "--anchor", "BAL", "())"], "way 0 2\nexhausted\n", "", 0),
-            (&["snobol4", "ways", "--anchor", "BAL", ")"], "exhausted\n", "", 0),
-            (&["snobol4", "ways", "--anchor", "BAL", ")("], "exhausted\n", "", 0),
-            (&["snobol4", "ways", "--anchor", "LEN(2) TAB(1)", "ABC"], "exhausted\n", "", 0),
-            (&["snobol4", "ways", "BREAK(',')", "ABC"], "exhausted\n", "", 0),
-            (&["snobol4", "ways", "--anchor", "BREAK(',')", ",A"], "way 0 0\nexhausted\n", "", 0),
-            (&["snobol4", "ways", "--anchor", "--steps", "3", "RTAB(1) ANY('BC')", "ABC"], "way 0 3\nexhausted\n", "", 0),
-            (&["snobol4", "ways", "--anchor", "--steps", "2", "RTAB(1) ANY('BC')", "ABC"], "limit\n", "", 0),
-            (&["snobol4", "ways", "--anchor", "SPAN('AB') LEN(1)", "ABAC"], "way 0 4\nexhausted\n", "", 0),
-            (&["snobol4", "ways", "--anchor", "SPAN('AB') LEN(1)", "ABA"], "exhausted\n", "", 0),
-            (&["snobol4", "ways", "POS(1) REM", "ABC"], "way 1 3\nexhausted\n", "", 0),
-            (&["snobol4", "ways", "--anchor", "NOTANY('A') RPOS(0)", "B"], "way 0 1\nexhausted\n", "", 0),
+            (
+                &["snobol4", "ways", "ARB", "AB"],
+                "way 0 0\nway 0 1\nway 0 2\nway 1 1\nway 1 2\nway 2 2\nexhausted\n",
+                "",
+                0,
+            ),
+            (
+                &["snobol4", "ways", "--anchor", "BAL", "(A)B"],
+                "way 0 3\nway 0 4\nexhausted\n",
+                "",
+                0,
+            ),
+            (
+                &["snobol4", "ways", "--anchor", "BAL", "())"],
+                "way 0 2\nexhausted\n",
+                "",
+                0,
+            ),
+            (
+                &["snobol4", "ways", "--anchor", "BAL", ")"],
+                "exhausted\n",
+                "",
+                0,
+            ),
+            (
+                &["snobol4", "ways", "--anchor", "BAL", ")("],
+                "exhausted\n",
+                "",
+                0,
+            ),
+            (
+                &["snobol4", "ways", "--anchor", "LEN(2) TAB(1)", "ABC"],
+                "exhausted\n",
+                "",
+                0,
+            ),
+            (
+                &["snobol4", "ways", "BREAK(',')", "ABC"],
+                "exhausted\n",
+                "",
+                0,
+            ),
+            (
+                &["snobol4", "ways", "--anchor", "BREAK(',')", ",A"],
+                "way 0 0\nexhausted\n",
+                "",
+                0,
+            ),
+            (
+                &[
+                    "snobol4",
+                    "ways",
+                    "--anchor",
+                    "--steps",
+                    "3",
+                    "RTAB(1) ANY('BC')",
+                    "ABC",
+                ],
+                "way 0 3\nexhausted\n",
+                "",
+                0,
+            ),
+            (
+                &[
+                    "snobol4",
+                    "ways",
+                    "--anchor",
+                    "--steps",
+                    "2",
+                    "RTAB(1) ANY('BC')",
+                    "ABC",
+                ],
+                "limit\n",
+                "",
+                0,
+            ),
+            (
+                &["snobol4", "ways", "--anchor", "SPAN('AB') LEN(1)", "ABAC"],
+                "way 0 4\nexhausted\n",
+                "",
+                0,
+            ),
+            (
+                &["snobol4", "ways", "--anchor", "SPAN('AB') LEN(1)", "ABA"],
+                "exhausted\n",
+                "",
+                0,
+            ),
+            (
+                &["snobol4", "ways", "POS(1) REM", "ABC"],
+                "way 1 3\nexhausted\n",
+                "",
+                0,
+            ),
+            (
+                &["snobol4", "ways", "--anchor", "NOTANY('A') RPOS(0)", "B"],
+                "way 0 1\nexhausted\n",
+                "",
+                0,
+            ),
         ],
     )
 }
@@ -345,15 +556,92 @@ fn repetitions_and_cuts(rt: HostRuntime) -> Result<(), Fail> {
     check_rows(
         &rt,
         &[
-            (&["snobol4", "ways", "--anchor", "--steps", "48", "ARBNO('A' | 'AA')", "AAA"], exhausted.as_str(), "", 0),
-            (&["snobol4", "ways", "--anchor", "--steps", "47", "ARBNO('A' | 'AA')", "AAA"], limit.as_str(), "", 0),
-            (&["snobol4", "ways", "--anchor", "ARBNO('')", "A"], "way 0 0\nexhausted\n", "", 0),
-            (&["snobol4", "ways", "--anchor", "--steps", "6", "ARBNO('A')", "A"], "way 0 0\nway 0 1\nlimit\n", "", 0),
-            (&["snobol4", "ways", "--anchor", "--steps", "7", "ARBNO('A')", "A"], "way 0 0\nway 0 1\nexhausted\n", "", 0),
-            (&["snobol4", "ways", "'A' FENCE 'B'", "ACAB"], "aborted\n", "", 0),
-            (&["snobol4", "ways", "--steps", "3", "SUCCEED", ""], "way 0 0\nway 0 0\nway 0 0\nlimit\n", "", 0),
-            (&["snobol4", "ways", "'A' ABORT | 'B'", "BA"], "way 0 1\naborted\n", "", 0),
-            (&["snobol4", "ways", "--anchor", "FENCE 'A' | 'B'", "B"], "aborted\n", "", 0),
+            (
+                &[
+                    "snobol4",
+                    "ways",
+                    "--anchor",
+                    "--steps",
+                    "48",
+                    "ARBNO('A' | 'AA')",
+                    "AAA",
+                ],
+                exhausted.as_str(),
+                "",
+                0,
+            ),
+            (
+                &[
+                    "snobol4",
+                    "ways",
+                    "--anchor",
+                    "--steps",
+                    "47",
+                    "ARBNO('A' | 'AA')",
+                    "AAA",
+                ],
+                limit.as_str(),
+                "",
+                0,
+            ),
+            (
+                &["snobol4", "ways", "--anchor", "ARBNO('')", "A"],
+                "way 0 0\nexhausted\n",
+                "",
+                0,
+            ),
+            (
+                &[
+                    "snobol4",
+                    "ways",
+                    "--anchor",
+                    "--steps",
+                    "6",
+                    "ARBNO('A')",
+                    "A",
+                ],
+                "way 0 0\nway 0 1\nlimit\n",
+                "",
+                0,
+            ),
+            (
+                &[
+                    "snobol4",
+                    "ways",
+                    "--anchor",
+                    "--steps",
+                    "7",
+                    "ARBNO('A')",
+                    "A",
+                ],
+                "way 0 0\nway 0 1\nexhausted\n",
+                "",
+                0,
+            ),
+            (
+                &["snobol4", "ways", "'A' FENCE 'B'", "ACAB"],
+                "aborted\n",
+                "",
+                0,
+            ),
+            (
+                &["snobol4", "ways", "--steps", "3", "SUCCEED", ""],
+                "way 0 0\nway 0 0\nway 0 0\nlimit\n",
+                "",
+                0,
+            ),
+            (
+                &["snobol4", "ways", "'A' ABORT | 'B'", "BA"],
+                "way 0 1\naborted\n",
+                "",
+                0,
+            ),
+            (
+                &["snobol4", "ways", "--anchor", "FENCE 'A' | 'B'", "B"],
+                "aborted\n",
+                "",
+                0,
+            ),
         ],
     )
 }
@@ -367,7 +655,10 @@ fn long_expressions(rt: HostRuntime) -> Result<(), Fail> {
     let mut output = Device::new(Vec::new(alloc));
     let outcome = ways(alloc, &signs, b"1", true, 1000, &mut output);
     assert_eq!(rt; outcome, WaysOutcome::Done);
-    assert_eq!(rt; output.into_inner().as_slice(), b"way 0 1\nexhausted\n".as_slice());
+    assert_eq!(rt;
+        output.into_inner().as_slice(),
+        b"way 0 1\nexhausted\n".as_slice()
+    );
     let mut sum = Vec::new(alloc);
     for _ in 0..1900 {
         sum.extend_from_slice(b"1 + ")?;
@@ -376,7 +667,10 @@ fn long_expressions(rt: HostRuntime) -> Result<(), Fail> {
     let mut output = Device::new(Vec::new(alloc));
     let outcome = ways(alloc, &sum, b"1901", true, 1000, &mut output);
     assert_eq!(rt; outcome, WaysOutcome::Done);
-    assert_eq!(rt; output.into_inner().as_slice(), b"way 0 4\nexhausted\n".as_slice());
+    assert_eq!(rt;
+        output.into_inner().as_slice(),
+        b"way 0 4\nexhausted\n".as_slice()
+    );
     Ok(())
 }
 
