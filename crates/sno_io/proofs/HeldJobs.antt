@@ -1,22 +1,43 @@
 -- The job of the words, by what a parse found in them.
-use Rattle.std.proofs.Common.{◌≡◌, ◌∙◌, ℕ, Bool, List, [], Option, None, Some, IfNone, ap, refl, subst, true}
-use Rattle.std.specs.Prelude.{option_map}
-use Rattle.clap.specs.Words.{App, HasKind, HasMatchesOf, Row, Text, fault_of, is_simple, is_simple_and_free, subcommand_of, subcommand_rows_of}
+use Rattle.std.proofs.Common.{◌≡◌, ◌∙◌, ℕ, Bool, List, [], Option, None, Some, IfNone, ap, codes, refl, subst, true}
+use Rattle.std.specs.Prelude.{Box, option_map}
+use Rattle.std.specs.Box.{box_value}
+use Rattle.clap.specs.Words.{App, HasKind, HasMatchesOf, Row, Text, fault_of, is_simple, is_simple_and_free, subcommand_name_of, subcommand_of, subcommand_rows_of}
+use Rattle.clap.specs.Simple.{subcommand_rows}
 use Rattle.clap.specs.declared.error.Error.{Error}
 use Rattle.clap.specs.declared.parser.matches.ArgMatches.{ArgMatches}
+use Rattle.clap.specs.declared.parser.matches.ArgMatches.TheViews.{out-ArgMatches, out-SubCommand}
+use Rattle.clap.specs.declared.parser.matches.SubCommand.{SubCommand}
 use Rattle.sno_io.specs.declared.jobs.Job.{Job}
-use Rattle.sno_io.specs.declared.jobs.Job.TheVariants.{Ways}
-use Rattle.sno_io.specs.Commands.{HoldsJob, IsJobOf, IsWays, snobol4}
+use Rattle.sno_io.specs.declared.jobs.Job.TheVariants.{Check, Ways}
+use Rattle.sno_io.specs.Commands.{HoldsJob, IsCheck, IsJobOf, IsWays, snobol4}
 
--- where the rows hold no words of `ways`, they hold no job
-pub no_ways : (found : Option (Text × List Row)) (rows : List Row) (o : Option Job) → option_map (λ f. f.1) found ≡ Some rows
-    → IfNone o ((anchored : Bool) (steps : ℕ) (pattern subject : Text) → IsWays rows anchored steps pattern subject → ⊥) → IfNone o ((job : Job) → HoldsJob found job → ⊥)
-no_ways found rows (Some job) e refuted = tt
-no_ways None rows None e refuted = absurd (cc)
-no_ways (Some f) rows None e refuted = go
+-- the command that a parse found, of that name and with these rows
+pub found_is : (m : ArgMatches) (name : Text) (rows : List Row) → Some name ≡ subcommand_name_of m → Some rows ≡ option_map (λ f. f.1) (subcommand_rows_of m) → subcommand_rows_of m ≡ Some (name, rows)
+found_is m name rows = go (out-ArgMatches m).subcommand
   where
-    go : (job : Job) → HoldsJob (Some f) job → ⊥
-    go (Ways anchored steps pattern subject) h = let same : f.1 ≡ rows = cc in refuted anchored steps pattern.now subject.now (rw (← same) h.1)
+    go : {Z : Type 0} (o : Option (Box SubCommand Z)) → Some name ≡ option_map (λ b. (out-SubCommand (box_value b)).name.now) o → Some rows ≡ option_map (λ f. f.1) (subcommand_rows o) → subcommand_rows o ≡ Some (name, rows)
+    go None e h = absurd (cc)
+    go (Some b) e h = cc
+
+-- where the rows hold no words of `check`, they hold no job of that name
+pub no_check : (rows : List Row) (o : Option Job) → IfNone o ((file : Text) → IsCheck rows file → ⊥) → IfNone o ((job : Job) → HoldsJob (Some (codes "check", rows)) job → ⊥)
+no_check rows (Some job) refuted = tt
+no_check rows None refuted = go
+  where
+    go : (job : Job) → HoldsJob (Some (codes "check", rows)) job → ⊥
+    go (Check file) h = refuted file.now h.1
+    go (Ways anchored steps pattern subject) h = let is = h.0 in absurd (cc)
+
+-- where the rows hold no words of `ways`, they hold no job of that name
+pub no_ways : (rows : List Row) (o : Option Job) → IfNone o ((anchored : Bool) (steps : ℕ) (pattern subject : Text) → IsWays rows anchored steps pattern subject → ⊥)
+    → IfNone o ((job : Job) → HoldsJob (Some (codes "ways", rows)) job → ⊥)
+no_ways rows (Some job) refuted = tt
+no_ways rows None refuted = go
+  where
+    go : (job : Job) → HoldsJob (Some (codes "ways", rows)) job → ⊥
+    go (Check file) h = let is = h.0 in absurd (cc)
+    go (Ways anchored steps pattern subject) h = refuted anchored steps pattern.now subject.now h.1
 
 -- `clap` gives exact matches and kinds for these commands
 simple : is_simple snobol4 ≡ true

@@ -10,7 +10,7 @@ use Rattle.clap.specs.declared.error.Error.{Error}
 use Rattle.clap.specs.declared.error.kind.ErrorKind.{ErrorKind}
 use Rattle.clap.specs.declared.error.kind.ErrorKind.TheVariants.{DisplayHelp, DisplayVersion, OutOfMemory}
 use Rattle.sno_io.specs.declared.jobs.Job.{Job}
-use Rattle.sno_io.specs.declared.jobs.Job.TheVariants.{Ways}
+use Rattle.sno_io.specs.declared.jobs.Job.TheVariants.{Check, Ways}
 
 -- ---- the commands
 
@@ -25,6 +25,10 @@ number_rule id parser = record (new_rule id) { long = Some id; action = Some Set
 -- a flag `--id`
 abbrev pub flag_rule : Text → Rule
 flag_rule id = record (new_rule id) { long = Some id; action = Some SetTrue }
+
+-- check FILE
+abbrev pub check_app : App
+check_app = with_rule (new_app (codes "check")) (word_rule (codes "FILE"))
 
 -- ways [--anchor] [--steps N] PATTERN SUBJECT
 abbrev pub ways_app : App
@@ -41,7 +45,7 @@ bare_app = on_top (λ s. record s { arg_required_else_help = true; subcommand_re
 
 -- the program with its commands
 abbrev pub snobol4 : App
-snobol4 = with_subcommand bare_app ways_app.top
+snobol4 = with_subcommand (with_subcommand bare_app check_app.top) ways_app.top
 
 -- ---- what the words hold, by the rows that `clap` finds in them
 
@@ -58,6 +62,10 @@ pub record IsFlag (id : Text) (rows : List Row) (flag : Bool) : Type 0 where
   pub given : one_of id rows ≡ Some (codes "true") → flag ≡ true
   pub not_given : one_of id rows ≡ Some (codes "false") → flag ≡ false
 
+-- What the words of `check` hold.
+pub record IsCheck (rows : List Row) (file : Text) : Type 0 where
+  pub file_is : first_of (codes "FILE") rows ≡ Some file
+
 -- What the words of `ways` hold.
 pub record IsWays (rows : List Row) (anchored : Bool) (steps : ℕ) (pattern subject : Text) : Type 0 where
   pub anchor_is : IsFlag (codes "anchor") rows anchored
@@ -67,6 +75,7 @@ pub record IsWays (rows : List Row) (anchored : Bool) (steps : ℕ) (pattern sub
 
 -- the job of the command of that name, whose words gave these rows
 abbrev pub IsJob : Text → List Row → Job → Type 0
+IsJob name rows (Check file) = (name ≡ codes "check") × IsCheck rows file.now
 IsJob name rows (Ways anchored steps pattern subject) = (name ≡ codes "ways") × IsWays rows anchored steps pattern.now subject.now
 
 -- the job of what was found: the name of a command, and the rows of its words

@@ -12,6 +12,11 @@ pub struct Limits {
 /// What the program is to do.
 #[derive(Clone, Copy, Debug, PartialEq, Eq)]
 pub enum Job<'a> {
+    /// Read a program, and say what is wrong with it.
+    Check {
+        /// The file that holds the program.
+        file: &'a str,
+    },
     /// List the ways in which a pattern matches a subject.
     Ways {
         /// Whether a match may begin at the subject's first byte alone.

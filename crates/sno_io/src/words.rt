@@ -3,7 +3,7 @@ ghost use Rattle.std.specs.Prelude.{◌≡◌, ℕ, Bool, codes, false, map, IfE
 ghost use Rattle.clap.specs.Words.{app_of, found_of, kind_of, rows_of, rule_of, subcommand_rows_of};
 ghost use Rattle.clap.specs.declared.builder.value_parser.ValueParser.TheVariants as parsers;
 ghost use Rattle.sno_io.specs.declared.jobs.Job.{Job};
-ghost use Rattle.sno_io.specs.Commands.{flag_rule, number_rule, snobol4, status, word_rule, HoldsJob, IsJob, IsJobOf, IsNumber, IsRefusalOf, IsWays};
+ghost use Rattle.sno_io.specs.Commands.{flag_rule, number_rule, snobol4, status, word_rule, HoldsJob, IsCheck, IsJob, IsJobOf, IsNumber, IsRefusalOf, IsWays};
 
 use crate::jobs::Job;
 use clap::builder::ValueParser;
@@ -50,6 +50,9 @@ pub fn status_of(error: &Error) -> u8
 fn program<'a>(alloc: Global) -> Result<Command<'a>, AllocError>
     ensures { IfOk result (λ c. app_of c ≡ snobol4) }
 {
+    let check = Command::new(alloc, "check")
+        .about("Check a program: nothing is written where it is accepted")
+        .arg(word(alloc, "FILE", "The file that holds the program"))?;
     let ways = Command::new(alloc, "ways")
         .about("List the ways in which a pattern matches a subject")
         .arg(flag(alloc, "anchor", "Start at the subject's first byte alone"))?
@@ -60,6 +63,7 @@ fn program<'a>(alloc: Global) -> Result<Command<'a>, AllocError>
         .about("A SNOBOL4 interpreter with a resumable pattern matcher")
         .subcommand_required(true)
         .arg_required_else_help(true)
+        .subcommand(check)?
         .subcommand(ways)?;
     Ok(root)
 }
@@ -106,9 +110,19 @@ fn job_of<'a>(matches: &ArgMatches<'a>) -> Option<Job<'a>>
 {
     let (name, found) = matches.subcommand()?;
     match name {
+        "check" => check_of(found),
         "ways" => ways_of(found),
         _ => None,
     }
+}
+
+/// The job of the matches of the command `check`, None where they hold none.
+fn check_of<'a>(found: &ArgMatches<'a>) -> Option<Job<'a>>
+    ensures some { IfSome result (IsJob (codes "check") (rows_of (found_of found.now))) }
+    ensures none { IfNone result ((file : List ℕ) → IsCheck (rows_of (found_of found.now)) file → ⊥) }
+{
+    let file = found.get_str("FILE")?;
+    Some(Job::Check { file })
 }
 
 /// The job of the matches of the command `ways`, None where they hold none.
@@ -150,7 +164,24 @@ mod tests {
     use std::test::Fail;
 
     #[test]
-    fn accepts(rt: HostRuntime) -> Result<(), Fail> {
+    fn accepts_check(rt: HostRuntime) -> Result<(), Fail> {
+        let rows: [(&[&str], &str); 6] = [
+            (&["snobol4", "check", "f.sno"], "f.sno"),
+            (&["other name", "check", "dir/f"], "dir/f"),
+            (&["snobol4", "check", "--", "-f"], "-f"),
+            (&["snobol4", "check", "--", "--help"], "--help"),
+            (&["snobol4", "check", "-"], "-"),
+            (&["snobol4", "check", ""], ""),
+        ];
+        for (words, file) in rows {
+            let job = command(rt.alloc(), words)?;
+            assert!(rt; job == Job::Check { file }, "at {words:?}");
+        }
+        Ok(())
+    }
+
+    #[test]
+    fn accepts_ways(rt: HostRuntime) -> Result<(), Fail> {
         let plain = Job::Ways {
             anchored: false,
             steps: 1_000_000,
@@ -218,13 +249,20 @@ mod tests {
 
     #[test]
     fn refuses(rt: HostRuntime) {
-        let rows: [&[&str]; 23] = [
+        let rows: [&[&str]; 30] = [
             &["snobol4"],
             &["snobol4", "ways"],
             &["snobol4", "ways", "'A'"],
             &["snobol4", "ways", "'A'", "AB", "C"],
             &["snobol4", "way", "'A'", "AB"],
-            &["snobol4", "check", "FILE"],
+            &["snobol4", "check"],
+            &["snobol4", "check", "a", "b"],
+            &["snobol4", "check", "--anchor", "f"],
+            &["snobol4", "check", "--steps", "5", "f"],
+            &["snobol4", "check", "-f"],
+            &["snobol4", "check", "f", "--", "-g"],
+            &["snobol4", "checks", "f"],
+            &["snobol4", "--", "check", "f"],
             &["snobol4", "run", "FILE"],
             &["snobol4", "--anchor", "ways", "'A'", "AB"],
             &["snobol4", "ways", "--anchor", "--anchor", "'A'", "AB"],
@@ -260,11 +298,14 @@ mod tests {
 
     #[test]
     fn helps(rt: HostRuntime) {
-        let rows: [&[&str]; 6] = [
+        let rows: [&[&str]; 9] = [
             &["snobol4", "--help"],
             &["snobol4", "-h"],
             &["snobol4", "help"],
+            &["snobol4", "help", "check"],
             &["snobol4", "help", "ways"],
+            &["snobol4", "check", "--help"],
+            &["snobol4", "check", "-h"],
             &["snobol4", "ways", "--help"],
             &["snobol4", "ways", "-h", "--steps", "many"],
         ];
@@ -287,13 +328,44 @@ Options:
   -h, --help       Print help
 ";
 
+    const CHECK_HELP: &str = "Check a program: nothing is written where it is accepted
+
+Usage: snobol4 check <FILE>
+
+Arguments:
+  <FILE>  The file that holds the program
+
+Options:
+  -h, --help  Print help
+";
+
+    const HELP: &str = "A SNOBOL4 interpreter with a resumable pattern matcher
+
+Usage: snobol4 <COMMAND>
+
+Commands:
+  check  Check a program: nothing is written where it is accepted
+  ways   List the ways in which a pattern matches a subject
+  help   Print this message or the help of the given subcommand(s)
+
+Options:
+  -h, --help  Print help
+";
+
     #[test]
     fn shows_help(rt: HostRuntime) -> Result<(), Fail> {
-        match command(rt.alloc(), &["snobol4", "ways", "--help"]) {
-            Ok(_) => assert!(rt; false, "accepted"),
-            Err(error) => {
-                let text = format!(in rt.alloc(); "{error}")?;
-                assert_eq!(rt; text.as_str(), WAYS_HELP);
+        let rows: [(&[&str], &str); 3] = [
+            (&["snobol4", "--help"], HELP),
+            (&["snobol4", "check", "--help"], CHECK_HELP),
+            (&["snobol4", "ways", "--help"], WAYS_HELP),
+        ];
+        for (words, want) in rows {
+            match command(rt.alloc(), words) {
+                Ok(_) => assert!(rt; false, "accepted {words:?}"),
+                Err(error) => {
+                    let text = format!(in rt.alloc(); "{error}")?;
+                    assert_eq!(rt; text.as_str(), want);
+                }
             }
         }
         Ok(())

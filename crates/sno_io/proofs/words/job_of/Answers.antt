@@ -1,8 +1,10 @@
-use Rattle.std.proofs.Common.{sym}
-use Rattle.clap.specs.Words.{found_of, rows_of, subcommand_rows_of}
-use Rattle.sno_io.proofs.HeldJobs.{no_ways}
+use Rattle.sno_io.proofs.HeldJobs.{found_is, no_check, no_ways}
 use Rattle.sno_io.proofs.words.job_of.Goals as goal
+
+pub returns-in-check-clause-none : goal.returns-in-check-clause-none
+returns-in-check-clause-none c =
+    rw (found_is c.args.matches.now _ _ c.in_ok-name.ensures.name c.in_ok-name.ensures.rows, c.in-check.is) (no_check _ c.check_of.result c.check_of.ensures.none)
 
 pub returns-in-ways-clause-none : goal.returns-in-ways-clause-none
 returns-in-ways-clause-none c =
-    no_ways (subcommand_rows_of c.args.matches.now) (rows_of (found_of c.in_ok-name.found.now)) c.ways_of.result (sym c.in_ok-name.ensures.rows) c.ways_of.ensures.none
+    rw (found_is c.args.matches.now _ _ c.in_ok-name.ensures.name c.in_ok-name.ensures.rows, c.in-ways.is) (no_ways _ c.ways_of.result c.ways_of.ensures.none)
