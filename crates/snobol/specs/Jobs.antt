@@ -1,7 +1,10 @@
 -- What the program does for a job, and its status.
-use Rattle.std.specs.Prelude.{ℕ, ◌==◌, List, if◌then◌else◌}
+use Rattle.std.specs.Prelude.{◌≡◌, ◌⊎◌, ℕ, ◌==◌, List, [], Option, None, Some, if◌then◌else◌, Bor}
 use Rattle.sno_io.specs.declared.jobs.Job.{Job}
-use Rattle.sno_io.specs.declared.jobs.Job.TheVariants.{Ways}
+use Rattle.sno_io.specs.declared.jobs.Job.TheVariants.{Ways, Check}
+use Rattle.sno_text.specs.declared.error.ReadError.{ReadError}
+use Rattle.sno_text.specs.Statements.{StatementTree}
+use Rattle.sno_text.specs.Programs.{IsProgram, IsRefusedProgram}
 use Rattle.snobol.specs.declared.enumeration.WaysOutcome.{WaysOutcome}
 use Rattle.snobol.specs.declared.enumeration.WaysOutcome.TheVariants.{Done, Refused, Error, NoMemory, WriteFault}
 use Rattle.snobol.specs.Listing.{IsListing}
@@ -16,6 +19,19 @@ status_of (Error code) = error_status code
 status_of NoMemory = 6
 status_of WriteFault = 7
 
--- the job was done with this outcome, and these bytes were written
-abbrev pub IsDone : Job → WaysOutcome → List ℕ → Type 0
-IsDone (Ways anchored steps pattern subject) outcome wrote = IsListing pattern.now subject.now anchored steps outcome wrote
+-- the status, or that of refused memory
+abbrev pub IsStatus : ℕ → ℕ → Type 0
+IsStatus expected status = (status ≡ expected) ⊎ (status ≡ 6)
+
+-- accepted: 0, refused: 2, memory refused: 6
+pub data IsChecked (text : List ℕ) (status : ℕ) : Type 0 where
+  accepted : status ≡ 0 → (statements : List StatementTree) → IsProgram text statements → IsChecked text status
+  refused : IsStatus 2 status → (error : ReadError) → IsRefusedProgram text error → IsChecked text status
+  no_memory : status ≡ 6 → IsChecked text status
+
+-- the job was done with this status, where the file holds these bytes (nothing, where it can't be read), and these were written
+abbrev pub IsDone : Job → Option (Bor (List ℕ)) → ℕ → List ℕ → Type 0
+IsDone (Ways anchored steps pattern subject) file status wrote =
+    (outcome : WaysOutcome) × IsListing pattern.now subject.now anchored steps outcome wrote × IsStatus (status_of outcome) status
+IsDone (Check name) None status wrote = (wrote ≡ []) × IsStatus 3 status
+IsDone (Check name) (Some text) status wrote = (wrote ≡ []) × IsChecked text.now status

@@ -4,6 +4,7 @@
 use snobol::{Device, Job, Sink, command, perform, status_of};
 use std::alloc::Global;
 use std::env;
+use std::fs;
 use std::io::{BufWriter, ErrorKind, IsTerminal, LineWriter, Write};
 use std::process::ExitCode;
 
@@ -53,29 +54,46 @@ fn obey(rt: &HostRuntime, args: &[String]) -> u8 {
     }
 }
 
-/// Does a job on standard output, which is written through a buffer: by lines where it is a terminal.
+/// Reads the file that a job names, if it names one, and does the job.
 fn work(rt: &HostRuntime, job: &Job) -> u8 {
+    match job {
+        Job::Check { file } => match fs::read(rt, *file) {
+            Ok(text) => write_out(rt, job, Some(text.as_slice())),
+            Err(error) if error.kind() == ErrorKind::OutOfMemory => no_memory(rt),
+            Err(_) => write_out(rt, job, None),
+        },
+        Job::Ways { .. } => write_out(rt, job, None),
+    }
+}
+
+/// Does a job on standard output, which is written through a buffer: by lines where it is a terminal.
+fn write_out(rt: &HostRuntime, job: &Job, file: Option<&[u8]>) -> u8 {
     let alloc = rt.alloc();
     let stdout = rt.stdout();
     if stdout.is_terminal() {
         match LineWriter::new(alloc, stdout) {
-            Ok(writer) => finish(rt, job, writer),
+            Ok(writer) => finish(rt, job, file, writer),
             Err(_) => no_memory(rt),
         }
     } else {
         match BufWriter::new(alloc, stdout) {
-            Ok(writer) => finish(rt, job, writer),
+            Ok(writer) => finish(rt, job, file, writer),
             Err(_) => no_memory(rt),
         }
     }
 }
 
 /// Does a job, and writes out what the buffer holds before a fault is told.
-fn finish<W: Write + Drop>(rt: &HostRuntime, job: &Job, writer: W) -> u8 {
+fn finish<W: Write + Drop>(
+    rt: &HostRuntime,
+    job: &Job,
+    file: Option<&[u8]>,
+    writer: W,
+) -> u8 {
     let alloc = rt.alloc();
     let mut output = Device::new(writer);
     let mut errors = Device::new(Vec::new(alloc));
-    let status = perform(alloc, job, &mut output, &mut errors);
+    let status = perform(alloc, job, file, &mut output, &mut errors);
     if output.flush().is_err() {
         let _ = eprintln!(rt; "snobol4: write fault");
         return FAULT;
