@@ -11,3 +11,4 @@ pub mod Statements
 pub mod Pieces
 pub mod Phrases
 pub mod Programs
+pub mod Judging

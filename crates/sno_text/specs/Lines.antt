@@ -17,13 +17,17 @@ is_continuation line = (byte line 0 == 43) || (byte line 0 == 46)
 abbrev pub line_feeds : ℕ → List ℕ
 line_feeds n = replicate n 10
 
+-- the end of a line, as LFs
+abbrev pub end_feeds : List ℕ → List ℕ
+end_feeds line = line_feeds (length line - length (without_terminator line))
+
 -- A line as it stands, its end as LFs.
 abbrev pub own : List ℕ → List ℕ
-own line = without_terminator line ++ line_feeds (length line - length (without_terminator line))
+own line = without_terminator line ++ end_feeds line
 
 -- A line that continues the one before: its first character is read as one blank.
 abbrev pub continued : List ℕ → List ℕ
-continued line = 32 ∷ drop 1 (own line)
+continued line = 32 ∷ (drop 1 (without_terminator line) ++ end_feeds line)
 
 abbrev pub prepend : List ℕ → List (List ℕ) → List (List ℕ)
 prepend bytes [] = bytes ∷ []

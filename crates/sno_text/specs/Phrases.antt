@@ -9,13 +9,14 @@ use Rattle.sno_text.specs.Grammar.{IsGap}
 use Rattle.sno_text.specs.Statements.{StatementTree, CoreTree, JumpTree, Fall, HasCore, HasJump, HasEntry, IsStatement, statement_fits}
 use Rattle.sno_text.specs.Lines.{extents, line_of}
 use Rattle.sno_text.specs.Source.{Source}
-use Rattle.sno_text.specs.Pieces.{StandsCores, StandsJump}
+use Rattle.sno_text.specs.Pieces.{MeetsEnd, StandsCores, StandsJump}
+use Rattle.sno_text.specs.declared.table.Read.{Read}
 
 -- [b core] [b goto] [b], behind a label that ends at i
-pub record IsRest (s : List ℕ) (label : Option Span) (i : ℕ) (t : StatementTree) : Type 0 where
+pub record IsRest (s : List ℕ) (given : Option Span) (i : ℕ) (t : StatementTree) : Type 0 where
   pub after_core : ℕ
   pub after_jump : ℕ
-  pub label : t.label ≡ label
+  pub label : t.label ≡ given
   pub core : HasCore s i after_core t.core
   pub jump : HasJump s after_core after_jump t.jump
   pub rest : IsGap s after_jump (length s)
@@ -46,13 +47,20 @@ abbrev pub StatementOutcome : List ℕ → ℕ → List Node → List Node → O
 StatementOutcome s i old new = PhraseOutcome (IsStatement s i) (length s) i old new
 
 -- [b label] [b], behind END
-pub record IsEndRest (s : List ℕ) (label : Span) (t : StatementTree) : Type 0 where
+pub record IsEndRest (s : List ℕ) (given : Span) (t : StatementTree) : Type 0 where
   pub after_entry : ℕ
-  pub label : t.label ≡ Some label
-  pub entry : HasEntry s label.end after_entry t.entry
+  pub label : t.label ≡ Some given
+  pub entry : HasEntry s given.end after_entry t.entry
   pub rest : IsGap s after_entry (length s)
   pub core : t.core ≡ None
   pub jump : t.jump ≡ Fall
+
+-- [b label] was read, and there is no other that ends where the statement does.
+pub record FindsEntry (s : List ℕ) (i : ℕ) (f : Read (Option Span)) : Type 0 where
+  pub reads : HasEntry s i f.end f.what
+  pub only : (k : ℕ) (u : Option Span) → HasEntry s i k u → MeetsEnd s k → (k ≡ f.end) × (u ≡ f.what)
+  pub order : i ≤ f.end
+  pub within : f.end ≤ length s
 
 abbrev pub EndOutcome : List ℕ → Span → Option Phrase → Type 0
 EndOutcome s label found = (table : List Node) → PhraseOutcome (IsEndRest s label) (length s) label.end table table found

@@ -1,5 +1,5 @@
 -- What the readers of the parts of a statement give: words of private clauses only.
-use Rattle.std.specs.Prelude.{◌≡◌, ◌≢◌, ℕ, ◌+◌, ◌<◌, ◌≤◌, ◌⊎◌, Bool, true, List, [], ◌∷◌, length, Option, Some, None}
+use Rattle.std.specs.Prelude.{◌≡◌, ◌≢◌, ℕ, ◌+◌, ◌<◌, ◌≤◌, ◌⊎◌, Bool, true, ◌&&◌, List, [], ◌∷◌, length, Option, Some, None}
 use Rattle.sno_text.specs.declared.bytes.Class.TheVariants.{Blank}
 use Rattle.sno_text.specs.declared.node.Node.{Node}
 use Rattle.sno_text.specs.declared.node.Span.{Span}
@@ -12,7 +12,8 @@ use Rattle.sno_text.specs.declared.statement.Core.{Core}
 use Rattle.sno_value.specs.declared.ids.ExprId.{ExprId}
 use Rattle.sno_text.specs.Bytes.{byte, IsWholeRun}
 use Rattle.sno_text.specs.Trees.{Tree, Stands}
-use Rattle.sno_text.specs.Statements.{TargetTree, Label, Computed, JumpTree, Fall, Always, Either, CoreTree, HasObject, option_fits}
+use Rattle.sno_text.specs.Statements.{TargetTree, Label, Computed, JumpTree, Fall, Always, Either, CoreTree, HasObject, HasTargets, option_fits, target_fits, target_option_fits}
+use Rattle.sno_text.specs.declared.goto.Targets.{Targets}
 use Rattle.sno_text.specs.declared.body.Object.{Object}
 
 -- After a gap comes the end of the statement.
@@ -35,12 +36,12 @@ abbrev pub Anywhere : ℕ → Type 0
 Anywhere j = Unit {0}
 
 -- What was read stands for a tree of its kind, of which the text has no other that ends where it may.
-pub record Gives (V C : Type 0) (P : ℕ → V → Type 0) (stops : ℕ → Type 0) (stands : List Node → C → V → Type 0) (fit : V → Bool) (n i : ℕ) (old new : List Node) (f : Read C) : Type 0 where
+pub record Gives (V C : Type 0) (P : ℕ → V → Type 0) (stops : ℕ → Type 0) (standing : List Node → C → V → Type 0) (fitting : V → Bool) (n i : ℕ) (old new : List Node) (f : Read C) : Type 0 where
   pub tree : V
   pub reads : P f.end tree
   pub only : (k : ℕ) (u : V) → P k u → stops k → (k ≡ f.end) × (u ≡ tree)
-  pub stands : stands new f.what tree
-  pub fits : f.fits ≡ fit tree
+  pub stands : standing new f.what tree
+  pub fits : f.fits ≡ fitting tree
   pub order : i ≤ f.end
   pub within : f.end ≤ n
   pub room : length new + i ≤ length old + f.end
@@ -96,3 +97,12 @@ StandsObject table o pair = (o.equals ≡ pair.0) × StandsExpression table o.ob
 
 abbrev pub object_fits : Bool × Option Tree → Bool
 object_fits pair = option_fits pair.1
+
+abbrev pub HasTargetPair : List ℕ → ℕ → ℕ → ℕ → TargetTree × Option TargetTree → Type 0
+HasTargetPair s letter i j pair = HasTargets s letter i j pair.0 pair.1
+
+abbrev pub StandsTargetPair : List Node → Targets → TargetTree × Option TargetTree → Type 0
+StandsTargetPair table p pair = StandsTarget table p.first pair.0 × StandsTargets table p.second pair.1
+
+abbrev pub pair_fits : TargetTree × Option TargetTree → Bool
+pair_fits pair = target_fits pair.0 && target_option_fits pair.1

@@ -25,16 +25,19 @@ HasLargeInteger s span = (t : StatementTree) × IsStatementAt s span t × (state
 
 -- an earlier statement has its label
 abbrev pub HasDuplicate : List ℕ → List StatementTree → Span → Type 0
-HasDuplicate s before span = (t : StatementTree) × (label : Span) × IsStatementAt s span t × (t.label ≡ Some label) × HasLabelled (joined s) before (part (joined s) label)
+HasDuplicate s before span = (t : StatementTree) × (label : Span) × IsStatementAt s span t × (t.label ≡ Some label) × HasLabelled s before (part s label)
 
 -- it is END L, and L is no label of the program
 abbrev pub HasNoEntry : List ℕ → List StatementTree → Span → Type 0
 HasNoEntry s before span =
     (t : StatementTree) × (entry : Span) × IsStatementAt s span t × (t.entry ≡ Some entry)
-    × (part (joined s) entry ≢ codes "END") × (HasLabelled (joined s) before (part (joined s) entry) → ⊥)
+    × (part s entry ≢ codes "END") × (HasLabelled s before (part s entry) → ⊥)
+
+abbrev pub IsTooLargeBytes : List ℕ → Type 0
+IsTooLargeBytes bytes = (8000 < size bytes) ⊎ (is_deep 0 0 bytes ≡ true)
 
 abbrev pub IsTooLargeAt : List ℕ → Span → Type 0
-IsTooLargeAt s span = (8000 < size (part (joined s) span)) ⊎ (is_deep 0 0 (part (joined s) span) ≡ true)
+IsTooLargeAt s span = IsTooLargeBytes (part (joined s) span)
 
 -- The refusal of a statement, the statements before it being given: that of the first row that fits.
 abbrev pub IsRefusedAt : List ℕ → List StatementTree → Span → ReadError → Type 0
@@ -66,7 +69,7 @@ IsEndTree s t = (span : Span) × (t.label ≡ Some span) × (part s span ≡ cod
 pub data Begins (s : List ℕ) : List StatementTree → Type 0 where
   none : {ts : List StatementTree} → ts ≡ [] → Begins s ts
   one_more : {ts us : List StatementTree} {t : StatementTree} {span : Span} → Begins s us → slice_get (extents s) (length us) ≡ Some span → IsAcceptedAt s us span t →
-      (IsEndTree (joined s) t → ⊥) → ts ≡ us ++ t ∷ [] → Begins s ts
+      (IsEndTree s t → ⊥) → ts ≡ us ++ t ∷ [] → Begins s ts
 
 -- The text is a program with these statements, END the last.
 pub record IsProgram (s : List ℕ) (ts : List StatementTree) : Type 0 where
@@ -78,7 +81,7 @@ pub record IsProgram (s : List ℕ) (ts : List StatementTree) : Type 0 where
   pub begins : Begins s before
   pub place : slice_get (extents s) (length before) ≡ Some span
   pub accepted : IsAcceptedAt s before span last
-  pub is_end : IsEndTree (joined s) last
+  pub is_end : IsEndTree s last
 
 -- The text is refused so: it is too long, or its first statement that is refused is refused so, or no END ends it.
 pub data IsRefusedProgram (s : List ℕ) (x : ReadError) : Type 0 where

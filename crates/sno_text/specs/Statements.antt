@@ -56,11 +56,15 @@ abbrev pub HasOther : List ℕ → ℕ → ℕ → ℕ → Option TargetTree →
 HasOther s letter i j None = j ≡ i
 HasOther s letter i j (Some t) = (k : ℕ) × IsGap s i k × (byte s k ≡ letter) × IsTarget s (k + 1) j t
 
+-- target [[b] letter target]
+abbrev pub HasTargets : List ℕ → ℕ → ℕ → ℕ → TargetTree → Option TargetTree → Type 0
+HasTargets s letter i j t u = (k : ℕ) × IsTarget s i k t × HasOther s letter k j u
+
 -- branch = target | "S" target [[b] "F" target] | "F" target [[b] "S" target]
 pub data IsBranch (s : List ℕ) (i j : ℕ) (g : JumpTree) : Type 0 where
   always : {t : TargetTree} → IsTarget s i j t → g ≡ Always t → IsBranch s i j g
-  success : {k : ℕ} {t : TargetTree} {u : Option TargetTree} → byte s i ≡ 83 → IsTarget s (i + 1) k t → HasOther s 70 k j u → g ≡ Either (Some t) u → IsBranch s i j g
-  failure : {k : ℕ} {t : TargetTree} {u : Option TargetTree} → byte s i ≡ 70 → IsTarget s (i + 1) k t → HasOther s 83 k j u → g ≡ Either u (Some t) → IsBranch s i j g
+  success : {t : TargetTree} {u : Option TargetTree} → byte s i ≡ 83 → HasTargets s 70 (i + 1) j t u → g ≡ Either (Some t) u → IsBranch s i j g
+  failure : {t : TargetTree} {u : Option TargetTree} → byte s i ≡ 70 → HasTargets s 83 (i + 1) j t u → g ≡ Either u (Some t) → IsBranch s i j g
 
 -- [b goto], goto = ":" [b] branch
 abbrev pub HasJump : List ℕ → ℕ → ℕ → JumpTree → Type 0

@@ -12,7 +12,7 @@ use crate::bytes::{Class, byte_at, is_in, run_end};
 use crate::expression::{read_element, read_level};
 use crate::node::Node;
 use crate::statement::Core;
-use crate::table::Read;
+use crate::table::{Read, both};
 
 /// Whether `=` stands, and what stands behind it.
 #[derive(Clone, Copy, Debug)]
@@ -22,6 +22,7 @@ pub struct Object {
 }
 
 /// [b expr]
+#[tactic(auto, using(crate::proofs::Bodies::optional_facts))]
 fn read_optional(
     alloc: Global,
     text: &[u8],
@@ -44,6 +45,7 @@ fn read_optional(
 }
 
 /// [b "=" [b expr]]
+#[tactic(auto, using(crate::proofs::Bodies::object_facts))]
 fn read_object(
     alloc: Global,
     text: &[u8],
@@ -68,6 +70,7 @@ fn read_object(
 }
 
 /// core = element [b expr] [b "=" [b expr]]
+#[tactic(auto, using(crate::proofs::Bodies::core_facts))]
 fn read_core(
     alloc: Global,
     text: &[u8],
@@ -94,11 +97,12 @@ fn read_core(
         equals: object.what.equals,
         object: object.what.object,
     };
-    let fits = subject.fits && pattern.fits && object.fits;
+    let fits = both(both(subject.fits, pattern.fits), object.fits);
     Ok(Some(Read { what, end: object.end, fits }))
 }
 
 /// [b core]
+#[tactic(auto, using(crate::proofs::Bodies::body_facts))]
 pub fn read_body(
     alloc: Global,
     text: &[u8],

@@ -3,7 +3,7 @@ ghost use Rattle.std.specs.Prelude.{◌≡◌, ◌+◌, ◌^◌, ◌<◌, ◌≤
 ghost use Rattle.sno_text.specs.Statements.{IsLabel, IsPlace, IsTarget, HasOther, IsBranch, HasJump, TargetTree, JumpTree, target_fits, target_option_fits, jump_fits};
 ghost use Rattle.sno_text.specs.Links.{Stops};
 ghost use Rattle.sno_text.specs.Outcome.{Extends};
-ghost use Rattle.sno_text.specs.Pieces.{Outcome, MeetsEnd, StandsTarget, StandsTargets, StandsJump, Anywhere};
+ghost use Rattle.sno_text.specs.Pieces.{Outcome, MeetsEnd, StandsTarget, StandsTargets, StandsTargetPair, StandsJump, HasTargetPair, pair_fits, Anywhere};
 
 use std::alloc::{AllocError, Global};
 
@@ -11,7 +11,7 @@ use crate::bytes::{Class, byte_at, is_in, run_end};
 use crate::expression::read_element;
 use crate::node::{Node, Span};
 use crate::statement::{Jump, Target};
-use crate::table::Read;
+use crate::table::{Read, both};
 
 /// label = (letter | digit) {letter | digit | "." | "_"}
 pub fn read_label(text: &[u8], from: usize) -> Option<Span>
@@ -29,6 +29,7 @@ pub fn read_label(text: &[u8], from: usize) -> Option<Span>
 }
 
 /// place = label | "$" element
+#[tactic(auto, using(crate::proofs::Targets::place_facts))]
 fn read_place(
     alloc: Global,
     text: &[u8],
@@ -54,6 +55,7 @@ fn read_place(
 }
 
 /// target = "(" [b] place [b] ")"
+#[tactic(auto, using(crate::proofs::Targets::target_facts))]
 pub fn read_target(
     alloc: Global,
     text: &[u8],
@@ -80,6 +82,7 @@ pub fn read_target(
 }
 
 /// [[b] letter target]
+#[tactic(auto, using(crate::proofs::Targets::other_facts))]
 fn read_other(
     alloc: Global,
     text: &[u8],
@@ -103,7 +106,41 @@ fn read_other(
     Ok(Some(Read { what: Some(found.what), end: found.end, fits: found.fits }))
 }
 
+/// A target, and the other one behind it.
+#[derive(Clone, Copy, Debug)]
+pub struct Targets {
+    pub first: Target,
+    pub second: Option<Target>,
+}
+
+/// target [[b] letter target]
+#[tactic(auto, using(crate::proofs::Jumps::targets_facts))]
+fn read_targets(
+    alloc: Global,
+    text: &[u8],
+    nodes: &mut Vec<Node>,
+    letter: u8,
+    from: usize,
+) -> Result<Option<Read<Targets>>, AllocError>
+    requires letter { (letter ≡ 70) ⊎ (letter ≡ 83) }
+    requires within { from ≤ length text.now }
+    requires room { length nodes.old.items + length text.now < from + 2 ^ 32 }
+    ensures read { IfOk result (Outcome (TargetTree × Option TargetTree) Targets (HasTargetPair text.now letter from) (MeetsEnd text.now) StandsTargetPair pair_fits (length text.now) from nodes.old.items nodes.new.items) }
+    ensures extends { Extends (length text.now) nodes.old.items nodes.new.items }
+{
+    let Some(first) = read_target(alloc, text, nodes, from)? else {
+        return Ok(None);
+    };
+    let Some(second) = read_other(alloc, text, nodes, letter, first.end)? else {
+        return Ok(None);
+    };
+    let what = Targets { first: first.what, second: second.what };
+    let fits = both(first.fits, second.fits);
+    Ok(Some(Read { what, end: second.end, fits }))
+}
+
 /// branch = target | "S" target [[b] "F" target] | "F" target [[b] "S" target]
+#[tactic(auto, using(crate::proofs::Jumps::branch_facts))]
 fn read_branch(
     alloc: Global,
     text: &[u8],
@@ -116,28 +153,28 @@ fn read_branch(
     ensures extends { Extends (length text.now) nodes.old.items nodes.new.items }
 {
     let letter = byte_at(text, from);
-    if letter != b'S' && letter != b'F' {
-        let Some(found) = read_target(alloc, text, nodes, from)? else {
+    if letter == b'S' {
+        let Some(found) = read_targets(alloc, text, nodes, b'F', from + 1)? else {
             return Ok(None);
         };
-        return Ok(Some(Read { what: Jump::Always(found.what), end: found.end, fits: found.fits }));
+        let what = Jump::Either(Some(found.what.first), found.what.second);
+        return Ok(Some(Read { what, end: found.end, fits: found.fits }));
     }
-    let Some(first) = read_target(alloc, text, nodes, from + 1)? else {
+    if letter == b'F' {
+        let Some(found) = read_targets(alloc, text, nodes, b'S', from + 1)? else {
+            return Ok(None);
+        };
+        let what = Jump::Either(found.what.second, Some(found.what.first));
+        return Ok(Some(Read { what, end: found.end, fits: found.fits }));
+    }
+    let Some(found) = read_target(alloc, text, nodes, from)? else {
         return Ok(None);
     };
-    let other = if letter == b'S' { b'F' } else { b'S' };
-    let Some(second) = read_other(alloc, text, nodes, other, first.end)? else {
-        return Ok(None);
-    };
-    let what = if letter == b'S' {
-        Jump::Either(Some(first.what), second.what)
-    } else {
-        Jump::Either(second.what, Some(first.what))
-    };
-    Ok(Some(Read { what, end: second.end, fits: first.fits && second.fits }))
+    Ok(Some(Read { what: Jump::Always(found.what), end: found.end, fits: found.fits }))
 }
 
 /// [b goto], goto = ":" [b] branch
+#[tactic(auto, using(crate::proofs::Jumps::jump_facts))]
 pub fn read_jump(
     alloc: Global,
     text: &[u8],

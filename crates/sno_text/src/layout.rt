@@ -1,10 +1,11 @@
 //! The lines of a program: they are joined, and cut into statements.
-ghost use Rattle.std.specs.Prelude.{◌≡◌, ◌+◌, ◌<◌, ◌≤◌, ◌^◌, ◌++◌, length, map, OnOk, IfOk};
+ghost use Rattle.std.specs.Prelude.{◌≡◌, ◌+◌, ◌<◌, ◌≤◌, ◌^◌, ◌++◌, length, true, map, OnOk, IfOk};
 ghost use Rattle.std.specs.List.{list_all};
 ghost use Rattle.bstr.specs.Text.{without_terminator};
 ghost use Rattle.sno_text.specs.Bytes.{is_blank};
 ghost use Rattle.sno_text.specs.Lines as spec;
-ghost use Rattle.sno_text.specs.Layouts.{kind_of, read_line, part_from};
+ghost use Rattle.sno_text.specs.Lines.{is_continuation};
+ghost use Rattle.sno_text.specs.Layouts.{kind_of, read_line, part_from, InOrder};
 
 use bstr::ByteSlice;
 use std::alloc::{AllocError, Global};
@@ -21,7 +22,7 @@ pub struct Layout {
 }
 
 /// What a line is.
-#[derive(Clone, Copy, Debug, PartialEq, Eq)]
+#[derive(Clone, Copy, Debug)]
 pub enum LineKind {
     /// A comment, a control line or a line of blanks.
     Skipped,
@@ -46,6 +47,7 @@ fn content(line: &[u8]) -> &[u8]
 }
 
 /// Whether all bytes are blanks.
+#[tactic(auto, using(crate::proofs::Layouts::layout_facts))]
 fn is_all_blank(bytes: &[u8]) -> bool
     ensures { result ≡ list_all is_blank bytes.now }
 {
@@ -72,6 +74,7 @@ fn line_kind(begun: bool, content: &[u8]) -> LineKind
 }
 
 /// Appends LFs.
+#[tactic(auto, using(crate::proofs::Layouts::layout_facts))]
 fn push_line_feeds(joined: &mut Vec<u8>, count: usize) -> Result<(), AllocError>
     ensures { OnOk result (joined.new.items ≡ joined.old.items ++ spec.line_feeds count) }
 {
@@ -82,7 +85,9 @@ fn push_line_feeds(joined: &mut Vec<u8>, count: usize) -> Result<(), AllocError>
 }
 
 /// Appends a line as it is read.
+#[tactic(auto, using(crate::proofs::Layouts::line_facts))]
 fn push_line(joined: &mut Vec<u8>, kind: LineKind, line: &[u8]) -> Result<(), AllocError>
+    requires { kind ≡ LineKind.Continuation → is_continuation (without_terminator line.now) ≡ true }
     ensures { OnOk result (joined.new.items ≡ joined.old.items ++ read_line kind line.now) }
 {
     let content = content(line);
@@ -138,10 +143,13 @@ fn push_statements(extents: &mut Vec<Span>, card: &[u8], at: usize) -> Result<()
 }
 
 /// Joins the lines of a text, and tells where its statements stand.
+#[tactic(auto, using(crate::proofs::Layouts::line_facts))]
 pub fn lay_out(alloc: Global, text: &[u8]) -> Result<Layout, AllocError>
     requires { length text.now ≤ 4000000 }
     ensures joined { IfOk result (λ l. l.joined.items ≡ spec.joined text.now) }
     ensures extents { IfOk result (λ l. l.extents.items ≡ spec.extents text.now) }
+    ensures length { IfOk result (λ l. length l.joined.items ≡ length text.now) }
+    ensures order { IfOk result (λ l. InOrder 0 (length text.now) l.extents.items) }
 {
     let mut joined = Vec::new(alloc);
     let mut extents = Vec::new(alloc);
@@ -149,7 +157,7 @@ pub fn lay_out(alloc: Global, text: &[u8]) -> Result<Layout, AllocError>
     let mut start = 0;
     for line in text.lines_with_terminator() {
         let kind = line_kind(begun, content(line));
-        if kind == LineKind::Card {
+        if let LineKind::Card = kind {
             push_statements(&mut extents, &joined.as_slice()[start..], start)?;
             start = joined.len();
             begun = true;

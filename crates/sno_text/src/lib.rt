@@ -18,9 +18,10 @@ mod scan;
 mod statement;
 mod table;
 mod token;
+mod whole;
 
 pub use error::ReadError;
-pub use judge::read_program;
+pub use whole::read_program;
 pub use node::{Node, Operator, Span, UnaryOperator};
 pub use program::Program;
 pub use reader::read_expression;

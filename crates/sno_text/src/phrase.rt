@@ -1,9 +1,8 @@
 //! Whole statements.
-ghost use Rattle.std.specs.Prelude.{◌≡◌, ◌≢◌, ◌+◌, ◌^◌, ◌<◌, ◌≤◌, ℕ, length, Some, None, Option, IfOk, codes, slice_range};
-ghost use Rattle.sno_text.specs.Bytes.{byte};
-ghost use Rattle.sno_text.specs.Statements.{HasLabel};
+ghost use Rattle.std.specs.Prelude.{◌≡◌, ◌≢◌, ◌+◌, ◌^◌, ◌<◌, ◌≤◌, ℕ, length, true, false, Some, None, IfOk};
+ghost use Rattle.sno_text.specs.Lines.{part};
 ghost use Rattle.sno_text.specs.Outcome.{Extends};
-ghost use Rattle.sno_text.specs.Phrases.{PlainOutcome, EndOutcome, StatementOutcome};
+ghost use Rattle.sno_text.specs.Phrases.{PlainOutcome, EndOutcome, StatementOutcome, FindsEntry};
 
 use std::alloc::{AllocError, Global};
 
@@ -12,6 +11,7 @@ use crate::bytes::{Class, run_end};
 use crate::goto::{read_jump, read_label};
 use crate::node::{Node, Span};
 use crate::statement::{Core, Jump};
+use crate::table::{Read, both};
 
 /// What a statement was read as.
 #[derive(Clone, Copy, Debug)]
@@ -24,7 +24,29 @@ pub struct Phrase {
     pub fits: bool,
 }
 
+/// Whether a token has this text.
+pub fn is_name(text: &[u8], span: Span, name: &[u8]) -> bool
+    requires order { span.start ≤ span.end }
+    requires within { span.end ≤ length text.now }
+    ensures same { result ≡ true → part text.now span ≡ name.now }
+    ensures other { result ≡ false → part text.now span ≢ name.now }
+{
+    &text[span.start..span.end] == name
+}
+
+/// Whether nothing stands in a statement.
+fn is_nothing(label: Option<Span>, core: Option<Core>, jump: Jump) -> bool
+    ensures nothing { result ≡ true → (label ≡ None) × (core ≡ None) × (jump ≡ Jump.Fall) }
+    ensures some { result ≡ false → label ≡ None → core ≡ None → jump ≢ Jump.Fall }
+{
+    if label.is_some() || core.is_some() {
+        return false;
+    }
+    matches!(jump, Jump::Fall)
+}
+
 /// [b core] [b goto] [b], behind [label]
+#[tactic(auto, using(crate::proofs::Phrases::plain_facts))]
 fn read_plain(
     alloc: Global,
     text: &[u8],
@@ -46,31 +68,44 @@ fn read_plain(
     if run_end(text, Class::Blank, jump.end) != text.len() {
         return Ok(None);
     }
-    if label.is_none() && body.what.is_none() && matches!(jump.what, Jump::Fall) {
+    if is_nothing(label, body.what, jump.what) {
         return Ok(None);
     }
-    let fits = body.fits && jump.fits;
+    let fits = both(body.fits, jump.fits);
     Ok(Some(Phrase { label, core: body.what, jump: jump.what, entry: None, fits }))
 }
 
+/// [b label]
+#[tactic(auto, using(crate::proofs::Phrases::entry_facts))]
+fn read_entry(text: &[u8], from: usize) -> Read<Option<Span>>
+    requires { from ≤ length text.now }
+    ensures { FindsEntry text.now from result }
+{
+    let at = run_end(text, Class::Blank, from);
+    if at == from {
+        return Read { what: None, end: from, fits: true };
+    }
+    match read_label(text, at) {
+        Some(span) => Read { what: Some(span), end: span.end, fits: true },
+        None => Read { what: None, end: from, fits: true },
+    }
+}
+
 /// [b label] [b], behind "END"
+#[tactic(auto, using(crate::proofs::Phrases::end_facts))]
 fn read_end(text: &[u8], label: Span) -> Option<Phrase>
     requires { label.end ≤ length text.now }
     ensures { EndOutcome text.now label result }
 {
-    let at = run_end(text, Class::Blank, label.end);
-    let entry = if at == label.end { None } else { read_label(text, at) };
-    let end = match entry {
-        Some(span) => span.end,
-        None => label.end,
-    };
-    if run_end(text, Class::Blank, end) != text.len() {
+    let entry = read_entry(text, label.end);
+    if run_end(text, Class::Blank, entry.end) != text.len() {
         return None;
     }
-    Some(Phrase { label: Some(label), core: None, jump: Jump::Fall, entry, fits: true })
+    Some(Phrase { label: Some(label), core: None, jump: Jump::Fall, entry: entry.what, fits: true })
 }
 
 /// statement = [label] [b core] [b goto] [b] | "END" [b label] [b]
+#[tactic(auto, using(crate::proofs::Phrases::statement_facts))]
 pub fn read_statement(
     alloc: Global,
     text: &[u8],
@@ -83,14 +118,18 @@ pub fn read_statement(
     ensures extends { Extends (length text.now) nodes.old.items nodes.new.items }
 {
     let Some(label) = read_label(text, from) else {
-        return read_plain(alloc, text, nodes, None, from);
+        let found = read_plain(alloc, text, nodes, None, from)?;
+        return Ok(found);
     };
-    let name = &text[label.start..label.end];
-    if name == b"END".as_slice() {
+    if is_name(text, label, b"END") {
         return Ok(read_end(text, label));
     }
-    if name == b"RETURN".as_slice() || name == b"FRETURN".as_slice() {
+    if is_name(text, label, b"RETURN") {
         return Ok(None);
     }
-    read_plain(alloc, text, nodes, Some(label), label.end)
+    if is_name(text, label, b"FRETURN") {
+        return Ok(None);
+    }
+    let found = read_plain(alloc, text, nodes, Some(label), label.end)?;
+    Ok(found)
 }

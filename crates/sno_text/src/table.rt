@@ -89,3 +89,10 @@ pub fn push_applied(
         push_node(nodes, Node::Item(span, ids))
     }
 }
+
+/// Whether both are true.
+pub fn both(first: bool, second: bool) -> bool
+    ensures { result ≡ (first && second) }
+{
+    first && second
+}
