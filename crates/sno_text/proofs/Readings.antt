@@ -1,6 +1,6 @@
 -- The statements of a program are read in their order.
 use Rattle.std.proofs.Common.{◌≡◌, ◌≢◌, ℕ, zero, suc, ◌+◌, ◌-◌, ◌<◌, ◌≤◌, ◌⊎◌, ◌==◌, inl, inr, Bool, true, false, List, [], ◌∷◌, ◌++◌, length, take, drop, arith, refl, sym, ◌∙◌, ap, subst, Some, None, Option, slice_get, codes, is_some}
-use Rattle.std.proofs.Common.{Result, Ok, Err, IsErrAnd, IfErr}
+use Rattle.std.proofs.Common.{Result, Ok, Err, IsErrAnd, IfErr, IfSome, IfNone, ◌^◌}
 use Rattle.std.proofs.lemmas.Bool.{cases_lt}
 use Rattle.std.proofs.lemmas.Option.{slice_get_within, slice_get_cases}
 use Rattle.std.specs.declared.vec.Vec.{Vec}
@@ -236,3 +236,19 @@ running_refused s i count place nodes sts es span e r here small many (inr h) =
 pub carried : {A : Type 0} (r : Result A ReadError) (e : ReadError) (P : ReadError → Type 0) → IsErrAnd r (λ x. x ≡ e) → P e → IfErr r P
 carried (Ok a) e P h p = tt
 carried (Err x) e P h p = subst P (sym h) p
+
+-- the parts of an expression alone
+pub expression_whole : (s text : List ℕ) (nodes : List Node) (sts : List Statement) (es : Entries) → text ≡ s → Extends (length s) [] nodes → length nodes < 2 ^ 32 → sts ≡ [] → es ≡ [] → IsWhole text nodes sts es
+expression_whole s text nodes sts es e x h a b = rw (e, a, b) (record {
+  count = h; table = whole_table (length s) nodes x; sound = λ k st g. absurd (get_none k st g);
+  index = (tabled_first s 0).index
+})
+
+-- the look-up of a label
+pub label_found : (s : List ℕ) (sts : List Statement) (es : Entries) (name : List ℕ) (o : Option ℕ) → o ≡ number_of es name → IsIndex s sts es → IfSome o (λ n. IsLabelled s sts name n)
+label_found s sts es name None e x = tt
+label_found s sts es name (Some n) e x = x.sound name n (sym e)
+
+pub label_missing : (s : List ℕ) (sts : List Statement) (es : Entries) (name : List ℕ) (o : Option ℕ) → o ≡ number_of es name → IsIndex s sts es → IfNone o ((n : ℕ) → IsLabelled s sts name n → ⊥)
+label_missing s sts es name None e x = λ n l. let bad : None ≡ Some n = e ∙ x.complete name n l in cc
+label_missing s sts es name (Some n) e x = tt
