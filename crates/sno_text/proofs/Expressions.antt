@@ -46,7 +46,7 @@ accepted s k l old new f a c g d h e one b = (
   d.stands,
 )
 
-not_large : (s : List ℕ) → length s ≤ 8000 → is_deep 0 0 s ≡ false → IsTooLarge s → ⊥
+pub not_large : (s : List ℕ) → length s ≤ 8000 → is_deep 0 0 s ≡ false → IsTooLarge s → ⊥
 not_large s h e (inl f) = omega arith
 not_large s h e (inr f) = cc
 

@@ -299,7 +299,7 @@ inner_none s i k g f k' m' l' t' g' r h' ends =
     let e : k' ≡ k = run_end_unique Blank s i k' k (gap_whole s i k' g' (start_not_blank' s k' start)) g in
     f.none m' t' (subst (λ x. Reads s (Level 0) x m' t') e r) (gap_stops s 0 m' l' h' ends)
 
-end_byte_bracket : (b : ℕ) → b ≡ 41 → IsEndByte b
+pub end_byte_bracket : (b : ℕ) → b ≡ 41 → IsEndByte b
 end_byte_bracket b e = end_byte_shut b (inl e)
 
 -- a group

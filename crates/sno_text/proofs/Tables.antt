@@ -59,6 +59,9 @@ pub extends_none : (n : ℕ) (old new : List Node) → new ≡ old → Extends n
 extends_none n old new e = extended (grown_none old new e)
     (λ id node h g. let b = slice_get_within new id node g in let f : length new ≡ length old = ap length e in absurd (omega arith))
 
+pub extends_same : (n : ℕ) (old : List Node) → Extends n old old
+extends_same n old = extends_none n old old refl
+
 pub extends_push : (n : ℕ) (old new : List Node) (node : Node) → new ≡ old ++ node ∷ [] → IsSound n (length old) node → Extends n old new
 extends_push n old new node e f = extended (grown_push old new node e)
     (λ id other h g.

@@ -5,3 +5,10 @@ pub mod Refusals
 pub mod Source
 pub mod Links
 pub mod Outcome
+pub mod Lines
+pub mod Layouts
+pub mod Statements
+pub mod Pieces
+pub mod Phrases
+pub mod Programs
+pub mod Judging

@@ -1,5 +1,17 @@
--- What contracts see of a program: its text and its table of nodes.
-use Rattle.std.specs.Prelude.{◌≡◌, ◌<◌, ◌≤◌, ℕ, List, Some, slice_get}
+-- What contracts see of a program: its text, its table of nodes and its statements.
+use Rattle.std.specs.Prelude.{◌≡◌, ◌<◌, ◌≤◌, ◌+◌, ◌^◌, ℕ, List, length, Option, Some, None, slice_get, slice_range}
+use Rattle.std.specs.Map.{lookup}
+use Rattle.std.specs.Ordering.{is_eq, nat_cmp}
+use Rattle.std.specs.Cmp.Lexicographic.{slice_cmp}
+use Rattle.std.specs.declared.vec.Vec.{Vec}
+use Rattle.std.specs.declared.alloc.Global.{Global}
+use Rattle.sno_text.specs.declared.statement.Statement.{Statement}
+use Rattle.sno_text.specs.declared.statement.Core.{Core}
+use Rattle.sno_text.specs.declared.statement.Jump.{Jump}
+use Rattle.sno_text.specs.declared.statement.Jump.TheVariants.{Fall, Always, Either}
+use Rattle.sno_text.specs.declared.statement.Target.{Target}
+use Rattle.sno_text.specs.declared.statement.Target.TheVariants as targets
+use Rattle.sno_value.specs.declared.ids.ExprId.{ExprId}
 use Rattle.std.specs.List.{AllByRecursion}
 use Rattle.sno_text.specs.declared.node.Node.{Node}
 use Rattle.sno_text.specs.declared.node.Node.TheVariants.{Variable, Integer, Literal, Keyword, Unary, Binary, Call, Item}
@@ -8,6 +20,7 @@ use Rattle.sno_text.specs.declared.node.Span.{Span}
 pub record Source : Type 0 where
   pub text : List ℕ
   pub nodes : List Node
+  pub statements : List Statement
 
 -- The operands of a node have smaller numbers than n.
 abbrev pub OperandsBelow : Node → ℕ → Type 0
@@ -39,3 +52,59 @@ SpansWithin (Item span arguments) n = IsWithin span n
 pub record IsTable (n : ℕ) (nodes : List Node) : Type 0 where
   pub operands : (id : ℕ) (node : Node) → slice_get nodes id ≡ Some node → OperandsBelow node id
   pub spans : (id : ℕ) (node : Node) → slice_get nodes id ≡ Some node → SpansWithin node n
+
+-- Where it is there, a span lies in a text of length n.
+abbrev pub IsOptionWithin : Option Span → ℕ → Type 0
+IsOptionWithin None n = Unit {0}
+IsOptionWithin (Some span) n = IsWithin span n
+
+-- Where it is there, a number is of a table of m nodes.
+abbrev pub IsOptionBelow : Option ExprId → ℕ → Type 0
+IsOptionBelow None m = Unit {0}
+IsOptionBelow (Some id) m = id.0 < m
+
+abbrev pub IsTargetOf : ℕ → ℕ → Target → Type 0
+IsTargetOf n m (targets.Label span) = IsWithin span n
+IsTargetOf n m (targets.Computed id) = id.0 < m
+
+abbrev pub IsTargetOptionOf : ℕ → ℕ → Option Target → Type 0
+IsTargetOptionOf n m None = Unit {0}
+IsTargetOptionOf n m (Some t) = IsTargetOf n m t
+
+abbrev pub IsJumpOf : ℕ → ℕ → Jump → Type 0
+IsJumpOf n m Fall = Unit {0}
+IsJumpOf n m (Always t) = IsTargetOf n m t
+IsJumpOf n m (Either t u) = IsTargetOptionOf n m t × IsTargetOptionOf n m u
+
+abbrev pub IsCoreOf : ℕ → Option Core → Type 0
+IsCoreOf m None = Unit {0}
+IsCoreOf m (Some c) = (c.subject.0 < m) × IsOptionBelow c.pattern m × IsOptionBelow c.object m
+
+-- The spans of a statement lie in a text of length n, and its expressions are of a table of m nodes.
+pub record IsStatementOf (n m : ℕ) (st : Statement) : Type 0 where
+  pub label : IsOptionWithin st.label n
+  pub core : IsCoreOf m st.core
+  pub jump : IsJumpOf n m st.jump
+  pub entry : IsOptionWithin st.entry n
+
+-- Statement n, counted from 1, has this label.
+abbrev pub IsLabelled : List ℕ → List Statement → List ℕ → ℕ → Type 0
+IsLabelled text statements name n =
+    (k : ℕ) × (st : Statement) × (span : Span) × (n ≡ k + 1) × (slice_get statements k ≡ Some st) × (st.label ≡ Some span)
+    × (slice_range text span.start span.end ≡ name)
+
+-- the number at a label among the entries of an index
+abbrev pub number_of : List (Vec ℕ Global × ℕ) → List ℕ → Option ℕ
+number_of entries name = lookup (λ k. is_eq (slice_cmp nat_cmp name k.items)) entries
+
+-- The entries are the labels of the statements with their numbers.
+pub record IsIndex (text : List ℕ) (statements : List Statement) (entries : List (Vec ℕ Global × ℕ)) : Type 0 where
+  pub sound : (name : List ℕ) (n : ℕ) → number_of entries name ≡ Some n → IsLabelled text statements name n
+  pub complete : (name : List ℕ) (n : ℕ) → IsLabelled text statements name n → number_of entries name ≡ Some n
+
+-- What is true of the parts of every program.
+pub record IsWhole (text : List ℕ) (nodes : List Node) (statements : List Statement) (entries : List (Vec ℕ Global × ℕ)) : Type 0 where
+  pub count : length nodes < 2 ^ 32
+  pub table : IsTable (length text) nodes
+  pub sound : (k : ℕ) (st : Statement) → slice_get statements k ≡ Some st → IsStatementOf (length text) (length nodes) st
+  pub index : IsIndex text statements entries

@@ -2,21 +2,30 @@
 //! with the line and the reason.
 #![tactic(auto)]
 
+mod body;
 mod bytes;
 mod error;
 mod expression;
+mod goto;
+mod judge;
+mod layout;
 mod node;
 mod operator;
+mod phrase;
 mod program;
 mod reader;
 mod scan;
+mod statement;
 mod table;
 mod token;
+mod whole;
 
 pub use error::ReadError;
+pub use whole::read_program;
 pub use node::{Node, Operator, Span, UnaryOperator};
 pub use program::Program;
 pub use reader::read_expression;
+pub use statement::{Core, Jump, Statement, Target};
 
 #[cfg(test)]
 mod tests;

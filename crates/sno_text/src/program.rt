@@ -1,39 +1,48 @@
 //! What the reader gives.
-ghost use Rattle.std.specs.Prelude.{◌≡◌, ◌≤◌, ◌<◌, ◌^◌, length, Some, slice_get, slice_range};
-ghost use Rattle.sno_text.specs.Source.{IsTable, OperandsBelow, SpansWithin};
+ghost use Rattle.std.specs.Prelude.{◌≡◌, ◌≤◌, ◌<◌, ◌-◌, ◌^◌, ◌==◌, ℕ, length, None, Some, IfSome, IfNone, if◌then◌else◌, option_copied, slice_get, slice_range};
+ghost use Rattle.sno_text.specs.Source.{IsTable, OperandsBelow, SpansWithin, IsStatementOf, IsLabelled, IsWhole};
 
-use crate::node::{Node, Span};
 use sno_value::ExprId;
+use std::collections::BTreeMap;
 use std::marker::Model;
 
-/// A text that was read, and the nodes of its expressions, numbered from 0. The operands of a node have smaller numbers
-/// than it, and its spans lie in the text.
+use crate::node::{Node, Span};
+use crate::statement::Statement;
+
+/// A text that was read: the nodes of its expressions, numbered from 0, and its statements, numbered from 1. The
+/// operands of a node have smaller numbers than it, and all spans lie in the text.
 #[derive(Drop)]
 pub struct Program {
     text: Vec<u8>,
     nodes: Vec<Node>,
+    statements: Vec<Statement>,
+    labels: BTreeMap<Vec<u8>, u32>,
 }
 
 impl Model for Program {
-    ghost use Rattle.std.specs.Prelude.{length, ◌<◌, ◌^◌};
-    ghost use Rattle.sno_text.specs.Source.{Source, IsTable};
+    ghost use Rattle.sno_text.specs.Source.{Source, IsWhole};
 
     ghost Value = { Source };
 
-    ghost view = { λ p. record { text = p.text.items; nodes = p.nodes.items } };
+    ghost view = { λ p. record { text = p.text.items; nodes = p.nodes.items; statements = p.statements.items } };
 
-    ghost invariant = { λ p. (length p.nodes.items < 2 ^ 32) × IsTable (length p.text.items) p.nodes.items };
+    ghost invariant = { λ p. IsWhole p.text.items p.nodes.items p.statements.items p.labels.entries };
 }
 
 impl Program {
-    /// A program of a text and its table of nodes.
-    pub(crate) fn new(text: Vec<u8>, nodes: Vec<Node>) -> Program
-        requires count { length nodes.items < 2 ^ 32 }
-        requires table { IsTable (length text.items) nodes.items }
+    /// A program of its parts, where `labels` has the numbers of the statements by their labels.
+    pub(crate) fn new(
+        text: Vec<u8>,
+        nodes: Vec<Node>,
+        statements: Vec<Statement>,
+        labels: BTreeMap<Vec<u8>, u32>,
+    ) -> Program
+        requires { IsWhole text.items nodes.items statements.items labels.entries }
         ensures text { result.text ≡ text.items }
         ensures nodes { result.nodes ≡ nodes.items }
+        ensures statements { result.statements ≡ statements.items }
     {
-        Program { text, nodes }
+        Program { text, nodes, statements, labels }
     }
 
     /// How many nodes there are.
@@ -61,5 +70,24 @@ impl Program {
         ensures { result.now ≡ slice_range self.now.text span.start span.end }
     {
         &self.text.as_slice()[span.start..span.end]
+    }
+
+    /// The statement with this number, from 1; None where there are fewer, and at 0.
+    pub fn statement(&self, number: u32) -> Option<&Statement>
+        ensures statement { option_copied result ≡ (if number == 0 then None else slice_get self.now.statements (number - 1)) }
+        ensures sound { IfSome result (λ st. IsStatementOf (length self.now.text) (length self.now.nodes) st.now) }
+    {
+        if number == 0 {
+            return None;
+        }
+        self.statements.get(number as usize - 1)
+    }
+
+    /// The number of the statement with this label, END among them; None where no statement has it.
+    pub fn label(&self, name: &[u8]) -> Option<u32>
+        ensures found { IfSome result (λ n. IsLabelled self.now.text self.now.statements name.now n) }
+        ensures none { IfNone result ((n : ℕ) → IsLabelled self.now.text self.now.statements name.now n → ⊥) }
+    {
+        self.labels.get(name).copied()
     }
 }

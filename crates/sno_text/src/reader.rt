@@ -1,20 +1,21 @@
-//! The reader of a whole text.
-ghost use Rattle.std.specs.Prelude.{◌≡◌, ◌<◌, true, false, Contains, length, IfOk, IfErr};
-ghost use Rattle.sno_text.specs.Bytes.{byte};
+//! The readers of a whole text.
+ghost use Rattle.std.specs.Prelude.{◌≡◌, ◌<◌, ◌≤◌, ◌^◌, [], true, false, ℕ, List, Contains, length, IfOk, IfErr};
 ghost use Rattle.sno_text.specs.Source.{IsTable};
 ghost use Rattle.sno_text.specs.Trees.{Tree, Stands};
 ghost use Rattle.sno_text.specs.Refusals.{IsAccepted, IsRefused};
+
+use sno_value::ExprId;
+use std::alloc::Global;
+use std::collections::BTreeMap;
 
 use crate::bytes::{Class, run_end};
 use crate::error::ReadError;
 use crate::expression::read_level;
 use crate::program::Program;
 use crate::scan::{has_open_literal, nests_deep};
-use sno_value::ExprId;
-use std::alloc::Global;
 
 /// The most bytes of a statement.
-const LONGEST: usize = 8000;
+pub const LONGEST: usize = 8000;
 
 /// Whether an LF stands in the text.
 fn has_line_end(text: &[u8]) -> bool
@@ -41,6 +42,7 @@ pub fn read_expression(alloc: Global, text: &[u8]) -> Result<(Program, ExprId), 
     ensures source { IfOk result (λ r. r.0.text ≡ text.now) }
     ensures number { IfOk result (λ r. r.1.0 < length r.0.nodes) }
     ensures table { IfOk result (λ r. IsTable (length r.0.text) r.0.nodes) }
+    ensures statements { IfOk result (λ r. r.0.statements ≡ []) }
     ensures refused { IfErr result (λ e. IsRefused text.now e) }
 {
     if has_open_literal(text) {
@@ -65,5 +67,6 @@ pub fn read_expression(alloc: Global, text: &[u8]) -> Result<(Program, ExprId), 
         return Err(ReadError::Syntax { line: 1, code: 2 });
     }
     let text = text.to_vec(alloc)?;
-    Ok((Program::new(text, nodes), found.id))
+    let program = Program::new(text, nodes, Vec::new(alloc), BTreeMap::new(alloc));
+    Ok((program, found.id))
 }

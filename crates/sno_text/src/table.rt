@@ -28,6 +28,16 @@ pub struct FoundList {
     pub fits: bool,
 }
 
+/// What a part of a statement was read as.
+#[derive(Clone, Copy, Debug)]
+pub struct Read<T> {
+    pub what: T,
+    /// Where it ends.
+    pub end: usize,
+    /// Whether each integer is in range.
+    pub fits: bool,
+}
+
 /// Appends a node.
 pub fn push_node(nodes: &mut Vec<Node>, node: Node) -> Result<ExprId, AllocError>
     requires { length nodes.old.items < 2 ^ 32 }
@@ -78,4 +88,11 @@ pub fn push_applied(
     } else {
         push_node(nodes, Node::Item(span, ids))
     }
+}
+
+/// Whether both are true.
+pub fn both(first: bool, second: bool) -> bool
+    ensures { result ≡ (first && second) }
+{
+    first && second
 }

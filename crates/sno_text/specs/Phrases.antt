@@ -1,0 +1,80 @@
+-- What the readers of whole statements give: words of private clauses, and what a statement of a program stands for.
+use Rattle.std.specs.Prelude.{◌≡◌, ◌≢◌, ℕ, ◌+◌, ◌<◌, ◌≤◌, Bool, true, List, [], ◌∷◌, length, Option, Some, None, codes, slice_get}
+use Rattle.sno_text.specs.declared.node.Node.{Node}
+use Rattle.sno_text.specs.declared.node.Span.{Span}
+use Rattle.sno_text.specs.declared.phrase.Phrase.{Phrase}
+use Rattle.sno_text.specs.declared.statement.Statement.{Statement}
+use Rattle.sno_text.specs.Bytes.{byte}
+use Rattle.sno_text.specs.Grammar.{IsGap}
+use Rattle.sno_text.specs.Statements.{StatementTree, CoreTree, JumpTree, Fall, HasCore, HasJump, HasEntry, IsStatement, statement_fits}
+use Rattle.sno_text.specs.Lines.{extents, line_of}
+use Rattle.sno_text.specs.Source.{Source}
+use Rattle.sno_text.specs.Pieces.{MeetsEnd, StandsCores, StandsJump}
+use Rattle.sno_text.specs.declared.table.Read.{Read}
+
+-- [b core] [b goto] [b], behind a label that ends at i
+pub record IsRest (s : List ℕ) (given : Option Span) (i : ℕ) (t : StatementTree) : Type 0 where
+  pub after_core : ℕ
+  pub after_jump : ℕ
+  pub label : t.label ≡ given
+  pub core : HasCore s i after_core t.core
+  pub jump : HasJump s after_core after_jump t.jump
+  pub rest : IsGap s after_jump (length s)
+  pub entry : t.entry ≡ None
+  pub some : t.label ≡ None → t.core ≡ None → t.jump ≢ Fall
+
+-- What was read stands for the statement's tree.
+abbrev pub StandsPhrase : List Node → Phrase → StatementTree → Type 0
+StandsPhrase table p t = (p.label ≡ t.label) × StandsCores table p.core t.core × StandsJump table p.jump t.jump × (p.entry ≡ t.entry)
+
+-- There is one tree of this kind, and it was read.
+pub record GivesPhrase (P : StatementTree → Type 0) (n i : ℕ) (old new : List Node) (p : Phrase) : Type 0 where
+  pub tree : StatementTree
+  pub reads : P tree
+  pub only : (u : StatementTree) → P u → u ≡ tree
+  pub stands : StandsPhrase new p tree
+  pub fits : p.fits ≡ statement_fits tree
+  pub room : length new + i ≤ length old + n
+
+abbrev pub PhraseOutcome : (StatementTree → Type 0) → ℕ → ℕ → List Node → List Node → Option Phrase → Type 0
+PhraseOutcome P n i old new None = (u : StatementTree) → P u → ⊥
+PhraseOutcome P n i old new (Some p) = GivesPhrase P n i old new p
+
+abbrev pub PlainOutcome : List ℕ → Option Span → ℕ → List Node → List Node → Option Phrase → Type 0
+PlainOutcome s label i old new = PhraseOutcome (IsRest s label i) (length s) i old new
+
+abbrev pub StatementOutcome : List ℕ → ℕ → List Node → List Node → Option Phrase → Type 0
+StatementOutcome s i old new = PhraseOutcome (IsStatement s i) (length s) i old new
+
+-- [b label] [b], behind END
+pub record IsEndRest (s : List ℕ) (given : Span) (t : StatementTree) : Type 0 where
+  pub after_entry : ℕ
+  pub label : t.label ≡ Some given
+  pub entry : HasEntry s given.end after_entry t.entry
+  pub rest : IsGap s after_entry (length s)
+  pub core : t.core ≡ None
+  pub jump : t.jump ≡ Fall
+
+-- [b label] was read, and there is no other that ends where the statement does.
+pub record FindsEntry (s : List ℕ) (i : ℕ) (f : Read (Option Span)) : Type 0 where
+  pub reads : HasEntry s i f.end f.what
+  pub only : (k : ℕ) (u : Option Span) → HasEntry s i k u → MeetsEnd s k → (k ≡ f.end) × (u ≡ f.what)
+  pub order : i ≤ f.end
+  pub within : f.end ≤ length s
+
+abbrev pub EndOutcome : List ℕ → Span → Option Phrase → Type 0
+EndOutcome s label found = (table : List Node) → PhraseOutcome (IsEndRest s label) (length s) label.end table table found
+
+-- A statement of a program stands for a tree, s being the program's text.
+pub record StandsStatement (s : List ℕ) (table : List Node) (st : Statement) (span : Span) (t : StatementTree) : Type 0 where
+  pub line : st.line ≡ line_of s span
+  pub label : st.label ≡ t.label
+  pub core : StandsCores table st.core t.core
+  pub jump : StandsJump table st.jump t.jump
+  pub entry : st.entry ≡ t.entry
+
+-- The statements of a program stand for these trees, in order.
+pub record StandsProgram (p : Source) (s : List ℕ) (ts : List StatementTree) : Type 0 where
+  pub count : length p.statements ≡ length ts
+  pub each : (k : ℕ) (st : Statement) (span : Span) (t : StatementTree) → slice_get p.statements k ≡ Some st → slice_get (extents s) k ≡ Some span → slice_get ts k ≡ Some t →
+      StandsStatement s p.nodes st span t
