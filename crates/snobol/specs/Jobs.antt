@@ -1,5 +1,6 @@
 -- What the program does for a job, and its status.
-use Rattle.std.specs.Prelude.{◌≡◌, ◌⊎◌, ℕ, ◌==◌, List, [], Option, None, Some, if◌then◌else◌, Bor}
+use Rattle.std.specs.Prelude.{◌≡◌, ◌⊎◌, ℕ, ◌==◌, List, [], Option, None, Some, if◌then◌else◌}
+use Rattle.std.specs.Borrow.{Bor}
 use Rattle.sno_io.specs.declared.jobs.Job.{Job}
 use Rattle.sno_io.specs.declared.jobs.Job.TheVariants.{Ways, Check}
 use Rattle.sno_text.specs.declared.error.ReadError.{ReadError}

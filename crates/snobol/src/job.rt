@@ -62,11 +62,13 @@ fn check<E: Sink>(alloc: Global, text: &[u8], errors: &mut E) -> u8
     requires { E.broken errors.old ≡ false }
     ensures { IsChecked text.now result }
 {
-    match read_program(alloc, text) {
-        Ok(_) => 0,
-        Err(ReadError::NoMemory) => report(errors, Err(AllocError), NO_MEMORY),
-        Err(error) => report(errors, refusal_line(alloc, error), REFUSED),
+    let Err(error) = read_program(alloc, text) else {
+        return 0;
+    };
+    if let ReadError::NoMemory = error {
+        return report(errors, Err(AllocError), NO_MEMORY);
     }
+    report(errors, refusal_line(alloc, error), REFUSED)
 }
 
 /// Writes the line that says what went wrong, if anything did, and answers the status.
