@@ -1,5 +1,5 @@
 -- The ends of a primitive rise, from the cursor up to the end of the subject.
-use Rattle.std.proofs.Common.{◌≡◌, ℕ, zero, suc, ◌+◌, ◌-◌, ◌<◌, ◌≤◌, ◌==◌, nat_eq, nat_le, nat_lt, ◌&&◌, not, Bool, true, false, if◌then◌else◌, cond, Option, Some, None, List, [], ◌∷◌, length, drop, take, filter, slice_get, refl, ap, arith, length-drop}
+use Rattle.std.proofs.Common.{◌≡◌, ℕ, zero, suc, ◌+◌, ◌-◌, ◌<◌, ◌≤◌, ◌==◌, nat_eq, nat_le, ◌&&◌, not, Bool, true, false, if◌then◌else◌, cond, Option, Some, None, List, [], ◌∷◌, length, drop, take, filter, slice_get, refl, ap, arith, length-drop}
 use Rattle.std.specs.List.{starts_with}
 use Rattle.std.specs.Cmp.Lexicographic.{pointwise}
 use Rattle.std.proofs.lemmas.Bool.{leb-true}

@@ -1,5 +1,5 @@
 -- Runs of bytes of a set.
-use Rattle.std.proofs.Common.{◌≡◌, ℕ, zero, suc, ◌+◌, Bool, true, false, not, cond, if◌then◌else◌, Option, Some, None, ◌≢◌, ◌==◌, List, [], ◌∷◌, length, take, drop, ◌-◌, position, slice_get, option_map, refl, sym, ◌∙◌, ap, arith}
+use Rattle.std.proofs.Common.{◌≡◌, ℕ, suc, ◌+◌, Bool, true, false, not, cond, if◌then◌else◌, Some, None, ◌≢◌, ◌==◌, List, [], ◌∷◌, length, take, drop, ◌-◌, position, slice_get, option_map, refl, ◌∙◌, ap, arith}
 use Rattle.std.specs.Prelude.{unwrap_or}
 use Rattle.std.specs.List.{position_from}
 use Rattle.std.proofs.lemmas.Bool.{ne_eqb}

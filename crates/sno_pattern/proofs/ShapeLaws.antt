@@ -1,16 +1,16 @@
 -- A shape tells the tree.
-use Rattle.std.proofs.Common.{◌≡◌, ℕ, zero, suc, ◌+◌, ◌<◌, ◌≤◌, List, [], ◌∷◌, ◌++◌, length, get_or, map, refl, sym, ◌∙◌, ap, subst, ◌-◌, arith, Option, Some, None, IfSome, slice_get, ◌≢◌, ◌==◌, ◌&&◌, nat_eq, nat_le, not, Bool, true, false, if◌then◌else◌, drop}
+use Rattle.std.proofs.Common.{◌≡◌, ℕ, zero, suc, ◌+◌, ◌<◌, ◌≤◌, List, [], ◌∷◌, length, get_or, refl, sym, ◌∙◌, ap, ◌-◌, arith, Option, Some, None, IfSome, slice_get, ◌≢◌, ◌==◌, ◌&&◌, nat_eq, nat_le, not, Bool, true, false, if◌then◌else◌, drop}
 use Rattle.std.specs.List.{starts_with}
-use Rattle.sno_pattern.specs.Pattern.{Pattern, Arb, Leaf, Fence, Abort, Succeed, Arbno, Alt, Cat, Cond, Imm, Place, Defer}
+use Rattle.sno_pattern.specs.Pattern.{Pattern, Arb, Leaf}
 use Rattle.sno_pattern.specs.Ends.{is_in, count_from, end_if, end_after, run_length, first_in, ends}
-use Rattle.sno_pattern.specs.Table.{Node, LeafNode, FenceNode, AbortNode, SucceedNode, ArbnoNode, AltNode, CatNode, CondNode, ImmNode, PlaceNode, DeferNode, tree_over, trees_onto, tree, no_pattern, AllParts, PartsBelow}
+use Rattle.sno_pattern.specs.Table.{Node, LeafNode, FenceNode, AbortNode, SucceedNode, ArbnoNode, AltNode, CatNode, CondNode, ImmNode, PlaceNode, DeferNode, tree_over, trees_onto, tree, PartsBelow}
 use Rattle.sno_pattern.specs.Kinds.{node_of, nodes_of, IsTable}
 use Rattle.sno_pattern.specs.Shape.{HasShape, shape_of, end_of, end_of_node}
 use Rattle.sno_pattern.specs.declared.kind.Kind.{Kind}
 use Rattle.sno_pattern.specs.declared.kind.Kind.TheVariants as K
 use Rattle.sno_pattern.specs.declared.kind.Entry.{Entry}
 use Rattle.sno_pattern.proofs.EndsRange.{Within, ends-rise, Rises-at}
-use Rattle.sno_pattern.proofs.TableLaws.{tree-at, AllParts-at, length-nodes}
+use Rattle.sno_pattern.proofs.TableLaws.{tree-at, AllParts-at}
 
 pub HasShape-node : (nodes : List Node) (id : ℕ) (node : Node) → PartsBelow node id → tree nodes id ≡ tree_over (trees_onto [] nodes) node → HasShape nodes id (shape_of node)
 HasShape-node nodes id (LeafNode a) h e = (a, e)

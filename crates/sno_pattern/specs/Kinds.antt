@@ -1,5 +1,5 @@
 -- The nodes that the stored kinds stand for, and what a table keeps of them. Private contracts alone cite it.
-use Rattle.std.specs.Prelude.{◌≡◌, ℕ, ◌<◌, ◌≤◌, Bool, true, false, ◌&&◌, ◌↔◌, List, length, map, get_or, Option, None, Some, IsTrue}
+use Rattle.std.specs.Prelude.{ℕ, ◌<◌, ◌≤◌, Bool, true, false, ◌&&◌, ◌↔◌, List, length, map, get_or, None, Some, IsTrue}
 use Rattle.sno_pattern.specs.Pattern.{Text, Len, Pos, Rpos, Tab, Rtab, Any, NotAny, Span, Break, Arb, Bal, Rem, Fail}
 use Rattle.sno_pattern.specs.Quiet.{IsQuiet}
 use Rattle.sno_pattern.specs.Table.{Node, LeafNode, FenceNode, AbortNode, SucceedNode, ArbnoNode, AltNode, CatNode, CondNode, ImmNode, PlaceNode, DeferNode, AllParts, tree}

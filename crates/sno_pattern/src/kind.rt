@@ -8,7 +8,7 @@ use crate::byte_set::ByteSet;
 use crate::shape::Shape;
 use sno_value::{ExprId, Name, PatId, Prim};
 
-/// A pattern's head, with the numbers of its parts.
+/// A pattern's head as the table keeps it: with its text, count or set, and the numbers of its parts.
 #[derive(Drop)]
 pub(crate) enum Kind {
     Text(Vec<u8>),

@@ -10,8 +10,10 @@ mod kind;
 mod sets;
 mod shape;
 mod table;
+#[cfg(test)]
+mod tests;
 
 pub use argument::Arg;
 pub use shape::Shape;
 pub use sno_value::{ExprId, Name, PatId, Prim};
-pub use table::{BuildError, MOST_NODES, Patterns};
+pub use table::{BuildError, Patterns};

@@ -18,8 +18,11 @@ pub enum Shape {
     Imm(PatId, Name),
     /// @N
     Cursor(Name),
+    /// FENCE
     Fence,
+    /// ABORT
     Abort,
+    /// SUCCEED
     Succeed,
     /// *E
     Defer(ExprId),

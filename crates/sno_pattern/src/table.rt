@@ -19,7 +19,7 @@ use std::alloc::Global;
 use std::marker::Model;
 
 /// How many nodes a table holds at most (this profile).
-pub const MOST_NODES: usize = 4_000_000;
+pub(crate) const MOST_NODES: usize = 4_000_000;
 
 /// Why a builder refuses. The first that fits is told.
 #[derive(Clone, Copy, Debug, Drop, PartialEq, Eq)]
@@ -35,6 +35,10 @@ pub enum BuildError {
 }
 
 /// A table of patterns, which grows and never changes what it holds. Contracts see it as its list of nodes.
+///
+/// Each builder appends one node and gives its number. It is refused `Full` where the table holds 4,000,000 nodes and
+/// `NoMemory` where memory is; `prim` has two refusals more. A refusal leaves the table as it was. What the patterns match
+/// is the book's; the limit is this profile's.
 #[derive(Drop)]
 pub struct Patterns {
     entries: Vec<Entry>,
@@ -72,7 +76,7 @@ impl Patterns {
         self.entries.len() as u32
     }
 
-    /// A text.
+    /// A text, which matches itself.
     pub fn text(&mut self, bytes: &[u8]) -> Result<PatId, BuildError>
         requires { length bytes.now ≤ 1000000 }
         ensures ok { IfOk result (Appends self.old self.new (LeafNode (Text bytes.now))) }
@@ -90,8 +94,8 @@ impl Patterns {
         }
     }
 
-    /// A primitive with its argument: a count for the first five, a set of bytes for the others. An empty set is
-    /// `NullSet`, a negative count `BadCount`.
+    /// A primitive with its argument: a count where `prim` takes one, else a set of bytes. An empty set is `NullSet` and a
+    /// negative count `BadCount`, also where the table is full.
     pub fn prim(&mut self, prim: Prim, arg: Arg<'_>) -> Result<PatId, BuildError>
         requires { IsArgOf prim arg }
         ensures ok { IfOk result (Appends self.old self.new (LeafNode (primitive_of prim arg.entry))) }
@@ -118,7 +122,7 @@ impl Patterns {
         }
     }
 
-    /// ARB.
+    /// ARB: any part, the shortest first.
     pub fn arb(&mut self) -> Result<PatId, BuildError>
         ensures ok { IfOk result (Appends self.old self.new (LeafNode Arb)) }
         ensures stands { IfOk result (λ id. tree self.new id.0 ≡ Leaf Arb) }
@@ -129,7 +133,7 @@ impl Patterns {
         append(&mut self.entries, Kind::Arb)
     }
 
-    /// BAL.
+    /// BAL: any part but the null one that is balanced in `(` and `)`, the shortest first.
     pub fn bal(&mut self) -> Result<PatId, BuildError>
         ensures ok { IfOk result (Appends self.old self.new (LeafNode Bal)) }
         ensures stands { IfOk result (λ id. tree self.new id.0 ≡ Leaf Bal) }
@@ -140,7 +144,7 @@ impl Patterns {
         append(&mut self.entries, Kind::Bal)
     }
 
-    /// REM.
+    /// REM: the rest of the subject.
     pub fn rem(&mut self) -> Result<PatId, BuildError>
         ensures ok { IfOk result (Appends self.old self.new (LeafNode Rem)) }
         ensures stands { IfOk result (λ id. tree self.new id.0 ≡ Leaf Rem) }
@@ -151,7 +155,7 @@ impl Patterns {
         append(&mut self.entries, Kind::Rem)
     }
 
-    /// FAIL.
+    /// FAIL: nothing.
     pub fn fail(&mut self) -> Result<PatId, BuildError>
         ensures ok { IfOk result (Appends self.old self.new (LeafNode Fail)) }
         ensures stands { IfOk result (λ id. tree self.new id.0 ≡ Leaf Fail) }
@@ -162,7 +166,7 @@ impl Patterns {
         append(&mut self.entries, Kind::Fail)
     }
 
-    /// FENCE.
+    /// FENCE: the null part; when it is backed into, the whole match is over.
     pub fn fence(&mut self) -> Result<PatId, BuildError>
         ensures ok { IfOk result (Appends self.old self.new FenceNode) }
         ensures stands { IfOk result (λ id. tree self.new id.0 ≡ Fence) }
@@ -173,7 +177,7 @@ impl Patterns {
         append(&mut self.entries, Kind::Fence)
     }
 
-    /// ABORT.
+    /// ABORT: the whole match is over at once.
     pub fn abort(&mut self) -> Result<PatId, BuildError>
         ensures ok { IfOk result (Appends self.old self.new AbortNode) }
         ensures stands { IfOk result (λ id. tree self.new id.0 ≡ Abort) }
@@ -184,7 +188,7 @@ impl Patterns {
         append(&mut self.entries, Kind::Abort)
     }
 
-    /// SUCCEED.
+    /// SUCCEED: the null part, and the same again at every retry.
     pub fn succeed(&mut self) -> Result<PatId, BuildError>
         ensures ok { IfOk result (Appends self.old self.new SucceedNode) }
         ensures stands { IfOk result (λ id. tree self.new id.0 ≡ Succeed) }
@@ -195,7 +199,7 @@ impl Patterns {
         append(&mut self.entries, Kind::Succeed)
     }
 
-    /// ARBNO(P).
+    /// ARBNO(P): P any number of times, the fewest first.
     pub fn arbno(&mut self, body: PatId) -> Result<PatId, BuildError>
         requires body { body.0 < length self.old }
         ensures ok { IfOk result (Appends self.old self.new (ArbnoNode body.0)) }
@@ -207,7 +211,7 @@ impl Patterns {
         append(&mut self.entries, Kind::Arbno(body))
     }
 
-    /// P | Q.
+    /// P | Q: P first, then Q.
     pub fn alt(&mut self, first: PatId, second: PatId) -> Result<PatId, BuildError>
         requires first { first.0 < length self.old }
         requires second { second.0 < length self.old }
@@ -220,7 +224,7 @@ impl Patterns {
         append(&mut self.entries, Kind::Alt(first, second))
     }
 
-    /// P Q, one behind the other.
+    /// P Q: P, and Q behind it.
     pub fn cat(&mut self, first: PatId, second: PatId) -> Result<PatId, BuildError>
         requires first { first.0 < length self.old }
         requires second { second.0 < length self.old }
@@ -233,7 +237,7 @@ impl Patterns {
         append(&mut self.entries, Kind::Cat(first, second))
     }
 
-    /// P . N, the assignment that waits for the whole match.
+    /// P . N: P, whose part is assigned to N once the whole match has succeeded.
     pub fn cond(&mut self, body: PatId, target: Name) -> Result<PatId, BuildError>
         requires body { body.0 < length self.old }
         ensures ok { IfOk result (Appends self.old self.new (CondNode body.0 target)) }
@@ -245,7 +249,7 @@ impl Patterns {
         append(&mut self.entries, Kind::Cond(body, target))
     }
 
-    /// P $ N, the assignment that is made at once.
+    /// P $ N: P, whose part is assigned to N each time that P ends.
     pub fn imm(&mut self, body: PatId, target: Name) -> Result<PatId, BuildError>
         requires body { body.0 < length self.old }
         ensures ok { IfOk result (Appends self.old self.new (ImmNode body.0 target)) }
@@ -257,7 +261,7 @@ impl Patterns {
         append(&mut self.entries, Kind::Imm(body, target))
     }
 
-    /// @N.
+    /// @N: the null part, where the cursor is assigned to N.
     pub fn cursor(&mut self, target: Name) -> Result<PatId, BuildError>
         ensures ok { IfOk result (Appends self.old self.new (PlaceNode target)) }
         ensures stands { IfOk result (λ id. tree self.new id.0 ≡ Place target) }
@@ -268,7 +272,7 @@ impl Patterns {
         append(&mut self.entries, Kind::Cursor(target))
     }
 
-    /// *E.
+    /// *E: the pattern that the expression gives each time that it is reached.
     pub fn defer(&mut self, expression: ExprId) -> Result<PatId, BuildError>
         ensures ok { IfOk result (Appends self.old self.new (DeferNode None expression.0)) }
         ensures stands { IfOk result (λ id. tree self.new id.0 ≡ Defer None expression.0) }
@@ -279,7 +283,7 @@ impl Patterns {
         append(&mut self.entries, Kind::Defer(expression))
     }
 
-    /// A primitive with the argument *E.
+    /// A primitive whose argument is what the expression gives each time that it is reached.
     pub fn defer_prim(&mut self, prim: Prim, expression: ExprId) -> Result<PatId, BuildError>
         ensures ok { IfOk result (Appends self.old self.new (DeferNode (Some prim) expression.0)) }
         ensures stands { IfOk result (λ id. tree self.new id.0 ≡ Defer (Some prim) expression.0) }

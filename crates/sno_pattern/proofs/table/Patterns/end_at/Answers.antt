@@ -5,9 +5,6 @@ use Rattle.sno_pattern.proofs.EndsRange.{Within}
 use Rattle.sno_pattern.specs.Table.{tree}
 use Rattle.sno_pattern.proofs.table.Patterns.end_at.Goals as goal
 
-pub index-requires : goal.index-requires
-index-requires c = omega (arith, length-nodes c.self.inside.entries.items, ap length c.self.view_is, c.self.inside.entries.ok.0, c.requires.id)
-
 pub returns-clause-value : goal.returns-clause-value
 returns-clause-value c =
     let fits : c.args.id.0 < length c.self.inside.entries.items =

@@ -1,4 +1,4 @@
-use Rattle.std.proofs.Common.{◌≡◌, ℕ, ◌+◌, ◌<◌, Some, IfSome, length, sym, ◌∙◌, ap, arith}
+use Rattle.std.proofs.Common.{◌≡◌, ℕ, ◌+◌, ◌<◌, length, sym, ◌∙◌, ap, arith}
 use Rattle.sno_pattern.specs.Table.{tree}
 use Rattle.sno_pattern.specs.Shape.{end_of, end_of_node}
 use Rattle.sno_pattern.specs.Kinds.{node_of}

@@ -3,9 +3,6 @@ use Rattle.sno_pattern.proofs.TableLaws.{length-nodes}
 use Rattle.sno_pattern.proofs.ShapeLaws.{has_shape}
 use Rattle.sno_pattern.proofs.table.Patterns.shape.Goals as goal
 
-pub index-requires : goal.index-requires
-index-requires c = omega (arith, length-nodes c.self.inside.entries.items, ap length c.self.view_is, c.self.inside.entries.ok.0, c.requires)
-
 pub returns : goal.returns
 returns c =
     let fits : c.args.id.0 < length c.self.inside.entries.items =
