@@ -14,7 +14,8 @@ use Rattle.sno_match.specs.Session.{Session, answers_of, trace_of, told_of, IsCo
 use Rattle.sno_match.specs.Running.{to_come, counted, IsMatch}
 use Rattle.sno_match.proofs.WeightLaws.{few_told}
 use Rattle.sno_match.proofs.LateLaws.{AllLeft, coming-within}
-use Rattle.sno_match.proofs.SessionLaws.{all_events-emit, length-counted, last_pending-append, last_count-append, waits_here}
+use Rattle.sno_match.proofs.EntryLaws.{all_events-emit, length-counted, last_pending-append, last_count-append}
+use Rattle.sno_match.proofs.SessionLaws.{waits_here}
 
 last_pending-counted : (limit : ℕ) (x : List Pending) (es : List (Event × ℕ)) → last_pending x (map (counted limit) es) ≡ last_pending x es
 last_pending-counted limit x [] = refl

@@ -4,6 +4,7 @@ pub mod SearchLaws
 pub mod ReadingLaws
 pub mod PlanLaws
 pub mod MoveLaws
+pub mod EntryLaws
 pub mod SessionLaws
 pub mod CountLaws
 pub mod EngineLaws

@@ -13,7 +13,7 @@ use Rattle.sno_match.specs.Point.{Point}
 use Rattle.sno_match.specs.State.{verdict_of, waits, ended}
 use Rattle.sno_match.specs.Session.{Session, trace_of, SameMatch, IsTold, StaysAt, Begins}
 use Rattle.sno_match.specs.Running.{counted, seen, IsMatch, GoesOn}
-use Rattle.sno_match.proofs.SessionLaws.{at_place}
+use Rattle.sno_match.proofs.EntryLaws.{at_place}
 use Rattle.sno_match.proofs.CountLaws.{trace_is, trace_size}
 use Rattle.sno_match.proofs.GrowLaws.{grown, grown_trace}
 

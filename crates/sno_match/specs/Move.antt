@@ -1,4 +1,4 @@
--- What a move of the matcher does to the searches still to come.
+-- What a move of the matcher does to the searches still to come. These words are private to the matcher.
 use Rattle.std.specs.Prelude.{ℕ, ◌≡◌, ◌<◌, ◌≤◌, ◌+◌, ◌-◌, ◌*◌, List, [], ◌∷◌, Option, None, Some, length}
 use Rattle.sno_value.specs.declared.ids.PatId.{PatId}
 use Rattle.sno_pattern.specs.Table.{Node}

@@ -1,4 +1,4 @@
--- A plan is right where carrying it out leaves the reading of the stack.
+-- A plan is right where carrying it out leaves the reading of the stack. These words are private to the matcher.
 use Rattle.std.specs.Prelude.{ℕ, zero, suc, ◌≡◌, ◌≤◌, List, [], ◌∷◌, ◌++◌, Option, Some, None, length}
 use Rattle.sno_pattern.specs.Table.{Node}
 use Rattle.sno_match.specs.declared.goal.Goal.{Goal as Numbered}

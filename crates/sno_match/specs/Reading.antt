@@ -1,4 +1,5 @@
--- A stack of resumption points, read as the searches still to come, each behind the one above it.
+-- A stack of resumption points, read as the searches still to come, each behind the one above it. These words are
+-- private to the matcher.
 use Rattle.std.specs.Prelude.{ℕ, suc, ◌≡◌, ◌<◌, ◌≤◌, List, [], ◌∷◌, length, map, filter, nat_le, replicate, Contains}
 use Rattle.sno_pattern.specs.Pattern.{Pattern, Leaf, Fence, Succeed, Arbno, Alt}
 use Rattle.sno_pattern.specs.Ends.{ends}

@@ -1,4 +1,4 @@
--- What is kept of a match between two calls.
+-- What is kept of a match between two calls. These words are private to the matcher.
 use Rattle.std.specs.Prelude.{ℕ, ◌≡◌, ◌≤◌, ◌<◌, ◌+◌, ◌-◌, ◌*◌, Bool, true, false, List, [], ◌∷◌, ◌++◌, Option, Some, None, map, length}
 use Rattle.sno_value.specs.declared.ids.PatId.{PatId}
 use Rattle.sno_pattern.specs.Table.{Node, tree}

@@ -7,12 +7,16 @@ use crate::goal::{Goal, Mark, Top};
 use crate::points::Points;
 use std::alloc::{AllocError, Global};
 
-/// A point with goals of its own.
+/// A resumption point with lists of its own.
 #[derive(Drop)]
 struct Held {
+    /// What is still to be matched, the first goal first.
     goals: Vec<Goal>,
+    /// Where the first goal begins.
     cursor: usize,
+    /// The assignments that wait on the way to here.
     pending: Vec<Pending>,
+    /// Whether the first goal is to be entered, or where its next alternative goes on.
     mark: Mark,
 }
 
@@ -54,8 +58,15 @@ impl Points for CopiedGoals {
         match &self.top {
             None => Top::Empty,
             Some(point) => match first_of(&point.goals) {
-                None => Top::Complete(point.cursor, point.mark),
-                Some(goal) => Top::Open(goal, point.cursor, point.mark),
+                None => Top::Complete {
+                    cursor: point.cursor,
+                    mark: point.mark,
+                },
+                Some(goal) => Top::Open {
+                    goal,
+                    cursor: point.cursor,
+                    mark: point.mark,
+                },
             },
         }
     }

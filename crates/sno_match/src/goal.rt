@@ -30,8 +30,15 @@ pub enum Mark {
 pub enum Top {
     /// There is no point.
     Empty,
-    /// No goal is left at this cursor.
-    Complete(usize, Mark),
-    /// The first goal, and the cursor from which it is to be reached.
-    Open(Goal, usize, Mark),
+    /// No goal is left: a way has been reached.
+    Complete {
+        cursor: usize,
+        mark: Mark,
+    },
+    /// The first goal is due at the cursor.
+    Open {
+        goal: Goal,
+        cursor: usize,
+        mark: Mark,
+    },
 }

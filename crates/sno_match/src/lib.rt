@@ -1,4 +1,9 @@
 //! The resumable matcher: one event after another of the search for a pattern in a subject.
+//!
+//! A pattern's number is the first goal (`goal`), and is matched from a start. The stack of resumption points (`points`;
+//! `copied` holds one) has what is still to be tried, the newest first. `plan` says, without taking memory, what is to be
+//! done at the newest point; `moves` carries it out by one operation of the stack and counts the step; `engine` is the
+//! loop over moves and starts, up to the next event (`event`). `laws` has what is true of every match.
 #![tactic(auto)]
 
 mod copied;

@@ -35,11 +35,14 @@ pub(crate) fn make_move<P: Points>(
 {
     match points.top() {
         Top::Empty => unreachable!(),
-        Top::Complete(end, _mark) => {
+        Top::Complete {
+            cursor: end,
+            mark: _mark,
+        } => {
             points.finish(way)?;
             Ok(Some(Event::Way { start, end }))
         }
-        Top::Open(goal, cursor, mark) => {
+        Top::Open { goal, cursor, mark } => {
             let plan = plan_of(patterns, subject, goal, cursor, mark);
             if let Plan::Cut = plan {
                 return Ok(Some(Event::Aborted));
@@ -108,7 +111,7 @@ pub(crate) fn put_answer<P: Points>(points: &mut P, given: Option<PatId>) -> Res
         points.pop();
         return Ok(());
     };
-    let Top::Open(_goal, cursor, _mark) = points.top() else {
+    let Top::Open { cursor, .. } = points.top() else {
         unreachable!();
     };
     points.replace(&[Goal::Match(id)], cursor)?;

@@ -13,7 +13,7 @@ use sno_value::{ExprId, Name, PatId, Prim};
 
 /// At most two goals.
 #[derive(Clone, Copy, Debug, Drop)]
-pub enum Front {
+pub(crate) enum Front {
     Nothing,
     One(Goal),
     Two(Goal, Goal),

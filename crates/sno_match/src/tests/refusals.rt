@@ -82,9 +82,9 @@ impl Points for Stingy {
 }
 
 /// The next event, asked for again after each refusal: none was told, and no step is past those of the event.
-fn ask_again(
+fn ask_again<P: Points>(
     rt: &impl Abort,
-    m: &mut Engine<Stingy>,
+    m: &mut Engine<P>,
     table: &Patterns,
     steps: u32,
     refused: &mut u32,
@@ -108,7 +108,7 @@ fn ask_again(
 }
 
 /// Asks for ways with these ends and counts of steps, and gives the number of refusals.
-fn asked_again(
+fn asked_again<P: Points>(
     rt: &impl Abort,
     table: &Patterns,
     pattern: PatId,
@@ -117,7 +117,7 @@ fn asked_again(
 ) -> Result<u32, AllocError>
     requires { pattern.0 < length table.now }
 {
-    let mut m = Engine::<Stingy>::new(alloc, table, pattern, b"AAA", true, 1000)?;
+    let mut m = Engine::<P>::new(alloc, table, pattern, b"AAA", true, 1000)?;
     let mut refused = 0u32;
     'ways: for (end, steps) in ways {
         let told = ask_again(rt, &mut m, table, *steps, &mut refused);
@@ -142,7 +142,24 @@ fn refused_growth_is_no_event(rt: HostRuntime) -> Result<(), Fail> {
     let either = table.alt(a, aa)?;
     let some = table.arbno(either)?;
     let ways = [(0, 1), (1, 6), (2, 11), (3, 16), (3, 27), (2, 36), (3, 41)];
-    let refused = asked_again(&rt, &table, some, rt.alloc(), &ways)?;
+    let refused = asked_again::<Stingy>(&rt, &table, some, rt.alloc(), &ways)?;
     assert!(rt; refused > 30);
+    Ok(())
+}
+
+/// With `rt try --test --fail-alloc N` the Nth allocation is refused, wherever it stands.
+#[test]
+fn a_refused_allocation_is_no_event(rt: HostRuntime) -> Result<(), Fail> {
+    let mut table = Patterns::new(rt.alloc());
+    let a = table.text(b"A")?;
+    let aa = table.text(b"AA")?;
+    let either = table.alt(a, aa)?;
+    let some = table.arbno(either)?;
+    let ways = [(0, 1), (1, 6), (2, 11), (3, 16), (3, 27), (2, 36), (3, 41)];
+    let refused = match asked_again::<CopiedGoals>(&rt, &table, some, rt.alloc(), &ways) {
+        Ok(refused) => refused,
+        Err(_) => asked_again::<CopiedGoals>(&rt, &table, some, rt.alloc(), &ways)?,
+    };
+    assert!(rt; refused <= 1);
     Ok(())
 }
