@@ -21,11 +21,11 @@ mod token;
 mod whole;
 
 pub use error::ReadError;
-pub use whole::read_program;
 pub use node::{Node, Operator, Span, UnaryOperator};
 pub use program::Program;
 pub use reader::read_expression;
 pub use statement::{Core, Jump, Statement, Target};
+pub use whole::read_program;
 
 #[cfg(test)]
 mod tests;
