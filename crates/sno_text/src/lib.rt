@@ -8,6 +8,7 @@ mod error;
 mod expression;
 mod goto;
 mod judge;
+mod laws;
 mod layout;
 mod node;
 mod operator;
@@ -21,6 +22,7 @@ mod token;
 mod whole;
 
 pub use error::ReadError;
+pub use laws::one_tree;
 pub use node::{Node, Operator, Span, UnaryOperator};
 pub use program::Program;
 pub use reader::read_expression;
