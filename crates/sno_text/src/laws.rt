@@ -4,7 +4,6 @@ ghost use Rattle.sno_text.specs.Trees.{Tree};
 ghost use Rattle.sno_text.specs.Grammar.{IsExpression};
 
 /// The grammar relates at most one tree to a text.
-#[tactic(auto, using(crate::proofs::OneTree::one_tree))]
 pub fn one_tree()
     ensures { (s : List ℕ) (t u : Tree) → IsExpression s t → IsExpression s u → u ≡ t }
 {}
