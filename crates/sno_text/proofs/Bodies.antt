@@ -1,6 +1,5 @@
 -- Cores are found exactly.
-use Rattle.std.proofs.Common.{◌≡◌, ◌≢◌, ℕ, ◌+◌, ◌<◌, ◌≤◌, ◌⊎◌, ◌&&◌, inl, inr, Bool, true, false, List, [], ◌∷◌, length, arith, refl, sym, ◌∙◌, ap, subst, Some, None, Option}
-use Rattle.std.proofs.lemmas.Bool.{cases_lt}
+use Rattle.std.proofs.Common.{◌≡◌, ◌≢◌, ℕ, ◌+◌, ◌≤◌, ◌⊎◌, ◌&&◌, inl, inr, Bool, true, false, List, length, arith, refl, ◌∙◌, ap, subst, Some, None, Option}
 use Rattle.std.proofs.lemmas.List.{get_or_past}
 use Rattle.sno_value.specs.declared.ids.ExprId.{ExprId}
 use Rattle.sno_text.specs.declared.bytes.Class.TheVariants.{Blank}
@@ -9,18 +8,18 @@ use Rattle.sno_text.specs.declared.table.Found.{Found}
 use Rattle.sno_text.specs.declared.table.Read.{Read}
 use Rattle.sno_text.specs.declared.statement.Core.{Core}
 use Rattle.sno_text.specs.declared.body.Object.{Object}
-use Rattle.sno_text.specs.Bytes.{byte, is_blank, can_start, IsWholeRun}
+use Rattle.sno_text.specs.Bytes.{byte, can_start, IsWholeRun}
 use Rattle.sno_text.specs.Trees.{Tree, fits}
-use Rattle.sno_text.specs.Grammar.{IsGap, IsBlanks, Level, Element, Reads}
+use Rattle.sno_text.specs.Grammar.{IsBlanks, Level, Element, Reads}
 use Rattle.sno_text.specs.Links.{Starts, Stops, Refuses}
 use Rattle.sno_text.specs.Outcome.{Outcome as Found_outcome, Extends}
 use Rattle.sno_text.specs.Statements.{HasExpression, HasObject, IsCore, HasCore, CoreTree, option_fits, core_fits, core_option_fits}
-use Rattle.sno_text.specs.Pieces.{MeetsEnd, MeetsColon, MeetsEquals, Gives, Lacks, StandsExpression, StandsObject, StandsCore, StandsCores, HasObjectPair, object_fits}
+use Rattle.sno_text.specs.Pieces.{MeetsColon, MeetsEquals, Gives, Lacks, StandsExpression, StandsObject, StandsCore, StandsCores, HasObjectPair, object_fits}
 use Rattle.sno_text.proofs.Runs.{run_end_unique}
 use Rattle.sno_text.proofs.Starts.{reads_start, start_can_start}
 use Rattle.sno_text.proofs.Tables.{extends_same}
 use Rattle.sno_text.proofs.Standing.{stands_kept, stands_expression_more}
-use Rattle.sno_text.proofs.Stops.{end_byte_end, end_byte_equals, gap_whole, blanks_whole, blanks_start, colon_ends, equals_ends, colon_meets_equals, blanks_equals, equals_stops, blanks_stop, start_meets_none}
+use Rattle.sno_text.proofs.Stops.{end_byte_equals, blanks_whole, blanks_start, colon_meets_equals, blanks_equals, equals_stops, blanks_stop, start_meets_none}
 
 -- no blanks and the start of an element from here
 abbrev NoStart : List ℕ → ℕ → Type 0
@@ -44,7 +43,14 @@ no_expression_only s i k (Some t) n (m, b, r) = absurd (n m b (reads_start r))
 pub gives_no_expression : (s : List ℕ) (i at : ℕ) (old : List Node) → IsWholeRun Blank s i at → (at ≡ i) ⊎ (can_start (byte s at) ≡ false) → i ≤ length s →
     Gives (Option Tree) (Option ExprId) (HasExpression s i) (MeetsEquals s) StandsExpression option_fits (length s) i old old (record { what = None; end = i; fits = true })
 gives_no_expression s i at old g h w = record {
-  tree = None; reads = refl; only = λ k u r stops. no_expression_only s i k u (no_start s i at g h) r; stands = tt; fits = refl; order = omega arith; within = w; room = omega arith
+  tree = None;
+  reads = refl;
+  only = λ k u r stops. no_expression_only s i k u (no_start s i at g h) r;
+  stands = tt;
+  fits = refl;
+  order = omega arith;
+  within = w;
+  room = omega arith;
 }
 
 expression_only : (s : List ℕ) (i at k e : ℕ) (u : Option Tree) (t : Tree) → IsWholeRun Blank s i at → can_start (byte s at) ≡ true →
@@ -61,10 +67,11 @@ gives_expression s i at old new f n g h a = record {
   tree = Some a.tree;
   reads = (at, blanks_at s i at n g, a.finds.reads);
   only = λ k u r stops. expression_only s i at k f.end u a.tree g h a.finds.only r stops;
-  stands = a.stands; fits = a.fit;
+  stands = a.stands;
+  fits = a.fit;
   order = let o = g.run.order in let v = a.some in omega arith;
   within = a.within;
-  room = let o = g.run.order in let v = a.room in omega arith
+  room = let o = g.run.order in let v = a.room in omega arith;
 }
 
 expression_none : (s : List ℕ) (i at k : ℕ) (u : Option Tree) → IsWholeRun Blank s i at → can_start (byte s at) ≡ true → Refuses s (Level 0) (Stops s 0) at → HasExpression s i k u → MeetsEquals s k → ⊥
@@ -87,9 +94,14 @@ no_object_only s i at k true t g (inr n) (m, b, d, r) = absurd (n (subst (λ x. 
 pub gives_no_object : (s : List ℕ) (i at : ℕ) (old : List Node) → IsWholeRun Blank s i at → (at ≡ i) ⊎ (byte s at ≢ 61) → i ≤ length s →
     Gives (Bool × Option Tree) Object (HasObjectPair s i) (MeetsColon s) StandsObject object_fits (length s) i old old (record { what = record { equals = false; object = None }; end = i; fits = true })
 gives_no_object s i at old g h w = record {
-  tree = (false, None); reads = (refl, refl);
+  tree = (false, None);
+  reads = (refl, refl);
   only = λ k u r stops. let q = no_object_only s i at k u.0 u.1 g h r in (q.0, ap (λ y. (y, u.1)) q.1 ∙ ap (λ y. (false, y)) q.2);
-  stands = (refl, tt); fits = refl; order = omega arith; within = w; room = omega arith
+  stands = (refl, tt);
+  fits = refl;
+  order = omega arith;
+  within = w;
+  room = omega arith;
 }
 
 colon_not_equals : (s : List ℕ) (i at : ℕ) → IsWholeRun Blank s i at → byte s at ≡ 61 → MeetsColon s i → ⊥
@@ -113,10 +125,11 @@ gives_object s i at old new f n g h a = record {
   tree = (true, a.tree);
   reads = (at, blanks_at s i at n g, h, a.reads);
   only = λ k u r stops. let q = object_only s i at k f.end u.0 u.1 a.tree g h a.only r stops in (q.0, ap (λ y. (y, u.1)) q.1 ∙ ap (λ y. (true, y)) q.2);
-  stands = (refl, a.stands); fits = a.fits;
+  stands = (refl, a.stands);
+  fits = a.fits;
   order = let o = g.run.order in let v = a.order in omega arith;
   within = a.within;
-  room = let o = g.run.order in let v = a.room in omega arith
+  room = let o = g.run.order in let v = a.room in omega arith;
 }
 
 object_none : (s : List ℕ) (i at k : ℕ) (b : Bool) (u : Option Tree) → IsWholeRun Blank s i at → byte s at ≡ 61 → Lacks (Option Tree) (HasExpression s (at + 1)) (MeetsEquals s) → HasObject s i k b u → MeetsColon s k → ⊥
@@ -162,20 +175,20 @@ pub gives_core : {n : ℕ} (s : List ℕ) (i : ℕ) (old one two new : List Node
     Gives (Option Tree) (Option ExprId) (HasExpression s f.end) (MeetsEquals s) StandsExpression option_fits (length s) f.end one two g → Extends n one two →
     Gives (Bool × Option Tree) Object (HasObjectPair s g.end) (MeetsColon s) StandsObject object_fits (length s) g.end two new h → Extends n two new →
     Gives CoreTree Core (IsCore s i) (MeetsColon s) StandsCore core_fits (length s) i old new
-      (record { what = record { subject = f.id; pattern = g.what; equals = h.what.equals; object = h.what.object }; end = h.end; fits = (f.fits && g.fits) && h.fits })
+    (record { what = record { subject = f.id; pattern = g.what; equals = h.what.equals; object = h.what.object }; end = h.end; fits = (f.fits && g.fits) && h.fits })
 gives_core s i old one two new f g h a b x c y = record {
   tree = record { subject = a.tree; pattern = b.tree; equals = c.tree.0; object = c.tree.1 };
   reads = record { after_subject = f.end; after_pattern = g.end; subject = a.finds.reads; pattern = b.reads; object = c.reads };
   only = λ k u r stops.
-    let p = a.finds.only r.after_subject u.subject r.subject (core_stops s i k u r stops) in
-    let q = b.only r.after_pattern u.pattern (core_pattern s i k f.end u r p.0) (core_meets s i k u r stops) in
-    let o = c.only k (u.equals, u.object) (core_object s i k g.end u r q.0) stops in
-    (o.0, core_equal u (record { subject = a.tree; pattern = b.tree; equals = c.tree.0; object = c.tree.1 }) p.1 q.1 (ap (λ z. z.0) o.1) (ap (λ z. z.1) o.1));
+      let p = a.finds.only r.after_subject u.subject r.subject (core_stops s i k u r stops) in
+      let q = b.only r.after_pattern u.pattern (core_pattern s i k f.end u r p.0) (core_meets s i k u r stops) in
+      let o = c.only k (u.equals, u.object) (core_object s i k g.end u r q.0) stops in
+      (o.0, core_equal u (record { subject = a.tree; pattern = b.tree; equals = c.tree.0; object = c.tree.1 }) p.1 q.1 (ap (λ z. z.0) o.1) (ap (λ z. z.1) o.1));
   stands = (stands_kept f.id a.tree y (stands_kept f.id a.tree x a.stands), stands_expression_more g.what b.tree y b.stands, c.stands.0, c.stands.1);
   fits = fits_three f.fits g.fits h.fits (fits a.tree) (option_fits b.tree) (option_fits c.tree.1) a.fit b.fits c.fits;
   order = let v = a.some in let w = b.order in let z = c.order in omega arith;
   within = c.within;
-  room = let v = a.room in let w = b.room in let z = c.room in omega arith
+  room = let v = a.room in let w = b.room in let z = c.room in omega arith;
 }
 
 pub lacks_subject : (s : List ℕ) (i : ℕ) → Refuses s Element (Stops s 7) i → Lacks CoreTree (IsCore s i) (MeetsColon s)
@@ -183,18 +196,20 @@ lacks_subject s i f = record { none = λ k u r stops. f.none r.after_subject u.s
 
 pub lacks_pattern : (s : List ℕ) (i : ℕ) (old one : List Node) (f : Found) → Found_outcome s Element (Stops s 7) i old one (Some f) → Lacks (Option Tree) (HasExpression s f.end) (MeetsEquals s) →
     Lacks CoreTree (IsCore s i) (MeetsColon s)
-lacks_pattern s i old one f a b = record { none = λ k u r stops.
-    let p = a.finds.only r.after_subject u.subject r.subject (core_stops s i k u r stops) in
-    b.none r.after_pattern u.pattern (core_pattern s i k f.end u r p.0) (core_meets s i k u r stops)
+lacks_pattern s i old one f a b = record {
+  none = λ k u r stops.
+      let p = a.finds.only r.after_subject u.subject r.subject (core_stops s i k u r stops) in
+      b.none r.after_pattern u.pattern (core_pattern s i k f.end u r p.0) (core_meets s i k u r stops);
 }
 
 pub lacks_core_object : (s : List ℕ) (i : ℕ) (old one two : List Node) (f : Found) (g : Read (Option ExprId)) → Found_outcome s Element (Stops s 7) i old one (Some f) →
     Gives (Option Tree) (Option ExprId) (HasExpression s f.end) (MeetsEquals s) StandsExpression option_fits (length s) f.end one two g →
     Lacks (Bool × Option Tree) (HasObjectPair s g.end) (MeetsColon s) → Lacks CoreTree (IsCore s i) (MeetsColon s)
-lacks_core_object s i old one two f g a b c = record { none = λ k u r stops.
-    let p = a.finds.only r.after_subject u.subject r.subject (core_stops s i k u r stops) in
-    let q = b.only r.after_pattern u.pattern (core_pattern s i k f.end u r p.0) (core_meets s i k u r stops) in
-    c.none k (u.equals, u.object) (core_object s i k g.end u r q.0) stops
+lacks_core_object s i old one two f g a b c = record {
+  none = λ k u r stops.
+      let p = a.finds.only r.after_subject u.subject r.subject (core_stops s i k u r stops) in
+      let q = b.only r.after_pattern u.pattern (core_pattern s i k f.end u r p.0) (core_meets s i k u r stops) in
+      c.none k (u.equals, u.object) (core_object s i k g.end u r q.0) stops;
 }
 
 -- [b core]
@@ -205,7 +220,14 @@ no_core_only s i k (Some t) n (m, b, r) = absurd (n m b (reads_start r.subject))
 pub gives_no_core : (s : List ℕ) (i at : ℕ) (old : List Node) → IsWholeRun Blank s i at → (at ≡ i) ⊎ (can_start (byte s at) ≡ false) → i ≤ length s →
     Gives (Option CoreTree) (Option Core) (HasCore s i) (MeetsColon s) StandsCores core_option_fits (length s) i old old (record { what = None; end = i; fits = true })
 gives_no_core s i at old g h w = record {
-  tree = None; reads = refl; only = λ k u r stops. no_core_only s i k u (no_start s i at g h) r; stands = tt; fits = refl; order = omega arith; within = w; room = omega arith
+  tree = None;
+  reads = refl;
+  only = λ k u r stops. no_core_only s i k u (no_start s i at g h) r;
+  stands = tt;
+  fits = refl;
+  order = omega arith;
+  within = w;
+  room = omega arith;
 }
 
 core_at : (s : List ℕ) (i at k m : ℕ) (t : CoreTree) → IsWholeRun Blank s i at → IsBlanks s i m → IsCore s m k t → IsCore s at k t
@@ -223,10 +245,11 @@ gives_body s i at old new f n g h a = record {
   tree = Some a.tree;
   reads = (at, blanks_at s i at n g, a.reads);
   only = λ k u r stops. body_only s i at k f.end u a.tree g h a.only r stops;
-  stands = a.stands; fits = a.fits;
+  stands = a.stands;
+  fits = a.fits;
   order = let o = g.run.order in let v = a.order in omega arith;
   within = a.within;
-  room = let o = g.run.order in let v = a.room in omega arith
+  room = let o = g.run.order in let v = a.room in omega arith;
 }
 
 body_none : (s : List ℕ) (i at k : ℕ) (u : Option CoreTree) → IsWholeRun Blank s i at → can_start (byte s at) ≡ true → Lacks CoreTree (IsCore s at) (MeetsColon s) → HasCore s i k u → MeetsColon s k → ⊥
@@ -237,6 +260,9 @@ pub lacks_body : (s : List ℕ) (i at : ℕ) → IsWholeRun Blank s i at → can
 lacks_body s i at g h f = record { none = λ k u r stops. body_none s i at k u g h f r stops }
 
 pub ruleset optional_facts = (gives_no_expression, gives_expression, lacks_expression, extends_same)
+
 pub ruleset object_facts = (gives_no_object, gives_object, lacks_object, extends_same)
+
 pub ruleset core_facts = (gives_core, lacks_subject, lacks_pattern, lacks_core_object, extends_same)
+
 pub ruleset body_facts = (gives_no_core, gives_body, lacks_body, extends_same)

@@ -1,5 +1,5 @@
 -- The index of labels grows with the statements.
-use Rattle.std.proofs.Common.{◌≡◌, ◌≢◌, ℕ, zero, suc, ◌+◌, ◌<◌, ◌≤◌, ◌⊎◌, inl, inr, Bool, true, false, cond, List, [], ◌∷◌, ◌++◌, length, arith, refl, sym, ◌∙◌, ap, subst, Some, None, Option, slice_get, slice_range, is_some}
+use Rattle.std.proofs.Common.{◌≡◌, ◌≢◌, ℕ, zero, suc, ◌+◌, ◌<◌, ◌⊎◌, inl, inr, true, false, List, [], ◌∷◌, ◌++◌, length, arith, refl, sym, ◌∙◌, ap, Some, None, slice_get}
 use Rattle.std.proofs.lemmas.Bool.{cases_lt, cases_Bool}
 use Rattle.std.proofs.lemmas.Option.{slice_get_within}
 use Rattle.std.proofs.lemmas.Map.Lookups.{exact_bytes}
@@ -128,7 +128,7 @@ unlabelled_complete s sts st es name n h x (k, y, span, a, b, c, d) = elim (plac
 pub index_unlabelled : (s : List ℕ) (sts : List Statement) (st : Statement) (es : Entries) → st.label ≡ None → IsIndex s sts es → IsIndex s (sts ++ st ∷ []) es
 index_unlabelled s sts st es h x = record {
   sound = λ name n e. labelled_more s sts st name n (x.sound name n e);
-  complete = λ name n l. unlabelled_complete s sts st es name n h x l
+  complete = λ name n l. unlabelled_complete s sts st es name n h x l;
 }
 
 labelled_complete : (s : List ℕ) (sts : List Statement) (st : Statement) (es : Entries) (span : Span) (key : Vec ℕ Global) (v : ℕ) (name : List ℕ) (n : ℕ) → st.label ≡ Some span → key.items ≡ part s span → v ≡ length sts + 1 →
@@ -155,5 +155,5 @@ index_labelled s sts st es span key v h e f fresh x = record {
         (length sts, st, span, sym number ∙ f, place_last sts st, h, sym e ∙ sym same)
     | inr other ↦ labelled_more s sts st name n (x.sound name n (sym (insert_other es key v name other) ∙ g))
   ];
-  complete = λ name n l. labelled_complete s sts st es span key v name n h e f fresh x l
+  complete = λ name n l. labelled_complete s sts st es span key v name n h e f fresh x l;
 }

@@ -1,9 +1,9 @@
 -- A statement is judged by the first row of the table that fits.
-use Rattle.std.proofs.Common.{◌≡◌, ◌≢◌, ℕ, zero, suc, ◌+◌, ◌-◌, ◌<◌, ◌≤◌, ◌⊎◌, inl, inr, Bool, true, false, List, [], ◌∷◌, length, take, arith, refl, sym, ◌∙◌, ap, subst, Some, None, Option, codes, is_some}
+use Rattle.std.proofs.Common.{◌≡◌, ◌≢◌, ℕ, zero, suc, ◌<◌, ◌≤◌, inl, inr, true, false, List, [], ◌∷◌, length, take, arith, sym, ◌∙◌, ap, Some, None, codes, is_some}
 use Rattle.std.specs.declared.vec.Vec.{Vec}
 use Rattle.std.specs.declared.alloc.Global.{Global}
 use Rattle.sno_text.specs.declared.error.ReadError.{ReadError}
-use Rattle.sno_text.specs.declared.error.ReadError.TheVariants.{Syntax, DuplicateLabel, TooLarge, NoMemory}
+use Rattle.sno_text.specs.declared.error.ReadError.TheVariants.{Syntax, DuplicateLabel, TooLarge}
 use Rattle.sno_text.specs.declared.node.Node.{Node}
 use Rattle.sno_text.specs.declared.node.Span.{Span}
 use Rattle.sno_text.specs.declared.phrase.Phrase.{Phrase}
@@ -11,10 +11,10 @@ use Rattle.sno_text.specs.Refusals.{HasOpenLiteral}
 use Rattle.sno_text.specs.Lines.{joined, part, line_of}
 use Rattle.sno_text.specs.Source.{number_of, SpansWithin, IsOptionWithin}
 use Rattle.sno_text.proofs.Soundness.{label_of, option_wider}
-use Rattle.sno_text.specs.Outcome.{Grown, Extends, extended, IsSound}
-use Rattle.sno_text.specs.Statements.{StatementTree, IsStatement, statement_fits}
+use Rattle.sno_text.specs.Outcome.{Extends, extended, IsSound}
+use Rattle.sno_text.specs.Statements.{StatementTree, statement_fits}
 use Rattle.sno_text.specs.Phrases.{GivesPhrase}
-use Rattle.sno_text.specs.Programs.{Row, HasLabelled, IsTooLargeBytes, IsStatementAt, HasLargeInteger, HasDuplicate, HasNoEntry, IsRefusedAt, IsAcceptedAt}
+use Rattle.sno_text.specs.Programs.{Row, IsTooLargeBytes, IsStatementAt, HasLargeInteger, HasDuplicate, HasNoEntry, IsRefusedAt}
 use Rattle.sno_text.specs.Judging.{Knows, IsShapeRefused, IsLabelRefused, Accepts}
 use Rattle.sno_text.specs.declared.node.Node.TheVariants as nodes
 
@@ -75,12 +75,24 @@ no_duplicate s count before entries span n i old new p k r fresh (t, x, a, e, h)
 pub label_refused : (s : List ℕ) (count line : ℕ) (before : List StatementTree) (entries : Entries) (span : Span) (e : ReadError) (n i : ℕ) (old new : List Node) (p : Phrase) → line ≡ line_of s span →
     Knows s before count entries → Shaped s count span → GivesPhrase (IsStatementAt s span) n i old new p → p.fits ≡ true → IsLabelRefused s entries p line e → IsRefusedAt s before span e
 label_refused s count line before entries span e n i old new p g k a r h (inl (x, l, d, f)) =
-    below_shape s count line before entries span e _ k a (inr (λ none. none r.tree r.reads, inr (fits_none s span n i old new p r h,
-    inl ((r.tree, x, r.reads, sym r.stands.0 ∙ l, k.sound (part s x) d), f ∙ ap DuplicateLabel g))))
+    below_shape s count line before entries span e _ k a (inr (
+      λ none. none r.tree r.reads,
+      inr (
+        fits_none s span n i old new p r h,
+        inl ((r.tree, x, r.reads, sym r.stands.0 ∙ l, k.sound (part s x) d), f ∙ ap DuplicateLabel g),
+      ),
+    ))
 label_refused s count line before entries span e n i old new p g k a r h (inr (fresh, x, l, never, d, f)) =
-    below_shape s count line before entries span e _ k a (inr (λ none. none r.tree r.reads, inr (fits_none s span n i old new p r h,
-    inr (no_duplicate s count before entries span n i old new p k r fresh,
-    inl ((r.tree, x, r.reads, sym r.stands.3 ∙ l, never, k.complete (part s x) d), f ∙ ap (λ y. Syntax y 4) g)))))
+    below_shape s count line before entries span e _ k a (inr (
+      λ none. none r.tree r.reads,
+      inr (
+        fits_none s span n i old new p r h,
+        inr (
+          no_duplicate s count before entries span n i old new p k r fresh,
+          inl ((r.tree, x, r.reads, sym r.stands.3 ∙ l, never, k.complete (part s x) d), f ∙ ap (λ y. Syntax y 4) g),
+        ),
+      ),
+    ))
 
 has_entry : (s : List ℕ) (count : ℕ) (before : List StatementTree) (entries : Entries) (span : Span) (n i : ℕ) (old new : List Node) (p : Phrase) → Knows s before count entries → GivesPhrase (IsStatementAt s span) n i old new p →
     ((x : Span) → p.entry ≡ Some x → part s x ≢ codes "END" → is_some (number_of entries (part s x)) ≡ true) → HasNoEntry s before span → ⊥
@@ -94,11 +106,16 @@ pub judged : (s : List ℕ) (count : ℕ) (before : List StatementTree) (entries
 judged s count before entries span n i old new p k a r h fresh known = record {
   tree = r.tree;
   accepted = record {
-    few = let f = a.few in let g = k.many in omega arith; closed = a.closed; small = a.small; reads = r.reads; only = r.only; fit = sym r.fits ∙ h;
+    few = let f = a.few in let g = k.many in omega arith;
+    closed = a.closed;
+    small = a.small;
+    reads = r.reads;
+    only = r.only;
+    fit = sym r.fits ∙ h;
     fresh = no_duplicate s count before entries span n i old new p k r fresh;
-    entry = λ d. has_entry s count before entries span n i old new p k r known d
+    entry = λ d. has_entry s count before entries span n i old new p k r known d;
   };
-  stands = r.stands
+  stands = r.stands;
 }
 
 -- a longer text

@@ -1,20 +1,18 @@
 -- Two targets, a branch and a goto are found exactly.
-use Rattle.std.proofs.Common.{◌≡◌, ◌≢◌, ℕ, ◌+◌, ◌<◌, ◌≤◌, ◌⊎◌, ◌&&◌, inl, inr, Bool, true, false, List, [], ◌∷◌, length, arith, refl, sym, ◌∙◌, ap, subst, Some, None, Option}
-use Rattle.std.proofs.lemmas.Bool.{cases_lt}
+use Rattle.std.proofs.Common.{◌≡◌, ◌≢◌, ℕ, ◌+◌, ◌≤◌, ◌⊎◌, ◌&&◌, inl, inr, Bool, true, false, List, length, arith, refl, ◌∙◌, ap, subst, Some, Option}
 use Rattle.std.proofs.lemmas.List.{get_or_past}
 use Rattle.sno_text.specs.declared.bytes.Class.TheVariants.{Blank}
 use Rattle.sno_text.specs.declared.node.Node.{Node}
 use Rattle.sno_text.specs.declared.table.Read.{Read}
 use Rattle.sno_text.specs.declared.statement.Target.{Target}
-use Rattle.sno_text.specs.declared.statement.Target.TheVariants as targets
 use Rattle.sno_text.specs.declared.statement.Jump.{Jump}
 use Rattle.sno_text.specs.declared.statement.Jump.TheVariants as jumps
 use Rattle.sno_text.specs.declared.goto.Targets.{Targets}
 use Rattle.sno_text.specs.Bytes.{byte, is_blank, IsWholeRun}
 use Rattle.sno_text.specs.Grammar.{IsGap, IsBlanks}
 use Rattle.sno_text.specs.Outcome.{Extends}
-use Rattle.sno_text.specs.Statements.{TargetTree, Label, Computed, JumpTree, Fall, Always, Either, IsTarget, HasOther, HasTargets, IsBranch, always, success, failure, HasJump, target_fits, target_option_fits, jump_fits}
-use Rattle.sno_text.specs.Pieces.{MeetsEnd, MeetsColon, Anywhere, Gives, Lacks, StandsTarget, StandsTargets, StandsJump, HasTargetPair, StandsTargetPair, pair_fits}
+use Rattle.sno_text.specs.Statements.{TargetTree, JumpTree, Fall, Always, Either, IsTarget, HasOther, HasTargets, IsBranch, always, success, failure, HasJump, target_fits, target_option_fits, jump_fits}
+use Rattle.sno_text.specs.Pieces.{MeetsEnd, Anywhere, Gives, Lacks, StandsTarget, StandsTargets, StandsJump, HasTargetPair, StandsTargetPair, pair_fits}
 use Rattle.sno_text.proofs.Runs.{run_end_unique}
 use Rattle.sno_text.proofs.Standing.{stands_target_more}
 use Rattle.sno_text.proofs.Tables.{extends_same}
@@ -36,7 +34,7 @@ pub gives_targets : {n : ℕ} (s : List ℕ) (letter i : ℕ) (old mid new : Lis
     Gives TargetTree Target (IsTarget s i) Anywhere StandsTarget target_fits (length s) i old mid f →
     Gives (Option TargetTree) (Option Target) (HasOther s letter f.end) (MeetsEnd s) StandsTargets target_option_fits (length s) f.end mid new g → Extends n mid new →
     Gives (TargetTree × Option TargetTree) Targets (HasTargetPair s letter i) (MeetsEnd s) StandsTargetPair pair_fits (length s) i old new
-      (record { what = record { first = f.what; second = g.what }; end = g.end; fits = f.fits && g.fits })
+    (record { what = record { first = f.what; second = g.what }; end = g.end; fits = f.fits && g.fits })
 gives_targets s letter i old mid new f g a b x = record {
   tree = (a.tree, b.tree);
   reads = (f.end, a.reads, b.reads);
@@ -45,7 +43,7 @@ gives_targets s letter i old mid new f g a b x = record {
   fits = fits_both f.fits g.fits (target_fits a.tree) (target_option_fits b.tree) a.fits b.fits;
   order = let v = a.order in let w = b.order in omega arith;
   within = b.within;
-  room = let v = a.room in let w = b.room in omega arith
+  room = let v = a.room in let w = b.room in omega arith;
 }
 
 pub lacks_first : (s : List ℕ) (letter i : ℕ) → Lacks TargetTree (IsTarget s i) Anywhere → Lacks (TargetTree × Option TargetTree) (HasTargetPair s letter i) (MeetsEnd s)
@@ -66,8 +64,14 @@ pub gives_always : (s : List ℕ) (i : ℕ) (old new : List Node) (f : Read Targ
     Gives TargetTree Target (IsTarget s i) Anywhere StandsTarget target_fits (length s) i old new f →
     Gives JumpTree Jump (IsBranch s i) (MeetsEnd s) StandsJump jump_fits (length s) i old new (record { what = jumps.Always f.what; end = f.end; fits = f.fits })
 gives_always s i old new f h n a = record {
-  tree = Always a.tree; reads = always a.reads refl; only = λ k u r stops. always_only s i k f.end u a.tree h n a.only r;
-  stands = a.stands; fits = a.fits; order = a.order; within = a.within; room = a.room
+  tree = Always a.tree;
+  reads = always a.reads refl;
+  only = λ k u r stops. always_only s i k f.end u a.tree h n a.only r;
+  stands = a.stands;
+  fits = a.fits;
+  order = a.order;
+  within = a.within;
+  room = a.room;
 }
 
 always_none : (s : List ℕ) (i k : ℕ) (g : JumpTree) → byte s i ≢ 83 → byte s i ≢ 70 → Lacks TargetTree (IsTarget s i) Anywhere → IsBranch s i k g → ⊥
@@ -107,16 +111,28 @@ pub gives_success : (s : List ℕ) (i : ℕ) (old new : List Node) (f : Read Tar
     Gives (TargetTree × Option TargetTree) Targets (HasTargetPair s 70 (i + 1)) (MeetsEnd s) StandsTargetPair pair_fits (length s) (i + 1) old new f →
     Gives JumpTree Jump (IsBranch s i) (MeetsEnd s) StandsJump jump_fits (length s) i old new (record { what = jumps.Either (Some f.what.first) f.what.second; end = f.end; fits = f.fits })
 gives_success s i old new f h a = record {
-  tree = Either (Some a.tree.0) a.tree.1; reads = success h a.reads refl; only = λ k u r stops. success_only s i k f.end u a.tree.0 a.tree.1 h a.only r stops;
-  stands = a.stands; fits = a.fits; order = let v = a.order in omega arith; within = a.within; room = let v = a.room in omega arith
+  tree = Either (Some a.tree.0) a.tree.1;
+  reads = success h a.reads refl;
+  only = λ k u r stops. success_only s i k f.end u a.tree.0 a.tree.1 h a.only r stops;
+  stands = a.stands;
+  fits = a.fits;
+  order = let v = a.order in omega arith;
+  within = a.within;
+  room = let v = a.room in omega arith;
 }
 
 pub gives_failure : (s : List ℕ) (i : ℕ) (old new : List Node) (f : Read Targets) → byte s i ≡ 70 →
     Gives (TargetTree × Option TargetTree) Targets (HasTargetPair s 83 (i + 1)) (MeetsEnd s) StandsTargetPair pair_fits (length s) (i + 1) old new f →
     Gives JumpTree Jump (IsBranch s i) (MeetsEnd s) StandsJump jump_fits (length s) i old new (record { what = jumps.Either f.what.second (Some f.what.first); end = f.end; fits = f.fits })
 gives_failure s i old new f h a = record {
-  tree = Either a.tree.1 (Some a.tree.0); reads = failure h a.reads refl; only = λ k u r stops. failure_only s i k f.end u a.tree.0 a.tree.1 h a.only r stops;
-  stands = (a.stands.1, a.stands.0); fits = a.fits ∙ and_swap (target_fits a.tree.0) (target_option_fits a.tree.1); order = let v = a.order in omega arith; within = a.within; room = let v = a.room in omega arith
+  tree = Either a.tree.1 (Some a.tree.0);
+  reads = failure h a.reads refl;
+  only = λ k u r stops. failure_only s i k f.end u a.tree.0 a.tree.1 h a.only r stops;
+  stands = (a.stands.1, a.stands.0);
+  fits = a.fits ∙ and_swap (target_fits a.tree.0) (target_option_fits a.tree.1);
+  order = let v = a.order in omega arith;
+  within = a.within;
+  room = let v = a.room in omega arith;
 }
 
 success_none : (s : List ℕ) (i k : ℕ) (g : JumpTree) → byte s i ≡ 83 → Lacks (TargetTree × Option TargetTree) (HasTargetPair s 70 (i + 1)) (MeetsEnd s) → IsBranch s i k g → MeetsEnd s k → ⊥
@@ -161,7 +177,14 @@ fall_only s i k (Either t v) n (m, l, b, h, c, r) = absurd (n m b h)
 pub gives_fall : (s : List ℕ) (i at : ℕ) (old : List Node) → IsWholeRun Blank s i at → (at ≡ i) ⊎ (byte s at ≢ 58) → i ≤ length s →
     Gives JumpTree Jump (HasJump s i) (MeetsEnd s) StandsJump jump_fits (length s) i old old (record { what = jumps.Fall; end = i; fits = true })
 gives_fall s i at old g h w = record {
-  tree = Fall; reads = refl; only = λ k u r stops. fall_only s i k u (no_colon s i at g h) r; stands = tt; fits = refl; order = omega arith; within = w; room = omega arith
+  tree = Fall;
+  reads = refl;
+  only = λ k u r stops. fall_only s i k u (no_colon s i at g h) r;
+  stands = tt;
+  fits = refl;
+  order = omega arith;
+  within = w;
+  room = omega arith;
 }
 
 colon_not_end : (s : List ℕ) (i at : ℕ) → IsWholeRun Blank s i at → byte s at ≡ 58 → MeetsEnd s i → ⊥
@@ -197,10 +220,11 @@ gives_jump s i at start old new f n g h c a = record {
   tree = a.tree;
   reads = has_jump s i at start f.end a.tree (record { some = let o = g.run.order in omega arith; run = g.run }) h c.run a.reads;
   only = λ k u r stops. jump_only s i at start k f.end u a.tree g h c a.only r stops;
-  stands = a.stands; fits = a.fits;
+  stands = a.stands;
+  fits = a.fits;
   order = let o = g.run.order in let v = c.run.order in let w = a.order in omega arith;
   within = a.within;
-  room = let o = g.run.order in let v = c.run.order in let w = a.room in omega arith
+  room = let o = g.run.order in let v = c.run.order in let w = a.room in omega arith;
 }
 
 jump_none : (s : List ℕ) (i at start k : ℕ) (u : JumpTree) → IsWholeRun Blank s i at → byte s at ≡ 58 → IsWholeRun Blank s (at + 1) start →
@@ -214,5 +238,7 @@ pub lacks_jump : (s : List ℕ) (i at start : ℕ) → IsWholeRun Blank s i at �
 lacks_jump s i at start g h c f = record { none = λ k u r stops. jump_none s i at start k u g h c f r stops }
 
 pub ruleset targets_facts = (gives_targets, lacks_first, lacks_second, extends_same)
+
 pub ruleset branch_facts = (gives_always, lacks_always, gives_success, gives_failure, lacks_success, lacks_failure, extends_same)
+
 pub ruleset jump_facts = (gives_fall, gives_jump, lacks_jump, extends_same)

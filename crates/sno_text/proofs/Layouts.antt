@@ -1,16 +1,16 @@
 -- The lines joined, and cut.
-use Rattle.std.proofs.Common.{◌≡◌, ◌≢◌, ℕ, zero, suc, ◌+◌, ◌-◌, ◌<◌, ◌≤◌, ◌⊎◌, ◌==◌, inl, inr, Bool, true, false, ◌&&◌, ◌||◌, not, List, [], ◌∷◌, ◌++◌, length, map, drop, take, get_or, slice_range, replicate, arith, refl, sym, ◌∙◌, ap, subst, append_assoc, append-nil, length-append, drop-cons, add-one, if◌then◌else◌}
-use Rattle.std.proofs.lemmas.Bool.{cases_lt, cases_Bool}
+use Rattle.std.proofs.Common.{◌≡◌, ◌≢◌, ℕ, zero, suc, ◌+◌, ◌-◌, ◌<◌, ◌≤◌, ◌==◌, inl, inr, Bool, true, false, ◌&&◌, List, [], ◌∷◌, ◌++◌, length, map, drop, take, get_or, slice_range, arith, refl, sym, ◌∙◌, ap, append_assoc, append-nil, length-append, drop-cons, add-one}
+use Rattle.std.proofs.lemmas.Bool.{cases_Bool}
 use Rattle.std.proofs.lemmas.Grind.{common_steps}
 use Rattle.std.proofs.lemmas.List.{take_all, length-drop}
-use Rattle.std.specs.List.{list_all, filter, concat}
+use Rattle.std.specs.List.{list_all, concat}
 use Rattle.bstr.specs.Text.{lines_of, without_terminator}
 use Rattle.sno_text.specs.declared.node.Span.{Span}
 use Rattle.sno_text.specs.declared.layout.LineKind.{LineKind}
 use Rattle.sno_text.specs.declared.layout.LineKind.TheVariants.{Skipped, Continuation, Card}
-use Rattle.sno_text.specs.Bytes.{byte, is_blank}
+use Rattle.sno_text.specs.Bytes.{is_blank}
 use Rattle.sno_text.specs.Refusals.{quote_step}
-use Rattle.sno_text.specs.Lines.{end_feeds, is_skipped, is_continuation, line_feeds, own, continued, prepend, cards_from, cards, joined, cut, part, statements_of, moved, extents_from, extents}
+use Rattle.sno_text.specs.Lines.{is_skipped, is_continuation, line_feeds, own, continued, prepend, cards_from, joined, cut, statements_of, moved, extents_from, extents}
 use Rattle.sno_text.specs.Layouts.{kind_of, read_line, part_from, kept}
 
 dropped : (i : ℕ) (s : List ℕ) → i < length s → drop i s ≡ get_or s i 0 ∷ drop (i + 1) s
@@ -58,9 +58,9 @@ pub kind_continuation : (begun : Bool) (line : List ℕ) (kind : LineKind) → k
 kind_continuation begun line kind e f = let g = sym e ∙ f in elim (cases_Bool (is_skipped line)) [
   | inl a ↦ absurd (let h = rw a at g in cc)
   | inr a ↦ elim (cases_Bool (begun && is_continuation line)) [
-      | inl b ↦ grind (arith, common_steps)
-      | inr b ↦ absurd (let h = rw (a, b) at g in cc)
-    ]
+    | inl b ↦ grind (arith, common_steps)
+    | inr b ↦ absurd (let h = rw (a, b) at g in cc)
+  ]
 ]
 
 prepend_prepend : (x y : List ℕ) (cs : List (List ℕ)) → prepend x (prepend y cs) ≡ prepend (x ++ y) cs
@@ -80,12 +80,12 @@ cards_joined : (begun : Bool) (line : List ℕ) (lines : List (List ℕ)) (kind 
 cards_joined begun line lines kind e h = elim (cases_Bool (is_skipped (without_terminator line))) [
   | inl a ↦ let f : kind ≡ Skipped = rw a at e in rw (f, a) refl
   | inr a ↦ elim (cases_Bool begun) [
-      | inl b ↦ elim (cases_Bool (is_continuation (without_terminator line))) [
-          | inl d ↦ let f : kind ≡ Continuation = rw (a, b, d) at e in rw (f, a, b, d) refl
-          | inr d ↦ absurd (h (rw (a, b, d) at e))
-        ]
-      | inr b ↦ absurd (h (rw (a, b) at e))
+    | inl b ↦ elim (cases_Bool (is_continuation (without_terminator line))) [
+      | inl d ↦ let f : kind ≡ Continuation = rw (a, b, d) at e in rw (f, a, b, d) refl
+      | inr d ↦ absurd (h (rw (a, b, d) at e))
     ]
+    | inr b ↦ absurd (h (rw (a, b) at e))
+  ]
 ]
 
 cards_begun : (begun : Bool) (line : List ℕ) (lines : List (List ℕ)) (kind : LineKind) → kind ≡ kind_of begun (without_terminator line) → kind ≡ Card →
@@ -93,9 +93,9 @@ cards_begun : (begun : Bool) (line : List ℕ) (lines : List (List ℕ)) (kind :
 cards_begun begun line lines kind e h = elim (cases_Bool (is_skipped (without_terminator line))) [
   | inl a ↦ let f : kind ≡ Skipped = rw a at e in absurd (cc)
   | inr a ↦ elim (cases_Bool (begun && is_continuation (without_terminator line))) [
-      | inl b ↦ let f : kind ≡ Continuation = rw (a, b) at e in absurd (cc)
-      | inr b ↦ rw (a, b) refl
-    ]
+    | inl b ↦ let f : kind ≡ Continuation = rw (a, b) at e in absurd (cc)
+    | inr b ↦ rw (a, b) refl
+  ]
 ]
 
 cards_nil : (begun : Bool) (lines : List (List ℕ)) → prepend [] (cards_from begun lines) ≡ cards_from begun lines
@@ -103,9 +103,9 @@ cards_nil begun [] = refl
 cards_nil begun (line ∷ lines) = elim (cases_Bool (is_skipped (without_terminator line))) [
   | inl a ↦ rw a (prepend_nil (line_feeds (length line)) (cards_from begun lines))
   | inr a ↦ elim (cases_Bool (begun && is_continuation (without_terminator line))) [
-      | inl b ↦ rw (a, b) (prepend_nil (continued line) (cards_from true lines))
-      | inr b ↦ rw (a, b) refl
-    ]
+    | inl b ↦ rw (a, b) (prepend_nil (continued line) (cards_from true lines))
+    | inr b ↦ rw (a, b) refl
+  ]
 ]
 
 drop_append : (n : ℕ) (xs ys : List ℕ) → n ≤ length xs → drop n (xs ++ ys) ≡ drop n xs ++ ys
@@ -143,12 +143,12 @@ laid_line s begun start text new spans line rest kind e h f l =
     record {
       joined = ap (λ x. x ++ concat cs) f ∙ append_assoc text (read_line kind line) (concat cs) ∙ ap (λ x. text ++ x) (sym (concat_prepend (read_line kind line) cs)) ∙ ap (λ x. text ++ concat x) (sym is) ∙ l.joined;
       extents =
-        ap (λ x. spans ++ extents_from start (prepend (drop start x) cs)) f
-        ∙ ap (λ x. spans ++ extents_from start (prepend x cs)) (drop_append start text (read_line kind line) o)
-        ∙ ap (λ x. spans ++ extents_from start x) (sym (prepend_prepend (drop start text) (read_line kind line) cs))
-        ∙ ap (λ x. spans ++ extents_from start (prepend (drop start text) x)) (sym is)
-        ∙ l.extents;
-      order = let n : length new ≡ length text + length (read_line kind line) = ap length f ∙ length_added text (read_line kind line) in omega arith
+          ap (λ x. spans ++ extents_from start (prepend (drop start x) cs)) f
+          ∙ ap (λ x. spans ++ extents_from start (prepend x cs)) (drop_append start text (read_line kind line) o)
+          ∙ ap (λ x. spans ++ extents_from start x) (sym (prepend_prepend (drop start text) (read_line kind line) cs))
+          ∙ ap (λ x. spans ++ extents_from start (prepend (drop start text) x)) (sym is)
+          ∙ l.extents;
+      order = let n : length new ≡ length text + length (read_line kind line) = ap length f ∙ length_added text (read_line kind line) in omega arith;
     }
 
 drop_whole : (n : ℕ) (xs : List ℕ) → take (length xs - n) (drop n xs) ≡ drop n xs
@@ -165,15 +165,15 @@ laid_card s begun start text new spans more line rest kind e h f g l =
     record {
       joined = ap (λ x. x ++ concat cs) added ∙ append_assoc text (own line) (concat cs) ∙ ap (λ x. text ++ x) (sym (concat_prepend (own line) cs)) ∙ ap (λ x. text ++ concat x) (sym is) ∙ l.joined;
       extents =
-        ap (λ x. more ++ extents_from (length text) (prepend (drop (length text) x) cs)) added
-        ∙ ap (λ x. more ++ extents_from (length text) (prepend x cs)) (drop_length text (own line))
-        ∙ ap (λ x. x ++ extents_from (length text) (prepend (own line) cs)) (g ∙ ap (λ x. spans ++ map (moved start) (statements_of x)) (drop_whole start text))
-        ∙ append_assoc spans (map (moved start) (statements_of d)) (extents_from (length text) (prepend (own line) cs))
-        ∙ ap (λ x. spans ++ (map (moved start) (statements_of d) ++ extents_from x (prepend (own line) cs))) (sym (length_dropped start text l.order))
-        ∙ ap (λ x. spans ++ (map (moved start) (statements_of x) ++ extents_from (start + length x) (prepend (own line) cs))) (sym (append-nil d))
-        ∙ ap (λ x. spans ++ extents_from start (prepend d x)) (sym is)
-        ∙ l.extents;
-      order = let n : length new ≡ length text + length (own line) = ap length added ∙ length_added text (own line) in omega arith
+          ap (λ x. more ++ extents_from (length text) (prepend (drop (length text) x) cs)) added
+          ∙ ap (λ x. more ++ extents_from (length text) (prepend x cs)) (drop_length text (own line))
+          ∙ ap (λ x. x ++ extents_from (length text) (prepend (own line) cs)) (g ∙ ap (λ x. spans ++ map (moved start) (statements_of x)) (drop_whole start text))
+          ∙ append_assoc spans (map (moved start) (statements_of d)) (extents_from (length text) (prepend (own line) cs))
+          ∙ ap (λ x. spans ++ (map (moved start) (statements_of d) ++ extents_from x (prepend (own line) cs))) (sym (length_dropped start text l.order))
+          ∙ ap (λ x. spans ++ (map (moved start) (statements_of x) ++ extents_from (start + length x) (prepend (own line) cs))) (sym (append-nil d))
+          ∙ ap (λ x. spans ++ extents_from start (prepend d x)) (sym is)
+          ∙ l.extents;
+      order = let n : length new ≡ length text + length (own line) = ap length added ∙ length_added text (own line) in omega arith;
     }
 
 pub laid_joined : (s : List ℕ) (begun : Bool) (start : ℕ) (text : List ℕ) (spans : List Span) (rest : List (List ℕ)) → rest ≡ [] → Laid s begun start text spans rest → text ≡ joined s

@@ -46,7 +46,7 @@ pub refuses_given : (s : List ℕ) (i k : ℕ) → IsWholeRun Blank s i k → (C
 refuses_given s i k g h f = record { none = λ j t r stops. given_none j t g h f r stops }
 
 -- an argument before more of them is closed
-more_closes : {s : List ℕ} {i j : ℕ} {u t : Tree} → Reads s (More u) i j t → Shuts s j → Closes s i
+pub more_closes : {s : List ℕ} {i j : ℕ} {u t : Tree} → Reads s (More u) i j t → Shuts s j → Closes s i
 more_closes {s} {i} {j} (last e f) h = inr (rw (← e) h)
 more_closes (next a b c) h = inl a
 
@@ -66,7 +66,7 @@ first_none k t f (arguments {m = n} {u = v} a b) stops = f.none n v a (more_clos
 pub refuses_lists : (s : List ℕ) (i : ℕ) → Refuses s Argument (Closes s) i → Refuses s Arguments (Shuts s) i
 refuses_lists s i f = record { none = λ k t r stops. first_none k t f r stops }
 
-comma_no_shut : (s : List ℕ) (i : ℕ) → byte s i ≡ 44 → Shuts s i → ⊥
+pub comma_no_shut : (s : List ℕ) (i : ℕ) → byte s i ≡ 44 → Shuts s i → ⊥
 unfolding is_closing
 comma_no_shut s i e h = let g : is_closing 44 ≡ true = rw e at h in cc
 

@@ -1,6 +1,6 @@
 -- The statements of a text follow one another in it.
-use Rattle.std.proofs.Common.{◌≡◌, ◌≢◌, ℕ, zero, suc, ◌+◌, ◌-◌, ◌<◌, ◌≤◌, ◌⊎◌, ◌==◌, ◌&&◌, ◌||◌, inl, inr, Bool, true, false, cond, List, [], ◌∷◌, ◌++◌, length, map, drop, take, replicate, nat_lt, slice_index, arith, refl, sym, ◌∙◌, ap, subst, length-append, add-zero}
-use Rattle.std.proofs.lemmas.Bool.{cases_lt, cases_Bool}
+use Rattle.std.proofs.Common.{◌≡◌, ℕ, zero, suc, ◌+◌, ◌-◌, ◌≤◌, ◌==◌, ◌&&◌, inl, inr, Bool, true, false, cond, List, [], ◌∷◌, ◌++◌, length, map, drop, take, arith, refl, sym, ◌∙◌, ap, subst}
+use Rattle.std.proofs.lemmas.Bool.{cases_Bool}
 use Rattle.std.proofs.lemmas.List.{length-drop}
 use Rattle.std.specs.List.{concat, filter}
 use Rattle.bstr.specs.Text.{lines_of, without_terminator, no_cr}
@@ -8,7 +8,7 @@ use Rattle.bstr.proofs.lemmas.RestLemmas.{concat-lines_of}
 use Rattle.sno_text.specs.declared.node.Span.{Span}
 use Rattle.sno_text.specs.Refusals.{quote_step}
 use Rattle.sno_text.specs.Lines.{is_skipped, is_continuation, line_feeds, end_feeds, own, continued, prepend, cards_from, cards, joined, cut, statements_of, moved, extents_from, extents}
-use Rattle.sno_text.specs.Layouts.{InOrder, kept}
+use Rattle.sno_text.specs.Layouts.{InOrder}
 use Rattle.sno_text.proofs.Layouts.{concat_prepend, length_added, continuation_some}
 
 order_within : (at n : ℕ) (es : List Span) → InOrder at n es → at ≤ n
@@ -98,9 +98,9 @@ length_cards begun [] = refl
 length_cards begun (line ∷ lines) = elim (cases_Bool (is_skipped (without_terminator line))) [
   | inl a ↦ rw a (length_prepended (line_feeds (length line)) line (cards_from begun lines) _ (length_feeds (length line)) (length_cards begun lines) ∙ sym (length_added line (concat lines)))
   | inr a ↦ elim (cases_Bool (begun && is_continuation (without_terminator line))) [
-      | inl b ↦ rw (a, b) (length_prepended (continued line) line (cards_from true lines) _ (length_continued line (both_true begun _ b)) (length_cards true lines) ∙ sym (length_added line (concat lines)))
-      | inr b ↦ rw (a, b) (length_prepended (own line) line (cards_from true lines) _ (length_own line) (length_cards true lines) ∙ sym (length_added line (concat lines)))
-    ]
+    | inl b ↦ rw (a, b) (length_prepended (continued line) line (cards_from true lines) _ (length_continued line (both_true begun _ b)) (length_cards true lines) ∙ sym (length_added line (concat lines)))
+    | inr b ↦ rw (a, b) (length_prepended (own line) line (cards_from true lines) _ (length_own line) (length_cards true lines) ∙ sym (length_added line (concat lines)))
+  ]
 ]
 
 pub length_joined : (s : List ℕ) → length (joined s) ≡ length s

@@ -1,6 +1,5 @@
 -- Whole statements are found exactly.
-use Rattle.std.proofs.Common.{◌≡◌, ◌≢◌, ℕ, ◌+◌, ◌<◌, ◌≤◌, ◌⊎◌, ◌&&◌, inl, inr, ◌||◌, Bool, true, false, List, [], ◌∷◌, length, arith, refl, sym, ◌∙◌, ap, subst, Some, None, Option, codes}
-use Rattle.std.proofs.lemmas.Bool.{cases_lt}
+use Rattle.std.proofs.Common.{◌≡◌, ◌≢◌, ℕ, ◌<◌, ◌≤◌, ◌⊎◌, ◌&&◌, inl, inr, ◌||◌, true, false, List, length, arith, refl, sym, ◌∙◌, ap, subst, Some, None, Option, codes}
 use Rattle.std.proofs.lemmas.List.{get_or_past}
 use Rattle.sno_text.specs.declared.bytes.Class.TheVariants.{Blank, NameByte}
 use Rattle.sno_text.specs.declared.node.Node.{Node}
@@ -14,12 +13,11 @@ use Rattle.sno_text.specs.Bytes.{byte, is_blank, is_letter, is_digit, IsWholeRun
 use Rattle.sno_text.specs.Grammar.{IsGap, IsBlanks}
 use Rattle.sno_text.specs.Outcome.{Extends}
 use Rattle.sno_text.specs.Lines.{part}
-use Rattle.sno_text.specs.Statements.{IsLabel, JumpTree, Fall, Always, Either, IsBranch, HasJump, CoreTree, HasCore, HasLabel, HasEntry, StatementTree, IsPlain, IsEnd, IsStatement, IsNotLabelled, core_option_fits, jump_fits, statement_fits}
-use Rattle.sno_text.specs.Pieces.{MeetsEnd, MeetsColon, MeetsEquals, Gives, Lacks, StandsCores, StandsJump}
-use Rattle.sno_text.specs.Phrases.{IsRest, IsEndRest, FindsEntry, PhraseOutcome, StandsPhrase, GivesPhrase}
+use Rattle.sno_text.specs.Statements.{IsLabel, JumpTree, Fall, Always, Either, HasJump, CoreTree, HasCore, HasLabel, HasEntry, StatementTree, IsPlain, IsEnd, IsStatement, core_option_fits, jump_fits}
+use Rattle.sno_text.specs.Pieces.{MeetsEnd, MeetsColon, Gives, Lacks, StandsCores, StandsJump}
+use Rattle.sno_text.specs.Phrases.{IsRest, IsEndRest, FindsEntry, PhraseOutcome, GivesPhrase}
 use Rattle.sno_text.proofs.Runs.{run_end_unique}
-use Rattle.sno_text.proofs.Tables.{extends_none}
-use Rattle.sno_text.proofs.Standing.{stands_cores_more, stands_jump_more}
+use Rattle.sno_text.proofs.Standing.{stands_cores_more}
 use Rattle.sno_text.proofs.Jumps.{fits_both}
 use Rattle.sno_text.proofs.Targets.{label_not_blank}
 use Rattle.sno_text.proofs.Stops.{meets_end, end_meets_colon, blanks_colon, blanks_whole}
@@ -84,16 +82,22 @@ pub gives_rest : {n : ℕ} (s : List ℕ) (label : Option Span) (i at : ℕ) (ol
 gives_rest s label i at old mid new f g a b x h e some = record {
   tree = record { label = label; core = a.tree; jump = b.tree; entry = None };
   reads = record {
-    after_core = f.end; after_jump = g.end; label = refl; core = a.reads; jump = b.reads; rest = subst (λ y. IsGap s g.end y) e h.run; entry = refl;
-    some = λ l c. some_read mid new f.what a.tree g.what b.tree a.stands b.stands (some l) c
+    after_core = f.end;
+    after_jump = g.end;
+    label = refl;
+    core = a.reads;
+    jump = b.reads;
+    rest = subst (λ y. IsGap s g.end y) e h.run;
+    entry = refl;
+    some = λ l c. some_read mid new f.what a.tree g.what b.tree a.stands b.stands (some l) c;
   };
   only = λ u r.
-    let p = a.only r.after_core u.core r.core (rest_core s label i u r) in
-    let q = b.only r.after_jump u.jump (rest_jump s label i f.end u r p.0) (rest_meets s label i u r) in
-    statement_equal u (record { label = label; core = a.tree; jump = b.tree; entry = None }) r.label p.1 q.1 r.entry;
+      let p = a.only r.after_core u.core r.core (rest_core s label i u r) in
+      let q = b.only r.after_jump u.jump (rest_jump s label i f.end u r p.0) (rest_meets s label i u r) in
+      statement_equal u (record { label = label; core = a.tree; jump = b.tree; entry = None }) r.label p.1 q.1 r.entry;
   stands = (refl, stands_cores_more f.what a.tree x a.stands, b.stands, refl);
   fits = fits_both f.fits g.fits (core_option_fits a.tree) (jump_fits b.tree) a.fits b.fits;
-  room = let v = a.room in let w = b.room in let y = b.within in omega arith
+  room = let v = a.room in let w = b.room in let y = b.within in omega arith;
 }
 
 pub lacks_rest_core : (s : List ℕ) (label : Option Span) (i : ℕ) → Lacks (Option CoreTree) (HasCore s i) (MeetsColon s) → (u : StatementTree) → IsRest s label i u → ⊥
@@ -163,7 +167,7 @@ finds_entry s i at span n g from l some w = record {
   reads = (at, record { some = let o = g.run.order in omega arith; run = g.run }, (l, span_is at span.end span.end span from refl refl));
   only = λ k u r stops. entry_only s i at span.end k span u g l from refl r stops;
   order = let o = g.run.order in omega arith;
-  within = w
+  within = w;
 }
 
 pub gives_end : (s : List ℕ) (label : Span) (at : ℕ) (table : List Node) (f : Read (Option Span)) → FindsEntry s label.end f → IsWholeRun Blank s f.end at → at ≡ length s →
@@ -175,7 +179,7 @@ gives_end s label at table f a g e = record {
       statement_equal u (record { label = Some label; core = None; jump = Fall; entry = f.what }) r.label r.core r.jump q.1;
   stands = (refl, tt, tt, refl);
   fits = refl;
-  room = let o = a.order in let w = a.within in omega arith
+  room = let o = a.order in let w = a.within in omega arith;
 }
 
 pub lacks_end : (s : List ℕ) (label : Span) (at : ℕ) (f : Read (Option Span)) → FindsEntry s label.end f → IsWholeRun Blank s f.end at → at ≢ length s → (u : StatementTree) → IsEndRest s label u → ⊥
@@ -217,16 +221,30 @@ labelled s i e u r l = label_is s i r.after_label e u.label l r.label
 
 rest_of : (s : List ℕ) (i e : ℕ) (given : Option Span) (u : StatementTree) (r : IsPlain s i u) → r.after_label ≡ e → u.label ≡ given → IsRest s given e u
 rest_of s i e given u r f g = record {
-  after_core = r.after_core; after_jump = r.after_jump; label = g; core = subst (λ x. HasCore s x r.after_core u.core) f r.core; jump = r.jump; rest = r.rest; entry = r.entry; some = r.some
+  after_core = r.after_core;
+  after_jump = r.after_jump;
+  label = g;
+  core = subst (λ x. HasCore s x r.after_core u.core) f r.core;
+  jump = r.jump;
+  rest = r.rest;
+  entry = r.entry;
+  some = r.some;
 }
 
 end_of : (s : List ℕ) (i e : ℕ) (u : StatementTree) (r : IsEnd s i u) → IsLabel s i e → IsEndRest s (record { start = i; end = e }) u × (part s (record { start = i; end = e }) ≡ codes "END")
 end_of s i e u r l =
     let q = label_is s i r.after_label e (Some r.span) l r.has_label (λ n. cc) in
-    let same : r.span ≡ record { start = i; end = e } = some_equal q.1 in
-    (record {
-       after_entry = r.after_entry; label = r.label ∙ ap Some same; entry = subst (λ x. HasEntry s x r.after_entry u.entry) q.0 r.entry; rest = r.rest; core = r.core; jump = r.jump
-     }, ap (part s) (sym same) ∙ r.is_end)
+    let same : r.span ≡ record { start = i; end = e } = some_equal q.1 in (
+      record {
+        after_entry = r.after_entry;
+        label = r.label ∙ ap Some same;
+        entry = subst (λ x. HasEntry s x r.after_entry u.entry) q.0 r.entry;
+        rest = r.rest;
+        core = r.core;
+        jump = r.jump;
+      },
+      ap (part s) (sym same) ∙ r.is_end,
+    )
 
 unlabelled_only : (s : List ℕ) (i : ℕ) (u t : StatementTree) → ((e : ℕ) → IsLabel s i e → ⊥) → ((u : StatementTree) → IsRest s None i u → u ≡ t) → IsStatement s i u → u ≡ t
 unlabelled_only s i u t n only (inl r) = let q = label_none_is s i r.after_label u.label n r.label in only u (rest_of s i i None u r q.0 q.1)
@@ -258,11 +276,23 @@ statement_unlabelled s i old new None n f = λ u r. unlabelled_none s i u n f r
 statement_unlabelled s i old new (Some p) n a = record {
   tree = a.tree;
   reads = inl (record {
-    after_label = i; after_core = a.reads.after_core; after_jump = a.reads.after_jump; label = rw a.reads.label refl; core = a.reads.core; jump = a.reads.jump; rest = a.reads.rest; entry = a.reads.entry; some = a.reads.some;
-    no_end = λ span e. absurd (let f = sym a.reads.label ∙ e in cc); no_return = λ span e. absurd (let f = sym a.reads.label ∙ e in cc); no_freturn = λ span e. absurd (let f = sym a.reads.label ∙ e in cc)
+    after_label = i;
+    after_core = a.reads.after_core;
+    after_jump = a.reads.after_jump;
+    label = rw a.reads.label refl;
+    core = a.reads.core;
+    jump = a.reads.jump;
+    rest = a.reads.rest;
+    entry = a.reads.entry;
+    some = a.reads.some;
+    no_end = λ span e. absurd (let f = sym a.reads.label ∙ e in cc);
+    no_return = λ span e. absurd (let f = sym a.reads.label ∙ e in cc);
+    no_freturn = λ span e. absurd (let f = sym a.reads.label ∙ e in cc);
   });
   only = λ u r. unlabelled_only s i u a.tree n a.only r;
-  stands = a.stands; fits = a.fits; room = a.room
+  stands = a.stands;
+  fits = a.fits;
+  room = a.room;
 }
 
 -- any other label
@@ -272,13 +302,23 @@ statement_labelled s i e old new None l lt x y z f = λ u r. labelled_none s i e
 statement_labelled s i e old new (Some p) l lt x y z a = record {
   tree = a.tree;
   reads = inl (record {
-    after_label = e; after_core = a.reads.after_core; after_jump = a.reads.after_jump; label = rw a.reads.label (l, refl); core = a.reads.core; jump = a.reads.jump; rest = a.reads.rest; entry = a.reads.entry; some = a.reads.some;
+    after_label = e;
+    after_core = a.reads.after_core;
+    after_jump = a.reads.after_jump;
+    label = rw a.reads.label (l, refl);
+    core = a.reads.core;
+    jump = a.reads.jump;
+    rest = a.reads.rest;
+    entry = a.reads.entry;
+    some = a.reads.some;
     no_end = λ span f same. x (ap (part s) (some_equal (sym a.reads.label ∙ f)) ∙ same);
     no_return = λ span f same. y (ap (part s) (some_equal (sym a.reads.label ∙ f)) ∙ same);
-    no_freturn = λ span f same. z (ap (part s) (some_equal (sym a.reads.label ∙ f)) ∙ same)
+    no_freturn = λ span f same. z (ap (part s) (some_equal (sym a.reads.label ∙ f)) ∙ same);
   });
   only = λ u r. labelled_only s i e u a.tree l x a.only r;
-  stands = a.stands; fits = a.fits; room = let o = a.room in omega arith
+  stands = a.stands;
+  fits = a.fits;
+  room = let o = a.room in omega arith;
 }
 
 -- END
@@ -288,11 +328,21 @@ statement_end s i e table None l lt x f = λ u r. end_none s i e u l x f r
 statement_end s i e table (Some p) l lt x a = record {
   tree = a.tree;
   reads = inr (record {
-    after_label = e; after_entry = a.reads.after_entry; span = record { start = i; end = e }; label = a.reads.label; has_label = (l, refl); is_end = x;
-    entry = a.reads.entry; rest = a.reads.rest; core = a.reads.core; jump = a.reads.jump
+    after_label = e;
+    after_entry = a.reads.after_entry;
+    span = record { start = i; end = e };
+    label = a.reads.label;
+    has_label = (l, refl);
+    is_end = x;
+    entry = a.reads.entry;
+    rest = a.reads.rest;
+    core = a.reads.core;
+    jump = a.reads.jump;
   });
   only = λ u r. end_only s i e u a.tree l x a.only r;
-  stands = a.stands; fits = a.fits; room = let o = a.room in omega arith
+  stands = a.stands;
+  fits = a.fits;
+  room = let o = a.room in omega arith;
 }
 
 -- RETURN or FRETURN
@@ -305,6 +355,9 @@ statement_freturn s i e l x u (inl r) = let q = labelled s i e u r l in r.no_fre
 statement_freturn s i e l x u (inr r) = let y = sym (end_of s i e u r l).1 ∙ x in absurd (cc)
 
 pub ruleset plain_facts = (gives_rest, lacks_rest_core, lacks_rest_jump, lacks_rest_end)
+
 pub ruleset entry_facts = (finds_no_entry, finds_entry)
+
 pub ruleset end_facts = (gives_end, lacks_end)
+
 pub ruleset statement_facts = (statement_unlabelled, statement_labelled, statement_end, statement_return, statement_freturn)

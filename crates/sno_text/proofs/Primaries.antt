@@ -348,7 +348,7 @@ refuses_unclosed s i k m l t opened g f h never = record {
       ];
 }
 
-pair_shut : (a b : ℕ) → IsPair a b → is_closing b ≡ true
+pub pair_shut : (a b : ℕ) → IsPair a b → is_closing b ≡ true
 unfolding is_closing
 pair_shut a b (inl p) = rw p.1 refl
 pair_shut a b (inr (inl p)) = rw p.1 refl

@@ -1,8 +1,7 @@
 -- The statements of a program are read in their order.
-use Rattle.std.proofs.Common.{◌≡◌, ◌≢◌, ℕ, zero, suc, ◌+◌, ◌-◌, ◌<◌, ◌≤◌, ◌⊎◌, ◌==◌, inl, inr, Bool, true, false, List, [], ◌∷◌, ◌++◌, length, take, drop, arith, refl, sym, ◌∙◌, ap, subst, Some, None, Option, slice_get, codes, is_some}
+use Rattle.std.proofs.Common.{◌≡◌, ◌≢◌, ℕ, zero, suc, ◌+◌, ◌<◌, ◌≤◌, ◌⊎◌, ◌==◌, inl, inr, true, List, [], ◌∷◌, ◌++◌, length, take, drop, arith, refl, sym, ◌∙◌, ap, subst, Some, None, Option, slice_get, codes, is_some}
 use Rattle.std.proofs.Common.{Result, Ok, Err, IsErrAnd, IfErr, IfSome, IfNone, ◌^◌}
-use Rattle.std.proofs.lemmas.Bool.{cases_lt}
-use Rattle.std.proofs.lemmas.Option.{slice_get_within, slice_get_cases}
+use Rattle.std.proofs.lemmas.Option.{slice_get_within}
 use Rattle.std.specs.declared.vec.Vec.{Vec}
 use Rattle.std.specs.declared.alloc.Global.{Global}
 use Rattle.sno_text.specs.declared.error.ReadError.{ReadError}
@@ -13,16 +12,16 @@ use Rattle.sno_text.specs.declared.phrase.Phrase.{Phrase}
 use Rattle.sno_text.specs.declared.statement.Statement.{Statement}
 use Rattle.sno_text.specs.Lines.{joined, extents, part, line_of}
 use Rattle.sno_text.specs.Layouts.{InOrder}
-use Rattle.sno_text.specs.Source.{Source, IsWithin, number_of, IsLabelled, IsIndex, IsStatementOf, IsTable, IsWhole}
+use Rattle.sno_text.specs.Source.{Source, IsWithin, number_of, IsLabelled, IsIndex, IsStatementOf, IsWhole}
 use Rattle.sno_text.specs.Outcome.{Extends}
 use Rattle.sno_text.specs.Statements.{StatementTree}
-use Rattle.sno_text.specs.Phrases.{StandsPhrase, StandsStatement, StandsProgram}
-use Rattle.sno_text.specs.Programs.{HasLabelled, IsAcceptedAt, IsRefusedAt, IsEndTree, Begins, none, one_more, IsProgram, IsRefusedProgram, statement, no_end}
+use Rattle.sno_text.specs.Phrases.{StandsStatement, StandsProgram}
+use Rattle.sno_text.specs.Programs.{HasLabelled, IsRefusedAt, none, one_more, IsProgram, IsRefusedProgram, statement, no_end}
 use Rattle.sno_text.specs.Judging.{Knows, Accepts, statement_of, IsTabled, IsReading}
 use Rattle.sno_text.proofs.Tables.{extends_none, extends_trans, length_grown, grown_of}
 use Rattle.sno_text.proofs.Standing.{stands_cores_more, stands_jump_more}
 use Rattle.sno_text.proofs.Expressions.{whole_table}
-use Rattle.sno_text.proofs.Indexes.{place_cases, place_kept, place_last, length_more}
+use Rattle.sno_text.proofs.Indexes.{place_cases, length_more}
 use Rattle.sno_text.proofs.Soundness.{sound_statement, sound_wider}
 use Rattle.sno_text.proofs.Judgements.{length_cut}
 use Rattle.sno_text.proofs.Order.{length_joined, extents_in_order}
@@ -46,9 +45,13 @@ get_some (x ∷ xs) (suc i) h = get_some xs i (omega arith)
 
 tabled_first : (s : List ℕ) (at : ℕ) → IsTabled s [] at [] [] []
 tabled_first s at = record {
-  count = refl; room = omega arith; extends = extends_none (length s) [] [] refl;
-  stands = λ j st span t a b c. absurd (get_none j st a); sound = λ j st a. absurd (get_none j st a); labels = λ j st t a b. absurd (get_none j st a);
-  index = record { sound = λ name n e. absurd (cc); complete = λ name n l. absurd (get_none l.0 l.1 l.4) }
+  count = refl;
+  room = omega arith;
+  extends = extends_none (length s) [] [] refl;
+  stands = λ j st span t a b c. absurd (get_none j st a);
+  sound = λ j st a. absurd (get_none j st a);
+  labels = λ j st t a b. absurd (get_none j st a);
+  index = record { sound = λ name n e. absurd (cc); complete = λ name n l. absurd (get_none l.0 l.1 l.4) };
 }
 
 pub reading_first : (s : List ℕ) (at : ℕ) → IsReading s 0 at [] [] []
@@ -76,13 +79,17 @@ pub reading_knows : (s : List ℕ) (k at : ℕ) (nodes : List Node) (sts : List 
 reading_knows s k at nodes sts es count r e = record {
   many = sym r.tabled.count ∙ sym e;
   sound = λ name h. let n = number_some (number_of es name) h in tabled_labelled s r.before at nodes sts es name n.0 r.tabled (r.tabled.index.sound name n.0 n.1);
-  complete = λ name h l. tabled_number s r.before at nodes sts es name r.tabled l h
+  complete = λ name h l. tabled_number s r.before at nodes sts es name r.tabled l h;
 }
 
 -- one more statement
 stands_grown : (s : List ℕ) (n : ℕ) (old new : List Node) (st : Statement) (span : Span) (t : StatementTree) → Extends n old new → StandsStatement s old st span t → StandsStatement s new st span t
 stands_grown s n old new st span t x a = record {
-  line = a.line; label = a.label; core = stands_cores_more st.core t.core x a.core; jump = stands_jump_more st.jump t.jump x a.jump; entry = a.entry
+  line = a.line;
+  label = a.label;
+  core = stands_cores_more st.core t.core x a.core;
+  jump = stands_jump_more st.jump t.jump x a.jump;
+  entry = a.entry;
 }
 
 next_stands : (s : List ℕ) (ts : List StatementTree) (at line : ℕ) (span : Span) (old new : List Node) (sts : List Statement) (es : Entries) (p : Phrase) → IsTabled s ts at old sts es → (a : Accepts s ts span new p) →
@@ -90,16 +97,16 @@ next_stands : (s : List ℕ) (ts : List StatementTree) (at line : ℕ) (span : S
     slice_get (extents s) j ≡ Some other → slice_get (ts ++ a.tree ∷ []) j ≡ Some t → StandsStatement s new st other t
 next_stands s ts at line span old new sts es p x a place grown is j st other t b c d = elim (place_cases sts (statement_of p line) st j b) [
   | inl early ↦ elim (place_cases ts a.tree t j d) [
-      | inl low ↦ stands_grown s (length s) old new st other t grown (x.stands j st other t early.1 c low.1)
-      | inr high ↦ absurd (let e = x.count in let f = early.0 in let g = high.0 in omega arith)
-    ]
+    | inl low ↦ stands_grown s (length s) old new st other t grown (x.stands j st other t early.1 c low.1)
+    | inr high ↦ absurd (let e = x.count in let f = early.0 in let g = high.0 in omega arith)
+  ]
   | inr last ↦ elim (place_cases ts a.tree t j d) [
-      | inl low ↦ absurd (let e = x.count in let f = last.0 in let g = low.0 in omega arith)
-      | inr high ↦
-          let same : span ≡ other = some_equal (sym place ∙ ap (slice_get (extents s)) (sym high.0) ∙ c) in
-          let here : StandsStatement s new (statement_of p line) span a.tree = record { line = is; label = a.stands.0; core = a.stands.1; jump = a.stands.2; entry = a.stands.3 } in
-          subst (λ y. StandsStatement s new y other t) last.1 (subst (λ y. StandsStatement s new (statement_of p line) y t) same (subst (λ y. StandsStatement s new (statement_of p line) span y) high.1 here))
-    ]
+    | inl low ↦ absurd (let e = x.count in let f = last.0 in let g = low.0 in omega arith)
+    | inr high ↦
+        let same : span ≡ other = some_equal (sym place ∙ ap (slice_get (extents s)) (sym high.0) ∙ c) in
+        let here : StandsStatement s new (statement_of p line) span a.tree = record { line = is; label = a.stands.0; core = a.stands.1; jump = a.stands.2; entry = a.stands.3 } in
+        subst (λ y. StandsStatement s new y other t) last.1 (subst (λ y. StandsStatement s new (statement_of p line) y t) same (subst (λ y. StandsStatement s new (statement_of p line) span y) high.1 here))
+  ]
 ]
 
 next_sound : (s : List ℕ) (ts : List StatementTree) (at line : ℕ) (span : Span) (old new : List Node) (sts : List Statement) (es : Entries) (p : Phrase) → IsTabled s ts at old sts es → (a : Accepts s ts span new p) →
@@ -116,13 +123,13 @@ next_label : (s : List ℕ) (ts : List StatementTree) (at line : ℕ) (span : Sp
     (j : ℕ) (st : Statement) (t : StatementTree) → slice_get (sts ++ statement_of p line ∷ []) j ≡ Some st → slice_get (ts ++ a.tree ∷ []) j ≡ Some t → st.label ≡ t.label
 next_label s ts at line span old new sts es p x a j st t b d = elim (place_cases sts (statement_of p line) st j b) [
   | inl early ↦ elim (place_cases ts a.tree t j d) [
-      | inl low ↦ x.labels j st t early.1 low.1
-      | inr high ↦ absurd (let e = x.count in let f = early.0 in let g = high.0 in omega arith)
-    ]
+    | inl low ↦ x.labels j st t early.1 low.1
+    | inr high ↦ absurd (let e = x.count in let f = early.0 in let g = high.0 in omega arith)
+  ]
   | inr last ↦ elim (place_cases ts a.tree t j d) [
-      | inl low ↦ absurd (let e = x.count in let f = last.0 in let g = low.0 in omega arith)
-      | inr high ↦ ap (λ y. y.label) (sym last.1) ∙ a.stands.0 ∙ ap (λ y. y.label) high.1
-    ]
+    | inl low ↦ absurd (let e = x.count in let f = last.0 in let g = low.0 in omega arith)
+    | inr high ↦ ap (λ y. y.label) (sym last.1) ∙ a.stands.0 ∙ ap (λ y. y.label) high.1
+  ]
 ]
 
 tabled_next : (s : List ℕ) (ts : List StatementTree) (at line : ℕ) (span : Span) (old new : List Node) (sts more : List Statement) (es fs : Entries) (p : Phrase) → IsTabled s ts at old sts es → (a : Accepts s ts span new p) →
@@ -138,7 +145,7 @@ tabled_next s ts at line span old new sts more es fs p x a place room grown is p
       stands = λ j st other t b c d. next_stands s ts at line span old new sts es p x a place grown is j st other t (rw pushed at b) c d;
       sound = λ j st b. next_sound s ts at line span old new sts es p x a grown j st (rw pushed at b);
       labels = λ j st t b d. next_label s ts at line span old new sts es p x a j st t (rw pushed at b) d;
-      index = index x.index
+      index = index x.index;
     }
 
 pub reading_next : (s : List ℕ) (k at line : ℕ) (span : Span) (old new : List Node) (sts more : List Statement) (es fs : Entries) (p : Phrase) → (r : IsReading s k at old sts es) → Accepts s r.before span new p →
@@ -150,7 +157,7 @@ reading_next s k at line span old new sts more es fs p r a place room grown is p
       before = r.before ++ a.tree ∷ [];
       begins = one_more r.begins place' a.accepted (λ e. other e.0 (a.stands.0 ∙ e.1) e.2) refl;
       many = length_more r.before a.tree ∙ ap (λ x. x + 1) r.many;
-      tabled = tabled_next s r.before at line span old new sts more es fs p r.tabled a place' room grown is pushed index
+      tabled = tabled_next s r.before at line span old new sts more es fs p r.tabled a place' room grown is pushed index;
     }
 
 -- END
@@ -158,21 +165,34 @@ pub reading_ends : (s : List ℕ) (k at line : ℕ) (span : Span) (old new : Lis
     slice_get (extents s) k ≡ Some span → length new ≤ span.end → Extends (length s) old new → line ≡ line_of s span → more ≡ sts ++ statement_of p line ∷ [] → (IsIndex s sts es → IsIndex s more fs) → length s ≤ 4000000 →
     (x : Span) × (p.label ≡ Some x) × (part s x ≡ codes "END") → (ts : List StatementTree) × IsProgram s ts × IsTabled s ts span.end new more fs
 reading_ends s k at line span old new sts more es fs p r a place room grown is pushed index small end =
-    let place' : slice_get (extents s) (length r.before) ≡ Some span = rw r.many place in
-    (r.before ++ a.tree ∷ [], record {
-       small = small; before = r.before; last = a.tree; span = span; all = refl; begins = r.begins; place = place'; accepted = a.accepted;
-       is_end = (end.0, sym a.stands.0 ∙ end.1, end.2)
-     }, tabled_next s r.before at line span old new sts more es fs p r.tabled a place' room grown is pushed index)
+    let place' : slice_get (extents s) (length r.before) ≡ Some span = rw r.many place in (
+      r.before ++ a.tree ∷ [],
+      record {
+        small = small;
+        before = r.before;
+        last = a.tree;
+        span = span;
+        all = refl;
+        begins = r.begins;
+        place = place';
+        accepted = a.accepted;
+        is_end = (end.0, sym a.stands.0 ∙ end.1, end.2);
+      },
+      tabled_next s r.before at line span old new sts more es fs p r.tabled a place' room grown is pushed index,
+    )
 
 pub tabled_program : (s : List ℕ) (ts : List StatementTree) (at : ℕ) (nodes : List Node) (sts : List Statement) (es : Entries) (p : Source) → IsTabled s ts at nodes sts es → p.nodes ≡ nodes → p.statements ≡ sts → StandsProgram p s ts
 tabled_program s ts at nodes sts es p x e f = record {
   count = ap length f ∙ x.count;
-  each = λ k st span t a b c. rw e (x.stands k st span t (rw f at a) b c)
+  each = λ k st span t a b c. rw e (x.stands k st span t (rw f at a) b c);
 }
 
 pub tabled_whole : (s text : List ℕ) (ts : List StatementTree) (at : ℕ) (nodes : List Node) (sts : List Statement) (es : Entries) → IsTabled s ts at nodes sts es → text ≡ s → at ≤ 4000000 → IsWhole text nodes sts es
 tabled_whole s text ts at nodes sts es x e small = rw e (record {
-  count = let f = x.room in omega arith; table = whole_table (length s) nodes x.extends; sound = x.sound; index = x.index
+  count = let f = x.room in omega arith;
+  table = whole_table (length s) nodes x.extends;
+  sound = x.sound;
+  index = x.index;
 })
 
 -- a refusal
@@ -193,7 +213,11 @@ pub record Running (s : List ℕ) (i : ℕ) (place : Place) (nodes : List Node) 
 
 pub running_first : (s : List ℕ) (place : Place) (nodes : List Node) (sts : List Statement) (es : Entries) → place.at ≡ 0 → place.line ≡ 1 → nodes ≡ [] → sts ≡ [] → es ≡ [] → Running s 0 place nodes sts es
 running_first s place nodes sts es e f a b c = record {
-  at = 0; order = omega arith; spans = extents_in_order s; reading = rw (a, b, c) (reading_first s 0); line = rw (e, f) refl
+  at = 0;
+  order = omega arith;
+  spans = extents_in_order s;
+  reading = rw (a, b, c) (reading_first s 0);
+  line = rw (e, f) refl;
 }
 
 drop_more : (x : Span) (es : List Span) (i : ℕ) → drop (suc i + 1) (x ∷ es) ≡ drop (i + 1) es
@@ -220,7 +244,11 @@ running_order s i place nodes sts es span r e = let h = running_here s i place n
 pub running_next : (s : List ℕ) (i : ℕ) (place next : Place) (old new : List Node) (sts more : List Statement) (es fs : Entries) (span : Span) (r : Running s i place old sts es) → slice_get (extents s) i ≡ Some span →
     IsReading s (i + 1) span.end new more fs → next.at ≤ span.end → next.line ≡ 1 + count_by (λ b. b == 10) (take next.at s) → Running s (i + 1) next new more fs
 running_next s i place next old new sts more es fs span r e reading order line = record {
-  at = span.end; order = order; spans = (running_here s i place old sts es span r e).2; reading = reading; line = line
+  at = span.end;
+  order = order;
+  spans = (running_here s i place old sts es span r e).2;
+  reading = reading;
+  line = line;
 }
 
 pub running_endless : (s : List ℕ) (i : ℕ) (place : Place) (nodes : List Node) (sts : List Statement) (es : Entries) → Running s i place nodes sts es → i ≡ length (extents s) → length s ≤ 4000000 → IsRefusedProgram s NoEnd
@@ -240,8 +268,10 @@ carried (Err x) e P h p = subst P (sym h) p
 -- the parts of an expression alone
 pub expression_whole : (s text : List ℕ) (nodes : List Node) (sts : List Statement) (es : Entries) → text ≡ s → Extends (length s) [] nodes → length nodes < 2 ^ 32 → sts ≡ [] → es ≡ [] → IsWhole text nodes sts es
 expression_whole s text nodes sts es e x h a b = rw (e, a, b) (record {
-  count = h; table = whole_table (length s) nodes x; sound = λ k st g. absurd (get_none k st g);
-  index = (tabled_first s 0).index
+  count = h;
+  table = whole_table (length s) nodes x;
+  sound = λ k st g. absurd (get_none k st g);
+  index = (tabled_first s 0).index;
 })
 
 -- the look-up of a label

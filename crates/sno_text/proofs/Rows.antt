@@ -1,10 +1,10 @@
 -- Worked rows, computed from the definitions.
-use Rattle.std.proofs.Common.{◌≡◌, ℕ, List, [], ◌∷◌, ◌++◌, refl, codes, map, Bool, true, false, slice_range}
+use Rattle.std.proofs.Common.{◌≡◌, ℕ, List, [], ◌∷◌, ◌++◌, refl, codes, map, true}
 use Rattle.bstr.specs.Text.{line_len, lines_from}
 use Rattle.sno_text.specs.declared.node.Span.{Span}
 use Rattle.sno_text.specs.Bytes.{is_blank}
 use Rattle.sno_text.specs.Refusals.{has_open_literal}
-use Rattle.sno_text.specs.Lines.{cards, joined, extents, size, line_of, part}
+use Rattle.sno_text.specs.Lines.{joined, extents, size, line_of, part}
 
 abbrev span : ℕ → ℕ → Span
 span i j = record { start = i; end = j }

@@ -1,6 +1,5 @@
 -- The tokens of a statement lie in its text, and its expressions are of the table.
-use Rattle.std.proofs.Common.{◌≡◌, ◌≢◌, ℕ, ◌+◌, ◌-◌, ◌<◌, ◌≤◌, ◌⊎◌, ◌||◌, inl, inr, Bool, true, false, List, [], ◌∷◌, length, arith, refl, sym, ◌∙◌, ap, subst, Some, None, Option}
-use Rattle.std.proofs.lemmas.Bool.{cases_lt}
+use Rattle.std.proofs.Common.{◌≡◌, ℕ, ◌+◌, ◌-◌, ◌≤◌, inl, inr, List, length, arith, subst, Some, None, Option}
 use Rattle.sno_value.specs.declared.ids.ExprId.{ExprId}
 use Rattle.sno_text.specs.declared.bytes.Class.TheVariants.{NameByte}
 use Rattle.sno_text.specs.declared.node.Node.{Node}
@@ -12,11 +11,10 @@ use Rattle.sno_text.specs.declared.statement.Jump.{Jump}
 use Rattle.sno_text.specs.declared.statement.Jump.TheVariants as jumps
 use Rattle.sno_text.specs.declared.statement.Target.{Target}
 use Rattle.sno_text.specs.declared.statement.Target.TheVariants as targets
-use Rattle.sno_text.specs.Bytes.{byte, is_letter, is_digit, is_name_byte}
-use Rattle.sno_text.specs.Trees.{Tree, Stands}
-use Rattle.sno_text.specs.Source.{IsWithin, IsOptionWithin, IsOptionBelow, IsTargetOf, IsTargetOptionOf, IsJumpOf, IsCoreOf, IsStatementOf}
-use Rattle.sno_text.specs.Statements.{TargetTree, Label, Computed, JumpTree, Fall, Always, Either, CoreTree, IsLabel, IsPlace, label, computed, IsTarget, HasOther, HasTargets, IsBranch, always, success, failure, HasJump, HasLabel, HasEntry, StatementTree, IsPlain, IsEnd, IsStatement}
-use Rattle.sno_text.specs.Pieces.{StandsTarget, StandsTargets, StandsJump, StandsExpression, StandsCore, StandsCores}
+use Rattle.sno_text.specs.Trees.{Tree}
+use Rattle.sno_text.specs.Source.{IsOptionWithin, IsOptionBelow, IsTargetOf, IsTargetOptionOf, IsJumpOf, IsCoreOf, IsStatementOf}
+use Rattle.sno_text.specs.Statements.{TargetTree, Label, Computed, JumpTree, Fall, Always, Either, CoreTree, IsLabel, IsPlace, label, computed, IsTarget, HasOther, IsBranch, always, success, failure, HasJump, HasLabel, HasEntry, StatementTree, IsStatement}
+use Rattle.sno_text.specs.Pieces.{StandsTarget, StandsTargets, StandsJump, StandsExpression, StandsCores}
 use Rattle.sno_text.specs.Phrases.{StandsPhrase}
 use Rattle.sno_text.specs.Judging.{statement_of}
 use Rattle.sno_text.proofs.Runs.{in_text}
@@ -149,10 +147,13 @@ sound_statement s n i table t p line h r a = record {
   label = rw a.0 (option_wider t.label (length s) n h (label_of s i t r));
   core = core_of table p.core t.core a.1;
   jump = jump_wider (length s) n (length table) (length table) p.jump h (omega arith) (jump_statement s table i t p.jump a.2 r);
-  entry = rw a.3 (option_wider t.entry (length s) n h (entry_of s i t r))
+  entry = rw a.3 (option_wider t.entry (length s) n h (entry_of s i t r));
 }
 
 pub sound_wider : (n k l : ℕ) (st : Statement) → k ≤ l → IsStatementOf n k st → IsStatementOf n l st
 sound_wider n k l st g a = record {
-  label = a.label; core = core_wider k l st.core g a.core; jump = jump_wider n n k l st.jump (omega arith) g a.jump; entry = a.entry
+  label = a.label;
+  core = core_wider k l st.core g a.core;
+  jump = jump_wider n n k l st.jump (omega arith) g a.jump;
+  entry = a.entry;
 }

@@ -1,5 +1,5 @@
 -- What stands for a part of a statement stays as the table grows.
-use Rattle.std.proofs.Common.{◌≡◌, ℕ, List, Some, None, Option}
+use Rattle.std.proofs.Common.{ℕ, List, Some, None, Option}
 use Rattle.sno_value.specs.declared.ids.ExprId.{ExprId}
 use Rattle.sno_text.specs.declared.node.Node.{Node}
 use Rattle.sno_text.specs.declared.statement.Target.{Target}

@@ -1,18 +1,18 @@
 -- Where the parts of a statement end.
-use Rattle.std.proofs.Common.{◌≡◌, ◌≢◌, ℕ, ◌+◌, ◌<◌, ◌≤◌, ◌⊎◌, inl, inr, Bool, true, false, List, length, arith, refl, sym, ◌∙◌, ap, subst, Some, None, Option}
-use Rattle.std.proofs.lemmas.Bool.{cases_lt, cases_Bool, false_from_ne_true}
+use Rattle.std.proofs.Common.{◌≡◌, ℕ, ◌<◌, inl, inr, true, false, List, length, arith, refl, sym, subst}
+use Rattle.std.proofs.lemmas.Bool.{false_from_ne_true}
 use Rattle.std.proofs.lemmas.List.{get_or_past}
-use Rattle.sno_text.specs.declared.bytes.Class.TheVariants.{Blank, NameByte}
+use Rattle.sno_text.specs.declared.bytes.Class.TheVariants.{Blank}
 use Rattle.std.proofs.lemmas.Bool.Decides.{nat_tests}
 use Rattle.sno_text.specs.declared.node.Operator.{Operator}
 use Rattle.sno_text.specs.declared.node.Operator.TheVariants.{Alternate, Concatenate, Add, Subtract, Divide, Multiply, Power, Conditional, Immediate}
-use Rattle.sno_text.specs.Bytes.{byte, is_blank, is_letter, is_digit, is_first, is_unary, is_opening, can_start, is_name_byte, IsRun, IsWholeRun}
+use Rattle.sno_text.specs.Bytes.{byte, is_blank, is_letter, is_digit, is_first, is_unary, is_opening, can_start, IsWholeRun}
 use Rattle.sno_text.specs.Grammar.{level_of, IsGap, IsBlanks}
 use Rattle.sno_text.specs.Links.{Starts, Stops, single}
 use Rattle.sno_text.specs.Pieces.{MeetsEnd, MeetsColon, MeetsEquals}
-use Rattle.sno_text.proofs.Runs.{run_none, run_end_unique}
-use Rattle.sno_text.proofs.Starts.{start_not_blank, start_can_start}
-use Rattle.sno_text.proofs.Primaries.{IsEndByte, end_byte_zero, gap_stops, start_no_end}
+use Rattle.sno_text.proofs.Runs.{run_end_unique}
+use Rattle.sno_text.proofs.Starts.{start_not_blank}
+use Rattle.sno_text.proofs.Primaries.{IsEndByte, end_byte_zero, gap_stops}
 
 end_byte_58 : IsEndByte 58
 unfolding is_blank can_start is_opening single is_unary is_first is_letter is_digit

@@ -1,6 +1,5 @@
 -- Gotos and their targets are found exactly.
-use Rattle.std.proofs.Common.{◌≡◌, ◌≢◌, ℕ, ◌+◌, ◌<◌, ◌≤◌, ◌⊎◌, ◌||◌, ◌&&◌, inl, inr, Bool, true, false, List, [], ◌∷◌, length, arith, refl, sym, ◌∙◌, ap, subst, Some, None, Option}
-use Rattle.std.proofs.lemmas.Bool.{cases_lt, cases_Bool, false_from_ne_true}
+use Rattle.std.proofs.Common.{◌≡◌, ◌≢◌, ℕ, ◌+◌, ◌<◌, ◌≤◌, ◌⊎◌, ◌||◌, inl, inr, true, false, List, length, arith, refl, sym, ◌∙◌, ap, subst, Some, None, Option}
 use Rattle.std.proofs.lemmas.Bool.Decides.{nat_tests}
 use Rattle.std.proofs.lemmas.List.{get_or_past}
 use Rattle.sno_text.specs.declared.bytes.Class.TheVariants.{Blank, NameByte}
@@ -10,20 +9,17 @@ use Rattle.sno_text.specs.declared.table.Found.{Found}
 use Rattle.sno_text.specs.declared.table.Read.{Read}
 use Rattle.sno_text.specs.declared.statement.Target.{Target}
 use Rattle.sno_text.specs.declared.statement.Target.TheVariants as targets
-use Rattle.sno_text.specs.declared.statement.Jump.{Jump}
-use Rattle.sno_text.specs.declared.statement.Jump.TheVariants as jumps
-use Rattle.sno_text.specs.declared.goto.Targets.{Targets}
-use Rattle.sno_text.specs.Bytes.{byte, is_blank, is_letter, is_digit, is_first, is_unary, is_opening, can_start, is_name_byte, IsRun, IsWholeRun}
+use Rattle.sno_text.specs.Bytes.{byte, is_blank, is_letter, is_digit, is_name_byte, IsWholeRun}
 use Rattle.sno_text.specs.Trees.{Tree}
-use Rattle.sno_text.specs.Grammar.{IsGap, IsBlanks, Element, Reads}
-use Rattle.sno_text.specs.Links.{Starts, Stops, Refuses}
-use Rattle.sno_text.specs.Outcome.{Outcome as Found_outcome, Extends}
-use Rattle.sno_text.specs.Statements.{TargetTree, Label, Computed, JumpTree, Fall, Always, Either, IsLabel, IsPlace, label, computed, IsTarget, HasOther, HasTargets, IsBranch, always, success, failure, HasJump, target_fits, target_option_fits, jump_fits}
-use Rattle.sno_text.specs.Pieces.{MeetsEnd, MeetsColon, MeetsEquals, Anywhere, Gives, Lacks, StandsTarget, StandsTargets, StandsJump, HasTargetPair, StandsTargetPair, pair_fits}
-use Rattle.sno_text.proofs.Runs.{run_none, run_end_unique}
-use Rattle.sno_text.proofs.Primaries.{IsEndByte, gap_stops, end_byte_bracket}
+use Rattle.sno_text.specs.Grammar.{IsGap, Element, Reads}
+use Rattle.sno_text.specs.Links.{Stops, Refuses}
+use Rattle.sno_text.specs.Outcome.{Outcome as Found_outcome}
+use Rattle.sno_text.specs.Statements.{TargetTree, Label, Computed, IsLabel, IsPlace, label, computed, IsTarget, HasOther, target_fits, target_option_fits}
+use Rattle.sno_text.specs.Pieces.{MeetsEnd, Anywhere, Gives, Lacks, StandsTarget, StandsTargets}
+use Rattle.sno_text.proofs.Runs.{run_end_unique}
+use Rattle.sno_text.proofs.Primaries.{gap_stops, end_byte_bracket}
 use Rattle.sno_text.proofs.Tables.{run_some, grown_of, extends_same, extends_trans, stands_more}
-use Rattle.sno_text.proofs.Stops.{end_byte_end, gap_whole, blanks_whole, meets_end, blanks_colon}
+use Rattle.sno_text.proofs.Stops.{gap_whole}
 
 label_dollar : (b : ℕ) → (is_letter b || is_digit b) ≡ true → b ≡ 36 → ⊥
 unfolding is_letter is_digit
@@ -52,7 +48,7 @@ gives_label s i e old span l from to some within = record {
   fits = refl;
   order = omega arith;
   within = within;
-  room = omega arith
+  room = omega arith;
 }
 
 place_computed : (s : List ℕ) (i k e : ℕ) (u : TargetTree) (t : Tree) → byte s i ≡ 36 → ((k : ℕ) (u : Tree) → Reads s Element (i + 1) k u → Stops s 7 k → (k ≡ e) × (u ≡ t)) → IsPlace s i k u → Stops s 7 k → (k ≡ e) × (u ≡ Computed t)
@@ -69,7 +65,7 @@ gives_computed s i old new f h a = record {
   fits = a.fit;
   order = let v = a.some in omega arith;
   within = a.within;
-  room = let v = a.room in omega arith
+  room = let v = a.room in omega arith;
 }
 
 computed_none : (s : List ℕ) (i k : ℕ) (u : TargetTree) → byte s i ≡ 36 → Refuses s Element (Stops s 7) (i + 1) → IsPlace s i k u → Stops s 7 k → ⊥
@@ -120,7 +116,7 @@ gives_target s i k l old new f o g a h c w = record {
   fits = a.fits;
   order = let v = g.run.order in let x = a.order in let y = h.run.order in omega arith;
   within = omega arith;
-  room = let v = g.run.order in let x = a.room in let y = h.run.order in omega arith
+  room = let v = g.run.order in let x = a.room in let y = h.run.order in omega arith;
 }
 
 pub lacks_opening : (s : List ℕ) (i : ℕ) → byte s i ≢ 40 → Lacks TargetTree (IsTarget s i) Anywhere
@@ -131,10 +127,11 @@ lacks_place s i k g f = record { none = λ j u t stops. f.none t.to u (target_pl
 
 pub lacks_closing : (s : List ℕ) (i k l : ℕ) (old new : List Node) (f : Read Target) → IsWholeRun Blank s (i + 1) k →
     Gives TargetTree Target (IsPlace s k) (Stops s 7) StandsTarget target_fits (length s) k old new f → IsWholeRun Blank s f.end l → byte s l ≢ 41 → Lacks TargetTree (IsTarget s i) Anywhere
-lacks_closing s i k l old new f g a h never = record { none = λ j u t stops.
-    let q = a.only t.to u (target_place s i j k u t g) (target_stops t) in
-    let e = target_last s i j f.end l u t q.0 h in
-    never (subst (λ x. byte s x ≡ 41) e t.closing)
+lacks_closing s i k l old new f g a h never = record {
+  none = λ j u t stops.
+      let q = a.only t.to u (target_place s i j k u t g) (target_stops t) in
+      let e = target_last s i j f.end l u t q.0 h in
+      never (subst (λ x. byte s x ≡ 41) e t.closing);
 }
 
 -- the other target
@@ -157,7 +154,14 @@ no_other s letter i at k (Some t) h g n (m, b, e, r) = absurd (n (subst (λ x. b
 pub gives_no_other : (s : List ℕ) (letter i at : ℕ) (old : List Node) → (letter ≡ 70) ⊎ (letter ≡ 83) → IsWholeRun Blank s i at → byte s at ≢ letter → i ≤ length s →
     Gives (Option TargetTree) (Option Target) (HasOther s letter i) (MeetsEnd s) StandsTargets target_option_fits (length s) i old old (record { what = None; end = i; fits = true })
 gives_no_other s letter i at old h g n w = record {
-  tree = None; reads = refl; only = λ k u r stops. no_other s letter i at k u h g n r; stands = tt; fits = refl; order = omega arith; within = w; room = omega arith
+  tree = None;
+  reads = refl;
+  only = λ k u r stops. no_other s letter i at k u h g n r;
+  stands = tt;
+  fits = refl;
+  order = omega arith;
+  within = w;
+  room = omega arith;
 }
 
 end_not_letter : (s : List ℕ) (letter i at : ℕ) → (letter ≡ 70) ⊎ (letter ≡ 83) → IsWholeRun Blank s i at → byte s at ≡ letter → MeetsEnd s i → ⊥
@@ -183,7 +187,7 @@ gives_other s letter i at old new f h g b a = record {
   fits = a.fits;
   order = let v = g.run.order in let x = a.order in omega arith;
   within = a.within;
-  room = let v = g.run.order in let x = a.room in omega arith
+  room = let v = g.run.order in let x = a.room in omega arith;
 }
 
 other_none : (s : List ℕ) (letter i at k : ℕ) (u : Option TargetTree) → (letter ≡ 70) ⊎ (letter ≡ 83) → IsWholeRun Blank s i at → byte s at ≡ letter →
@@ -206,5 +210,7 @@ pub no_label : (s : List ℕ) (i j : ℕ) → is_letter (byte s i) ≡ false →
 no_label s i j a b l = let h = l.first in cc
 
 pub ruleset place_facts = (gives_label, gives_computed, lacks_computed, lacks_label, extends_same)
+
 pub ruleset target_facts = (gives_target, lacks_opening, lacks_place, lacks_closing, extends_same)
+
 pub ruleset other_facts = (gives_no_other, gives_other, lacks_other, extends_same)

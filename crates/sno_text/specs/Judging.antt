@@ -1,5 +1,5 @@
 -- Words of the private clauses of the reader of programs.
-use Rattle.std.specs.Prelude.{◌≡◌, ◌≢◌, ℕ, ◌<◌, ◌≤◌, ◌⊎◌, Bool, true, List, [], ◌∷◌, ◌++◌, length, Option, Some, None, slice_get, codes, is_some}
+use Rattle.std.specs.Prelude.{◌≡◌, ◌≢◌, ℕ, ◌≤◌, ◌⊎◌, true, List, [], length, Some, None, slice_get, codes, is_some}
 use Rattle.std.specs.declared.vec.Vec.{Vec}
 use Rattle.std.specs.declared.alloc.Global.{Global}
 use Rattle.sno_text.specs.declared.error.ReadError.{ReadError}
@@ -8,9 +8,9 @@ use Rattle.sno_text.specs.declared.node.Node.{Node}
 use Rattle.sno_text.specs.declared.node.Span.{Span}
 use Rattle.sno_text.specs.declared.phrase.Phrase.{Phrase}
 use Rattle.sno_text.specs.declared.statement.Statement.{Statement}
-use Rattle.sno_text.specs.Refusals.{HasOpenLiteral, is_deep}
+use Rattle.sno_text.specs.Refusals.{HasOpenLiteral}
 use Rattle.sno_text.specs.Outcome.{Extends}
-use Rattle.sno_text.specs.Lines.{extents, part, size}
+use Rattle.sno_text.specs.Lines.{extents, part}
 use Rattle.sno_text.specs.Source.{number_of, IsIndex, IsStatementOf}
 use Rattle.sno_text.specs.Statements.{StatementTree}
 use Rattle.sno_text.specs.Phrases.{StandsPhrase, StandsStatement}

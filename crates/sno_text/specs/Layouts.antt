@@ -1,5 +1,5 @@
 -- Words of the private clauses of the layout.
-use Rattle.std.specs.Prelude.{ℕ, ◌+◌, ◌-◌, ◌≤◌, ◌==◌, ◌&&◌, ◌||◌, not, Bool, true, false, List, [], ◌∷◌, ◌++◌, length, if◌then◌else◌, slice_range, filter}
+use Rattle.std.specs.Prelude.{ℕ, ◌+◌, ◌≤◌, ◌&&◌, not, Bool, List, [], ◌∷◌, length, if◌then◌else◌, slice_range, filter}
 use Rattle.std.specs.List.{list_all}
 use Rattle.sno_text.specs.declared.layout.LineKind.{LineKind}
 use Rattle.sno_text.specs.declared.layout.LineKind.TheVariants.{Skipped, Continuation, Card}

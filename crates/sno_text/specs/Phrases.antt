@@ -1,12 +1,11 @@
 -- What the readers of whole statements give: words of private clauses, and what a statement of a program stands for.
-use Rattle.std.specs.Prelude.{◌≡◌, ◌≢◌, ℕ, ◌+◌, ◌<◌, ◌≤◌, Bool, true, List, [], ◌∷◌, length, Option, Some, None, codes, slice_get}
+use Rattle.std.specs.Prelude.{◌≡◌, ◌≢◌, ℕ, ◌+◌, ◌≤◌, List, length, Option, Some, None, slice_get}
 use Rattle.sno_text.specs.declared.node.Node.{Node}
 use Rattle.sno_text.specs.declared.node.Span.{Span}
 use Rattle.sno_text.specs.declared.phrase.Phrase.{Phrase}
 use Rattle.sno_text.specs.declared.statement.Statement.{Statement}
-use Rattle.sno_text.specs.Bytes.{byte}
 use Rattle.sno_text.specs.Grammar.{IsGap}
-use Rattle.sno_text.specs.Statements.{StatementTree, CoreTree, JumpTree, Fall, HasCore, HasJump, HasEntry, IsStatement, statement_fits}
+use Rattle.sno_text.specs.Statements.{StatementTree, Fall, HasCore, HasJump, HasEntry, IsStatement, statement_fits}
 use Rattle.sno_text.specs.Lines.{extents, line_of}
 use Rattle.sno_text.specs.Source.{Source}
 use Rattle.sno_text.specs.Pieces.{MeetsEnd, StandsCores, StandsJump}

@@ -1,8 +1,7 @@
 -- What the readers of the parts of a statement give: words of private clauses only.
-use Rattle.std.specs.Prelude.{◌≡◌, ◌≢◌, ℕ, ◌+◌, ◌<◌, ◌≤◌, ◌⊎◌, Bool, true, ◌&&◌, List, [], ◌∷◌, length, Option, Some, None}
+use Rattle.std.specs.Prelude.{◌≡◌, ℕ, ◌+◌, ◌≤◌, ◌⊎◌, Bool, ◌&&◌, List, length, Option, Some, None}
 use Rattle.sno_text.specs.declared.bytes.Class.TheVariants.{Blank}
 use Rattle.sno_text.specs.declared.node.Node.{Node}
-use Rattle.sno_text.specs.declared.node.Span.{Span}
 use Rattle.sno_text.specs.declared.table.Read.{Read}
 use Rattle.sno_text.specs.declared.statement.Target.{Target}
 use Rattle.sno_text.specs.declared.statement.Target.TheVariants as targets

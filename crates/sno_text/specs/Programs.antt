@@ -1,7 +1,7 @@
 -- Which texts are programs, and which refusal the others get.
-use Rattle.std.specs.Prelude.{◌≡◌, ◌≢◌, ℕ, ◌<◌, ◌≤◌, ◌⊎◌, Bool, true, false, List, [], ◌∷◌, ◌++◌, length, take, Option, Some, None, slice_get, codes}
+use Rattle.std.specs.Prelude.{◌≡◌, ◌≢◌, ℕ, ◌<◌, ◌≤◌, ◌⊎◌, true, false, List, [], ◌∷◌, ◌++◌, length, take, Some, slice_get, codes}
 use Rattle.sno_text.specs.declared.error.ReadError.{ReadError}
-use Rattle.sno_text.specs.declared.error.ReadError.TheVariants.{Syntax, DuplicateLabel, NoEnd, TooLarge, NoMemory}
+use Rattle.sno_text.specs.declared.error.ReadError.TheVariants.{Syntax, DuplicateLabel, NoEnd, TooLarge}
 use Rattle.sno_text.specs.declared.node.Span.{Span}
 use Rattle.sno_text.specs.Refusals.{HasOpenLiteral, is_deep}
 use Rattle.sno_text.specs.Lines.{joined, extents, part, size, line_of}

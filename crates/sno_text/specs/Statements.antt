@@ -1,5 +1,5 @@
 -- The grammar of statements. s is the joined text up to the end of the statement, which begins at a place of it.
-use Rattle.std.specs.Prelude.{◌≡◌, ◌≢◌, ℕ, ◌+◌, ◌⊎◌, ◌||◌, ◌&&◌, Bool, true, false, List, [], ◌∷◌, length, Option, Some, None, codes}
+use Rattle.std.specs.Prelude.{◌≡◌, ◌≢◌, ℕ, ◌+◌, ◌⊎◌, ◌||◌, ◌&&◌, Bool, true, false, List, length, Option, Some, None, codes}
 use Rattle.sno_text.specs.declared.bytes.Class.TheVariants.{NameByte}
 use Rattle.sno_text.specs.declared.node.Span.{Span}
 use Rattle.sno_text.specs.Bytes.{byte, is_letter, is_digit, IsWholeRun}

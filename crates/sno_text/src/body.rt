@@ -5,14 +5,13 @@ ghost use Rattle.sno_text.specs.Statements.{HasExpression, HasObject, IsCore, Ha
 ghost use Rattle.sno_text.specs.Outcome.{Extends};
 ghost use Rattle.sno_text.specs.Pieces.{Outcome, MeetsColon, MeetsEquals, StandsExpression, StandsObject, StandsCore, StandsCores, HasObjectPair, object_fits};
 
-use sno_value::ExprId;
-use std::alloc::{AllocError, Global};
-
 use crate::bytes::{Class, byte_at, is_in, run_end};
 use crate::expression::{read_element, read_level};
 use crate::node::Node;
 use crate::statement::Core;
 use crate::table::{Read, both};
+use sno_value::ExprId;
+use std::alloc::{AllocError, Global};
 
 /// Whether `=` stands, and what stands behind it.
 #[derive(Clone, Copy, Debug)]
@@ -36,12 +35,20 @@ fn read_optional(
 {
     let at = run_end(text, Class::Blank, from);
     if at == from || !is_in(Class::Start, byte_at(text, at)) {
-        return Ok(Some(Read { what: None, end: from, fits: true }));
+        return Ok(Some(Read {
+            what: None,
+            end: from,
+            fits: true,
+        }));
     }
     let Some(found) = read_level(alloc, text, nodes, 0, at)? else {
         return Ok(None);
     };
-    Ok(Some(Read { what: Some(found.id), end: found.end, fits: found.fits }))
+    Ok(Some(Read {
+        what: Some(found.id),
+        end: found.end,
+        fits: found.fits,
+    }))
 }
 
 /// [b "=" [b expr]]
@@ -59,14 +66,28 @@ fn read_object(
 {
     let at = run_end(text, Class::Blank, from);
     if at == from || byte_at(text, at) != b'=' {
-        let what = Object { equals: false, object: None };
-        return Ok(Some(Read { what, end: from, fits: true }));
+        let what = Object {
+            equals: false,
+            object: None,
+        };
+        return Ok(Some(Read {
+            what,
+            end: from,
+            fits: true,
+        }));
     }
     let Some(found) = read_optional(alloc, text, nodes, at + 1)? else {
         return Ok(None);
     };
-    let what = Object { equals: true, object: found.what };
-    Ok(Some(Read { what, end: found.end, fits: found.fits }))
+    let what = Object {
+        equals: true,
+        object: found.what,
+    };
+    Ok(Some(Read {
+        what,
+        end: found.end,
+        fits: found.fits,
+    }))
 }
 
 /// core = element [b expr] [b "=" [b expr]]
@@ -98,7 +119,11 @@ fn read_core(
         object: object.what.object,
     };
     let fits = both(both(subject.fits, pattern.fits), object.fits);
-    Ok(Some(Read { what, end: object.end, fits }))
+    Ok(Some(Read {
+        what,
+        end: object.end,
+        fits,
+    }))
 }
 
 /// [b core]
@@ -116,10 +141,18 @@ pub fn read_body(
 {
     let at = run_end(text, Class::Blank, from);
     if at == from || !is_in(Class::Start, byte_at(text, at)) {
-        return Ok(Some(Read { what: None, end: from, fits: true }));
+        return Ok(Some(Read {
+            what: None,
+            end: from,
+            fits: true,
+        }));
     }
     let Some(found) = read_core(alloc, text, nodes, at)? else {
         return Ok(None);
     };
-    Ok(Some(Read { what: Some(found.what), end: found.end, fits: found.fits }))
+    Ok(Some(Read {
+        what: Some(found.what),
+        end: found.end,
+        fits: found.fits,
+    }))
 }

@@ -5,13 +5,12 @@ ghost use Rattle.sno_text.specs.Links.{Stops};
 ghost use Rattle.sno_text.specs.Outcome.{Extends};
 ghost use Rattle.sno_text.specs.Pieces.{Outcome, MeetsEnd, StandsTarget, StandsTargets, StandsTargetPair, StandsJump, HasTargetPair, pair_fits, Anywhere};
 
-use std::alloc::{AllocError, Global};
-
 use crate::bytes::{Class, byte_at, is_in, run_end};
 use crate::expression::read_element;
 use crate::node::{Node, Span};
 use crate::statement::{Jump, Target};
 use crate::table::{Read, both};
+use std::alloc::{AllocError, Global};
 
 /// label = (letter | digit) {letter | digit | "." | "_"}
 pub fn read_label(text: &[u8], from: usize) -> Option<Span>
@@ -46,12 +45,20 @@ fn read_place(
             return Ok(None);
         };
         let what = Target::Computed(found.id);
-        return Ok(Some(Read { what, end: found.end, fits: found.fits }));
+        return Ok(Some(Read {
+            what,
+            end: found.end,
+            fits: found.fits,
+        }));
     }
     let Some(span) = read_label(text, from) else {
         return Ok(None);
     };
-    Ok(Some(Read { what: Target::Label(span), end: span.end, fits: true }))
+    Ok(Some(Read {
+        what: Target::Label(span),
+        end: span.end,
+        fits: true,
+    }))
 }
 
 /// target = "(" [b] place [b] ")"
@@ -78,7 +85,11 @@ pub fn read_target(
     if byte_at(text, end) != b')' {
         return Ok(None);
     }
-    Ok(Some(Read { what: found.what, end: end + 1, fits: found.fits }))
+    Ok(Some(Read {
+        what: found.what,
+        end: end + 1,
+        fits: found.fits,
+    }))
 }
 
 /// [[b] letter target]
@@ -98,12 +109,20 @@ fn read_other(
 {
     let at = run_end(text, Class::Blank, from);
     if byte_at(text, at) != letter {
-        return Ok(Some(Read { what: None, end: from, fits: true }));
+        return Ok(Some(Read {
+            what: None,
+            end: from,
+            fits: true,
+        }));
     }
     let Some(found) = read_target(alloc, text, nodes, at + 1)? else {
         return Ok(None);
     };
-    Ok(Some(Read { what: Some(found.what), end: found.end, fits: found.fits }))
+    Ok(Some(Read {
+        what: Some(found.what),
+        end: found.end,
+        fits: found.fits,
+    }))
 }
 
 /// A target, and the other one behind it.
@@ -134,9 +153,16 @@ fn read_targets(
     let Some(second) = read_other(alloc, text, nodes, letter, first.end)? else {
         return Ok(None);
     };
-    let what = Targets { first: first.what, second: second.what };
+    let what = Targets {
+        first: first.what,
+        second: second.what,
+    };
     let fits = both(first.fits, second.fits);
-    Ok(Some(Read { what, end: second.end, fits }))
+    Ok(Some(Read {
+        what,
+        end: second.end,
+        fits,
+    }))
 }
 
 /// branch = target | "S" target [[b] "F" target] | "F" target [[b] "S" target]
@@ -158,19 +184,31 @@ fn read_branch(
             return Ok(None);
         };
         let what = Jump::Either(Some(found.what.first), found.what.second);
-        return Ok(Some(Read { what, end: found.end, fits: found.fits }));
+        return Ok(Some(Read {
+            what,
+            end: found.end,
+            fits: found.fits,
+        }));
     }
     if letter == b'F' {
         let Some(found) = read_targets(alloc, text, nodes, b'S', from + 1)? else {
             return Ok(None);
         };
         let what = Jump::Either(found.what.second, Some(found.what.first));
-        return Ok(Some(Read { what, end: found.end, fits: found.fits }));
+        return Ok(Some(Read {
+            what,
+            end: found.end,
+            fits: found.fits,
+        }));
     }
     let Some(found) = read_target(alloc, text, nodes, from)? else {
         return Ok(None);
     };
-    Ok(Some(Read { what: Jump::Always(found.what), end: found.end, fits: found.fits }))
+    Ok(Some(Read {
+        what: Jump::Always(found.what),
+        end: found.end,
+        fits: found.fits,
+    }))
 }
 
 /// [b goto], goto = ":" [b] branch
@@ -188,11 +226,19 @@ pub fn read_jump(
 {
     let at = run_end(text, Class::Blank, from);
     if at == from || byte_at(text, at) != b':' {
-        return Ok(Some(Read { what: Jump::Fall, end: from, fits: true }));
+        return Ok(Some(Read {
+            what: Jump::Fall,
+            end: from,
+            fits: true,
+        }));
     }
     let start = run_end(text, Class::Blank, at + 1);
     let Some(found) = read_branch(alloc, text, nodes, start)? else {
         return Ok(None);
     };
-    Ok(Some(Read { what: found.what, end: found.end, fits: found.fits }))
+    Ok(Some(Read {
+        what: found.what,
+        end: found.end,
+        fits: found.fits,
+    }))
 }

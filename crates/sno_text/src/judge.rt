@@ -9,15 +9,14 @@ ghost use Rattle.sno_text.specs.Outcome.{Extends};
 ghost use Rattle.sno_text.specs.Programs.{IsTooLargeBytes, IsRefusedAt};
 ghost use Rattle.sno_text.specs.Judging.{Knows, Accepts, IsShapeRefused, IsLabelRefused, statement_of};
 
-use std::alloc::Global;
-use std::collections::BTreeMap;
-
 use crate::error::ReadError;
 use crate::node::{Node, Span};
 use crate::phrase::{Phrase, is_name, read_statement};
 use crate::reader::LONGEST;
 use crate::scan::{has_open_literal, nests_deep};
 use crate::statement::Statement;
+use std::alloc::Global;
+use std::collections::BTreeMap;
 
 /// The most statements of a program, END included.
 const MOST_STATEMENTS: usize = 100_000;
@@ -149,9 +148,21 @@ pub fn push_statement(
     ensures index { OnOk result (IsIndex text.now statements.old.items labels.old.entries → IsIndex text.now statements.new.items labels.new.entries) }
     ensures err { IfErr result (λ e. e ≡ ReadError.NoMemory) }
 {
-    let Phrase { label, core, jump, entry, fits: _fits } = phrase;
+    let Phrase {
+        label,
+        core,
+        jump,
+        entry,
+        fits: _fits,
+    } = phrase;
     let number = statements.len() as u32 + 1;
-    statements.push(Statement { line, label, core, jump, entry })?;
+    statements.push(Statement {
+        line,
+        label,
+        core,
+        jump,
+        entry,
+    })?;
     if let Some(label) = label {
         let name = text[label.start..label.end].to_vec(alloc)?;
         labels.insert(name, number)?;

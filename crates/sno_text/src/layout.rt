@@ -7,12 +7,11 @@ ghost use Rattle.sno_text.specs.Lines as spec;
 ghost use Rattle.sno_text.specs.Lines.{is_continuation};
 ghost use Rattle.sno_text.specs.Layouts.{kind_of, read_line, part_from, InOrder};
 
-use bstr::ByteSlice;
-use std::alloc::{AllocError, Global};
-
 use crate::bytes::{Class, is_in};
 use crate::node::Span;
 use crate::scan::step_quote;
+use bstr::ByteSlice;
+use std::alloc::{AllocError, Global};
 
 /// A text with its lines joined, and where its statements stand in it.
 #[derive(Debug, Drop)]
@@ -120,7 +119,10 @@ fn push_part(
     ensures { OnOk result (extents.new.items ≡ extents.old.items ++ part_from at card.now start end) }
 {
     if !is_all_blank(&card[start..end]) {
-        extents.push(Span { start: at + start, end: at + end })?;
+        extents.push(Span {
+            start: at + start,
+            end: at + end,
+        })?;
     }
     Ok(())
 }

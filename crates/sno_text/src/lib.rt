@@ -8,6 +8,7 @@ mod error;
 mod expression;
 mod goto;
 mod judge;
+mod laws;
 mod layout;
 mod node;
 mod operator;
@@ -21,11 +22,12 @@ mod token;
 mod whole;
 
 pub use error::ReadError;
-pub use whole::read_program;
+pub use laws::one_tree;
 pub use node::{Node, Operator, Span, UnaryOperator};
 pub use program::Program;
 pub use reader::read_expression;
 pub use statement::{Core, Jump, Statement, Target};
+pub use whole::read_program;
 
 #[cfg(test)]
 mod tests;

@@ -4,14 +4,13 @@ ghost use Rattle.sno_text.specs.Lines.{part};
 ghost use Rattle.sno_text.specs.Outcome.{Extends};
 ghost use Rattle.sno_text.specs.Phrases.{PlainOutcome, EndOutcome, StatementOutcome, FindsEntry};
 
-use std::alloc::{AllocError, Global};
-
 use crate::body::read_body;
 use crate::bytes::{Class, run_end};
 use crate::goto::{read_jump, read_label};
 use crate::node::{Node, Span};
 use crate::statement::{Core, Jump};
 use crate::table::{Read, both};
+use std::alloc::{AllocError, Global};
 
 /// What a statement was read as.
 #[derive(Clone, Copy, Debug)]
@@ -72,7 +71,13 @@ fn read_plain(
         return Ok(None);
     }
     let fits = both(body.fits, jump.fits);
-    Ok(Some(Phrase { label, core: body.what, jump: jump.what, entry: None, fits }))
+    Ok(Some(Phrase {
+        label,
+        core: body.what,
+        jump: jump.what,
+        entry: None,
+        fits,
+    }))
 }
 
 /// [b label]
@@ -83,11 +88,23 @@ fn read_entry(text: &[u8], from: usize) -> Read<Option<Span>>
 {
     let at = run_end(text, Class::Blank, from);
     if at == from {
-        return Read { what: None, end: from, fits: true };
+        return Read {
+            what: None,
+            end: from,
+            fits: true,
+        };
     }
     match read_label(text, at) {
-        Some(span) => Read { what: Some(span), end: span.end, fits: true },
-        None => Read { what: None, end: from, fits: true },
+        Some(span) => Read {
+            what: Some(span),
+            end: span.end,
+            fits: true,
+        },
+        None => Read {
+            what: None,
+            end: from,
+            fits: true,
+        },
     }
 }
 
@@ -101,7 +118,13 @@ fn read_end(text: &[u8], label: Span) -> Option<Phrase>
     if run_end(text, Class::Blank, entry.end) != text.len() {
         return None;
     }
-    Some(Phrase { label: Some(label), core: None, jump: Jump::Fall, entry: entry.what, fits: true })
+    Some(Phrase {
+        label: Some(label),
+        core: None,
+        jump: Jump::Fall,
+        entry: entry.what,
+        fits: true,
+    })
 }
 
 /// statement = [label] [b core] [b goto] [b] | "END" [b label] [b]

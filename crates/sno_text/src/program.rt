@@ -2,12 +2,11 @@
 ghost use Rattle.std.specs.Prelude.{◌≡◌, ◌≤◌, ◌<◌, ◌-◌, ◌^◌, ◌==◌, ℕ, length, None, Some, IfSome, IfNone, if◌then◌else◌, option_copied, slice_get, slice_range};
 ghost use Rattle.sno_text.specs.Source.{IsTable, OperandsBelow, SpansWithin, IsStatementOf, IsLabelled, IsWhole};
 
+use crate::node::{Node, Span};
+use crate::statement::Statement;
 use sno_value::ExprId;
 use std::collections::BTreeMap;
 use std::marker::Model;
-
-use crate::node::{Node, Span};
-use crate::statement::Statement;
 
 /// A text that was read: the nodes of its expressions, numbered from 0, and its statements, numbered from 1. The
 /// operands of a node have smaller numbers than it, and all spans lie in the text.
@@ -42,7 +41,12 @@ impl Program {
         ensures nodes { result.nodes ≡ nodes.items }
         ensures statements { result.statements ≡ statements.items }
     {
-        Program { text, nodes, statements, labels }
+        Program {
+            text,
+            nodes,
+            statements,
+            labels,
+        }
     }
 
     /// How many nodes there are.

@@ -4,15 +4,14 @@ ghost use Rattle.sno_text.specs.Source.{IsTable};
 ghost use Rattle.sno_text.specs.Trees.{Tree, Stands};
 ghost use Rattle.sno_text.specs.Refusals.{IsAccepted, IsRefused};
 
-use sno_value::ExprId;
-use std::alloc::Global;
-use std::collections::BTreeMap;
-
 use crate::bytes::{Class, run_end};
 use crate::error::ReadError;
 use crate::expression::read_level;
 use crate::program::Program;
 use crate::scan::{has_open_literal, nests_deep};
+use sno_value::ExprId;
+use std::alloc::Global;
+use std::collections::BTreeMap;
 
 /// The most bytes of a statement.
 pub const LONGEST: usize = 8000;

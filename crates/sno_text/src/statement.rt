@@ -1,7 +1,6 @@
 //! Statements as they are read.
-use sno_value::ExprId;
-
 use crate::node::Span;
+use sno_value::ExprId;
 
 /// A statement of a program.
 #[derive(Clone, Copy, Debug)]

@@ -209,9 +209,18 @@ fn refusal_order(rt: HostRuntime) -> Result<(), Fail> {
     text.extend_from_slice(&deep[5..])?;
     text.extend_from_slice(b"'\nEND")?;
     assert_eq!(rt; verdict(alloc, text.as_slice()), (2, 0, 2));
-    assert_eq!(rt; verdict(alloc, b"L\nL X = 9223372036854775808 )\nEND"), (0, 3, 2));
-    assert_eq!(rt; verdict(alloc, b"L\nL X = 9223372036854775808\nEND"), (0, 2, 2));
-    assert_eq!(rt; verdict(alloc, b"L\nL X = 9223372036854775807\nEND"), (0, 101, 2));
+    assert_eq!(rt;
+        verdict(alloc, b"L\nL X = 9223372036854775808 )\nEND"),
+        (0, 3, 2)
+    );
+    assert_eq!(rt;
+        verdict(alloc, b"L\nL X = 9223372036854775808\nEND"),
+        (0, 2, 2)
+    );
+    assert_eq!(rt;
+        verdict(alloc, b"L\nL X = 9223372036854775807\nEND"),
+        (0, 101, 2)
+    );
     assert_eq!(rt; verdict(alloc, b"L\nL X = 'A\nEND"), (0, 1, 2));
     assert_eq!(rt; verdict(alloc, b"END X )"), (0, 3, 1));
     assert_eq!(rt; verdict(alloc, b"L X = 'A\n )\nEND"), (0, 1, 1));

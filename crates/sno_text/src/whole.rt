@@ -7,15 +7,14 @@ ghost use Rattle.sno_text.specs.Statements.{StatementTree};
 ghost use Rattle.sno_text.specs.Programs.{IsProgram, IsRefusedProgram};
 ghost use Rattle.sno_text.specs.Phrases.{StandsProgram};
 
-use std::alloc::Global;
-use std::collections::BTreeMap;
-
 use crate::error::ReadError;
 use crate::judge::{judge, push_statement};
 use crate::layout::lay_out;
 use crate::node::Span;
 use crate::phrase::{Phrase, is_name};
 use crate::program::Program;
+use std::alloc::Global;
+use std::collections::BTreeMap;
 
 /// The most bytes of a program.
 const LONGEST_TEXT: usize = 4_000_000;
@@ -100,7 +99,9 @@ pub fn read_program(alloc: Global, text: &[u8]) -> Result<Program, ReadError>
         let line = line_at(text, place, at);
         place = Place { at, line };
         let count = statements.len();
-        let phrase = judge(alloc, text, joined, &mut nodes, &labels, count, *extent, line)?;
+        let phrase = judge(
+            alloc, text, joined, &mut nodes, &labels, count, *extent, line,
+        )?;
         push_statement(alloc, text, &mut statements, &mut labels, phrase, line)?;
         if is_end(text, phrase) {
             let text = text.to_vec(alloc)?;

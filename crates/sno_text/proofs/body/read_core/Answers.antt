@@ -1,6 +1,5 @@
-use Rattle.std.proofs.Common.{◌≡◌, ◌&&◌, arith}
 use Rattle.sno_text.proofs.Tables.{extends_trans}
-use Rattle.sno_text.proofs.Bodies.{gives_core, lacks_pattern, lacks_core_object}
+use Rattle.sno_text.proofs.Bodies.{gives_core, lacks_core_object}
 use Rattle.sno_text.proofs.body.read_core.Goals as goal
 
 pub returns-in_err-pattern-clause-extends : goal.returns-in_err-pattern-clause-extends

@@ -1,4 +1,3 @@
-use Rattle.std.proofs.Common.{◌≡◌, ◌&&◌, arith}
 use Rattle.sno_text.proofs.Tables.{extends_trans}
 use Rattle.sno_text.proofs.Jumps.{gives_targets, lacks_second}
 use Rattle.sno_text.proofs.goto.read_targets.Goals as goal

@@ -1,10 +1,8 @@
-use Rattle.std.proofs.Common.{◌≡◌, ◌+◌, ◌≤◌, length, take, rules, arith, refl, inl, inr, sym, ap, List, ℕ}
-use Rattle.sno_text.specs.Lines.{part}
+use Rattle.std.proofs.Common.{rules, refl, inr}
 use Rattle.sno_text.specs.Statements.{StatementTree}
 use Rattle.sno_text.specs.Phrases.{GivesPhrase}
 use Rattle.sno_text.specs.Programs.{IsStatementAt}
-use Rattle.sno_text.proofs.Soundness.{label_of, entry_of, option_wider}
-use Rattle.sno_text.proofs.Judgements.{Shaped, shape_refused, shaped, grammar_refused, integer_refused, label_refused, judged, extends_wider, length_cut, given_label}
+use Rattle.sno_text.proofs.Judgements.{shape_refused, shaped, grammar_refused, integer_refused, label_refused, judged, extends_wider, length_cut, given_label}
 use Rattle.sno_text.proofs.judge.judge.Goals as goal
 
 pub returns-in-Some-clause-refused : goal.returns-in-Some-clause-refused

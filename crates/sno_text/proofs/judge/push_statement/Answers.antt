@@ -1,4 +1,4 @@
-use Rattle.std.proofs.Common.{◌≡◌, ◌+◌, length, rules, arith, refl}
+use Rattle.std.proofs.Common.{◌≡◌, ◌+◌, length, rules}
 use Rattle.sno_text.specs.Lines.{part}
 use Rattle.sno_text.proofs.Indexes.{index_unlabelled, index_labelled}
 use Rattle.sno_text.proofs.judge.push_statement.Goals as goal

@@ -1,5 +1,4 @@
-use Rattle.std.proofs.Common.{arith, rules, ◌≡◌, ◌≢◌, ◌∷◌, ◌≤◌, ◌++◌, ◌-◌, [], length, map, take, drop, sym, ap, ◌∙◌, refl, true, false}
-use Rattle.sno_text.specs.declared.layout.LineKind.TheVariants.{Card}
+use Rattle.std.proofs.Common.{rules, ◌≡◌, ◌∷◌, ◌++◌, ◌-◌, [], length, map, take, drop, ap, ◌∙◌}
 use Rattle.sno_text.specs.Layouts.{kind_of}
 use Rattle.sno_text.specs.Lines.{moved, statements_of}
 use Rattle.bstr.specs.Text.{without_terminator}
@@ -27,7 +26,7 @@ loop-line-preserved c =
       | in-Card+in_ok-push_statements w ↦
           let len : c.match-kind.start ≡ length c.loop-line.joined.items = w.start-is ∙ search rules in
           let more : w.push_statements.new.extents.items ≡ c.loop-line.extents.items ++ map (moved c.loop-line.start) (statements_of (take (length c.loop-line.joined.items - c.loop-line.start) (drop c.loop-line.start c.loop-line.joined.items))) =
-              rw w.as_slice.ensures.value at w.in_ok-push_statements.ensures in
+          rw w.as_slice.ensures.value at w.in_ok-push_statements.ensures in
           rw (w.extents-is, w.begun-is, len) (laid_card _ _ _ _ _ _ _ _ _ _ kind w.in-Card.is c.in_ok-push_line.ensures more laid)
       | in_default w ↦ rw (w.extents-is, w.begun-is, w.start-is) (laid_line _ _ _ _ _ _ _ _ _ kind w.in_default.not-Card c.in_ok-push_line.ensures laid)
     ]

@@ -1,4 +1,3 @@
-use Rattle.std.proofs.Common.{◌≡◌, ◌&&◌}
 use Rattle.sno_text.proofs.Tables.{extends_trans}
 use Rattle.sno_text.proofs.Phrases.{gives_rest, lacks_rest_core, lacks_rest_jump, lacks_rest_end, lacks_rest_some}
 use Rattle.sno_text.proofs.phrase.read_plain.Goals as goal

@@ -1,4 +1,4 @@
-use Rattle.std.proofs.Common.{◌≡◌, ◌<◌, refl}
+use Rattle.std.proofs.Common.{◌<◌, refl}
 use Rattle.sno_text.specs.Statements.{IsLabel}
 use Rattle.sno_text.proofs.Tables.{extends_none}
 use Rattle.sno_text.proofs.Phrases.{statement_labelled, statement_end, statement_return, statement_freturn}

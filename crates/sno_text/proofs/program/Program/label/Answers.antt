@@ -1,4 +1,4 @@
-use Rattle.std.proofs.Common.{◌≡◌, ◌∙◌}
+use Rattle.std.proofs.Common.{◌∙◌}
 use Rattle.sno_text.proofs.Readings.{label_found, label_missing}
 use Rattle.sno_text.proofs.program.Program.label.Goals as goal
 
