@@ -1,5 +1,5 @@
 -- What the program does for a job, and its status.
-use Rattle.std.specs.Prelude.{◌≡◌, ◌⊎◌, ℕ, ◌==◌, List, [], Option, None, Some, if◌then◌else◌}
+use Rattle.std.specs.Prelude.{◌≡◌, ◌≢◌, ◌⊎◌, ℕ, ◌==◌, List, [], Option, None, Some, if◌then◌else◌}
 use Rattle.std.specs.Borrow.{Bor}
 use Rattle.sno_io.specs.declared.jobs.Job.{Job}
 use Rattle.sno_io.specs.declared.jobs.Job.TheVariants.{Ways, Check}
@@ -20,9 +20,9 @@ status_of (Error code) = error_status code
 status_of NoMemory = 6
 status_of WriteFault = 7
 
--- the status, or that of refused memory
+-- the status, or, where a line is to be written, that of refused memory
 abbrev pub IsStatus : ℕ → ℕ → Type 0
-IsStatus expected status = (status ≡ expected) ⊎ (status ≡ 6)
+IsStatus expected status = (status ≡ expected) ⊎ ((expected ≢ 0) × (status ≡ 6))
 
 -- accepted: 0, refused: 2, memory refused: 6
 pub data IsChecked (text : List ℕ) (status : ℕ) : Type 0 where

@@ -76,6 +76,9 @@ fn report<E: Sink>(errors: &mut E, line: Result<String, AllocError>, status: u8)
     requires { E.broken errors.old ≡ false }
     ensures { IsStatus status result }
 {
+    if status == 0 {
+        return status;
+    }
     match line {
         Ok(line) => {
             let _ = put(errors, line.as_bytes());

@@ -4,9 +4,12 @@
 use snobol::{Device, Job, Sink, command, perform, status_of};
 use std::alloc::Global;
 use std::env;
-use std::fs;
-use std::io::{BufWriter, ErrorKind, IsTerminal, LineWriter, Write};
+use std::fs::File;
+use std::io::{self, BufWriter, ErrorKind, IsTerminal, LineWriter, Read, Write};
 use std::process::ExitCode;
+
+/// The most bytes that are read of a file: one more than a program may have.
+const MOST_READ: u64 = 4_000_001;
 
 /// The status of a usage fault.
 const USAGE: u8 = 64;
@@ -57,13 +60,22 @@ fn obey(rt: &HostRuntime, args: &[String]) -> u8 {
 /// Reads the file that a job names, if it names one, and does the job.
 fn work(rt: &HostRuntime, job: &Job) -> u8 {
     match job {
-        Job::Check { file } => match fs::read(rt, *file) {
+        Job::Check { file } => match read(rt, file) {
             Ok(text) => write_out(rt, job, Some(text.as_slice())),
             Err(error) if error.kind() == ErrorKind::OutOfMemory => no_memory(rt),
             Err(_) => write_out(rt, job, None),
         },
         Job::Ways { .. } => write_out(rt, job, None),
     }
+}
+
+/// What a file holds, as far as it tells whether a program is too large: a device may have no end.
+fn read(rt: &HostRuntime, file: &str) -> io::Result<Vec<u8>> {
+    let mut text = Vec::new(rt.alloc());
+    File::open(rt, file)?
+        .take(MOST_READ)
+        .read_to_end(&mut text)?;
+    Ok(text)
 }
 
 /// Does a job on standard output, which is written through a buffer: by lines where it is a terminal.
@@ -84,12 +96,7 @@ fn write_out(rt: &HostRuntime, job: &Job, file: Option<&[u8]>) -> u8 {
 }
 
 /// Does a job, and writes out what the buffer holds before a fault is told.
-fn finish<W: Write + Drop>(
-    rt: &HostRuntime,
-    job: &Job,
-    file: Option<&[u8]>,
-    writer: W,
-) -> u8 {
+fn finish<W: Write + Drop>(rt: &HostRuntime, job: &Job, file: Option<&[u8]>, writer: W) -> u8 {
     let alloc = rt.alloc();
     let mut output = Device::new(writer);
     let mut errors = Device::new(Vec::new(alloc));
