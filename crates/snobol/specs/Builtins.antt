@@ -1,8 +1,7 @@
--- The variables that begin with a pattern, and the functions of the language.
+-- The functions of the language.
 use Rattle.std.specs.Prelude.{ℕ, List, [], ◌∷◌, Option, Some, None, codes, if◌then◌else◌}
 use Rattle.std.specs.Str.{bytes_eq}
 use Rattle.sno_value.specs.declared.kind.PrimitiveKind.TheVariants.{Len, Pos, Rpos, Tab, Rtab, Any, NotAny, Span, Break}
-use Rattle.sno_pattern.specs.Pattern.{Pattern, Arb, Bal, Rem, Fail, Leaf, Fence, Abort, Succeed}
 use Rattle.snobol.specs.declared.builtins.Builtin.{Builtin}
 use Rattle.snobol.specs.declared.builtins.Builtin.TheVariants.{Primitive, Arbno, Later}
 
@@ -10,11 +9,6 @@ use Rattle.snobol.specs.declared.builtins.Builtin.TheVariants.{Primitive, Arbno,
 abbrev pub found : {A : Type 0} → List ℕ → List (List ℕ × A) → Option A
 found name [] = None
 found name (row ∷ rows) = if bytes_eq name row.0 then Some row.1 else found name rows
-
--- the variables that begin with a pattern
-abbrev pub pattern_variables : List (List ℕ × Pattern)
-pattern_variables =
-    (codes "ARB", Leaf Arb) ∷ (codes "BAL", Leaf Bal) ∷ (codes "REM", Leaf Rem) ∷ (codes "FAIL", Leaf Fail) ∷ (codes "FENCE", Fence) ∷ (codes "ABORT", Abort) ∷ (codes "SUCCEED", Succeed) ∷ []
 
 -- the functions that make a pattern
 abbrev pub pattern_functions : List (List ℕ × Builtin)

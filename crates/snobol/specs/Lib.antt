@@ -1,6 +1,7 @@
-pub mod World
 pub mod Values
+pub mod World
 pub mod Action
+pub mod Variables
 pub mod Builtins
 pub mod Forms
 pub mod Evaluate
@@ -8,7 +9,8 @@ pub mod State
 pub mod Pile
 pub mod Reading
 pub mod Lines
-pub mod Variables
+pub mod Session
+pub mod Performs
 pub mod Primitives
 pub mod Converted
 pub mod Operations

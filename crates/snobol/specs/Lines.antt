@@ -1,24 +1,25 @@
 -- The lines that `ways` writes.
 use Rattle.std.specs.Prelude.{◌≡◌, ℕ, List, [], ◌∷◌, ◌++◌, codes, decimal}
+use Rattle.sno_match.specs.declared.event.Pending.{Pending}
 use Rattle.sno_match.specs.Search.{Event, Way, Assign, Cursor, Value, Ended, Exhausted, Aborted, Limit, Waiting}
-use Rattle.snobol.specs.declared.machine.Stop.{Stop}
-use Rattle.snobol.specs.declared.machine.Stop.TheVariants as stops
+use Rattle.snobol.specs.World.{World}
+use Rattle.snobol.specs.Variables.{text_of_name}
 
--- the line of an event, with its line feed; what assigns or waits is in no pattern of today's language
-abbrev pub line_of : Event → List ℕ
-line_of (Way start end pending) = codes "way " ++ (decimal start ++ (codes " " ++ (decimal end ++ codes "\n")))
-line_of (Ended Exhausted) = codes "exhausted\n"
-line_of (Ended Aborted) = codes "aborted\n"
-line_of (Ended Limit) = codes "limit\n"
-line_of event = []
+-- an assignment that waits for the end of the match
+abbrev pub pending_part : World → Pending → List ℕ
+pending_part w p = codes " " ++ (text_of_name w p.target ++ (codes "=" ++ (decimal p.start ++ (codes "-" ++ decimal p.end))))
 
--- the lines of the events of a trace, in their order
-abbrev pub lines_of : List (Event × ℕ) → List ℕ
-lines_of [] = []
-lines_of (told ∷ events) = line_of told.0 ++ lines_of events
+abbrev pub pending_parts : World → List Pending → List ℕ
+pending_parts w [] = []
+pending_parts w (p ∷ pending) = pending_part w p ++ pending_parts w pending
 
--- memory was refused, or the writer failed
-abbrev pub IsBrokenOff : Stop → Type 0
-IsBrokenOff (stops.Error code) = ⊥
-IsBrokenOff stops.NoMemory = Unit {0}
-IsBrokenOff stops.WriteFault = Unit {0}
+-- the line of an event, with its line feed; none of a value, whose expression is evaluated
+abbrev pub line_of : World → Event → List ℕ
+line_of w (Way start end pending) = codes "way " ++ (decimal start ++ (codes " " ++ (decimal end ++ (pending_parts w pending ++ codes "\n"))))
+line_of w (Assign target start end) = codes "set " ++ (text_of_name w target ++ (codes " " ++ (decimal start ++ (codes " " ++ (decimal end ++ codes "\n")))))
+line_of w (Cursor target at) = codes "cursor " ++ (text_of_name w target ++ (codes " " ++ (decimal at ++ codes "\n")))
+line_of w (Ended Exhausted) = codes "exhausted\n"
+line_of w (Ended Aborted) = codes "aborted\n"
+line_of w (Ended Limit) = codes "limit\n"
+line_of w (Ended Waiting) = []
+line_of w (Value primitive expression) = []

@@ -14,14 +14,12 @@ use Rattle.snobol.specs.Action.{End, Error, Ending, Got, Stops, Outcome, Action,
 use Rattle.snobol.specs.Forms.{value}
 use Rattle.snobol.specs.Evaluate.{expression, as_pattern}
 use Rattle.snobol.specs.Reading.{IsRead, IsRefusal}
-use Rattle.snobol.specs.Lines.{lines_of}
+use Rattle.snobol.specs.Variables.{writes}
+use Rattle.snobol.specs.Session.{listed_all}
 
-abbrev pub writes : List ℕ → Action Unit
-writes bytes w = record { ending = Got tt; world = w; wrote = bytes }
-
--- the lines of the whole trace; a pattern that failed while it was built has no way
+-- the events of the whole trace; a pattern that failed while it was built has no way
 abbrev pub lists_ways : List ℕ → Bool → ℕ → Option Pattern → Action Unit
-lists_ways subject anchored limit = either (writes (codes "exhausted\n")) (λ p. writes (lines_of (trace p subject anchored limit [])))
+lists_ways subject anchored limit = either (writes (codes "exhausted\n")) (λ p. listed_all subject (trace p subject anchored limit []))
 
 -- The subject's length is judged, then the pattern is evaluated, and then its ways are listed.
 abbrev pub lists : Source → ExprId → List ℕ → Bool → ℕ → Action Unit

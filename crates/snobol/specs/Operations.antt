@@ -5,13 +5,20 @@ use Rattle.sno_value.specs.declared.arithmetic.Arith.TheVariants.{BadExponent}
 use Rattle.sno_value.specs.Arithmetic.{sum_of, difference_of, product_of, quotient_of, power_of}
 use Rattle.sno_text.specs.declared.node.Operator.{Operator}
 use Rattle.sno_text.specs.declared.node.Operator.TheVariants.{Add, Subtract, Divide, Multiply, Power}
-use Rattle.sno_pattern.specs.Pattern.{Pattern, Cat, Alt}
+use Rattle.sno_value.specs.declared.value.Name.{Name as Target}
+use Rattle.sno_pattern.specs.Pattern.{Pattern, Cat, Alt, Cond, Imm}
+use Rattle.snobol.specs.declared.operators.Assignment.{Assignment}
+use Rattle.snobol.specs.declared.operators.Assignment.TheVariants as assignment
 use Rattle.snobol.specs.declared.operators.Join.{Join}
 use Rattle.snobol.specs.declared.operators.Join.TheVariants as join
 
 abbrev pub join_of : Join → Pattern → Pattern → Pattern
 join_of join.Cat p q = Cat p q
 join_of join.Alt p q = Alt p q
+
+abbrev pub assignment_of : Assignment → Pattern → Target → Pattern
+assignment_of assignment.Conditional p target = Cond p target
+assignment_of assignment.Immediate p target = Imm p target
 
 -- two that are there
 abbrev pub both : {A B : Type 0} → Option A → Option B → Option (A × B)

@@ -1,10 +1,84 @@
--- Where a machine keeps the patterns with which variables begin. Private contracts alone cite it.
-use Rattle.std.specs.Prelude.{ℕ, List, [], ◌∷◌, codes}
-use Rattle.sno_value.specs.declared.ids.PatId.{PatId}
+-- Variables: how they are named, read and set.
+use Rattle.std.specs.Prelude.{ℕ, ◌==◌, Bool, true, false, List, [], ◌∷◌, ◌++◌, if◌then◌else◌, length, slice_index_or, slice_set, codes, Option, None, Some}
+use Rattle.std.specs.Fmt.{signed_decimal}
+use Rattle.sno_value.specs.declared.ids.SymId.{SymId}
+use Rattle.sno_value.specs.declared.value.Name.{Name as Target}
+use Rattle.sno_value.specs.declared.value.Name.TheVariants.{Var, Elem, Entry}
+use Rattle.sno_store.specs.Contents.{place, is_symbol}
+use Rattle.snobol.specs.World.{World}
+use Rattle.snobol.specs.Values.{Value, Str, Int, Name}
+use Rattle.snobol.specs.Action.{Error, Got, Action, gives, fails, stops, either, and_then}
 
-abbrev pub pattern : ℕ → PatId
-pattern n = record { 0 = n }
+-- data type
+abbrev pub wrong_type : {A : Type 0} → Action A
+wrong_type = stops (Error 1)
 
-abbrev pub variable_numbers : List (List ℕ × PatId)
-variable_numbers =
-    (codes "ARB", pattern 0) ∷ (codes "BAL", pattern 1) ∷ (codes "REM", pattern 2) ∷ (codes "FAIL", pattern 3) ∷ (codes "FENCE", pattern 4) ∷ (codes "ABORT", pattern 5) ∷ (codes "SUCCEED", pattern 6) ∷ []
+-- the text of a string or an integer
+abbrev pub text_of : Value → Option (List ℕ)
+text_of (Str bytes) = Some bytes
+text_of (Int number) = Some (signed_decimal number)
+text_of other = None
+
+abbrev pub symbol : ℕ → SymId
+symbol k = record { 0 = k }
+
+-- INPUT and OUTPUT, by their numbers among the symbols
+abbrev pub is_input : Target → Bool
+is_input (Var id) = id.0 == 7
+is_input other = false
+
+abbrev pub is_output : Target → Bool
+is_output (Var id) = id.0 == 8
+is_output other = false
+
+-- a new symbol, whose variable is null
+abbrev pub joins : List ℕ → Action Target
+joins name w = record { ending = Got (Var (symbol (length w.symbols))); world = record w { symbols = w.symbols ++ name ∷ []; values = w.values ++ Str [] ∷ [] }; wrote = [] }
+
+-- the variable that a text names; a text that names none yet joins the symbols
+abbrev pub variable_named : List ℕ → Action Target
+variable_named [] w = stops (Error 6) w
+variable_named (byte ∷ bytes) w =
+    if is_symbol (byte ∷ bytes) w.symbols then gives (Var (symbol (place (byte ∷ bytes) w.symbols))) w
+    else if length w.symbols == 1_000_000 then stops (Error 9) w else joins (byte ∷ bytes) w
+
+-- the variable that a value names
+abbrev pub named_by : Value → Action Target
+named_by (Name target) = gives target
+named_by other = either wrong_type variable_named (text_of other)
+
+-- the bytes of a variable's name
+abbrev pub text_of_name : World → Target → List ℕ
+text_of_name w (Var id) = slice_index_or w.symbols id.0 []
+text_of_name w other = []
+
+-- a variable's name as a value is its text; any other name is itself
+abbrev pub name_value : Target → Action Value
+name_value (Var id) w = gives (Str (text_of_name w (Var id))) w
+name_value other = gives (Name other)
+
+abbrev pub value_in : World → Target → Value
+value_in w (Var id) = slice_index_or w.values id.0 (Str [])
+value_in w other = Str []
+
+-- the value of a variable; INPUT has no lines
+abbrev pub reads : Target → Action Value
+reads name w = if is_input name then fails w else gives (value_in w name) w
+
+abbrev pub writes : List ℕ → Action Unit
+writes bytes w = record { ending = Got tt; world = w; wrote = bytes }
+
+abbrev pub with_value : Target → Value → World → World
+with_value (Var id) v w = record w { values = slice_set w.values id.0 v }
+with_value other v w = w
+
+abbrev pub stores : Target → Value → Action Unit
+stores name v w = record { ending = Got tt; world = with_value name v w; wrote = [] }
+
+-- OUTPUT is given a value that has a text, and writes it as a line
+abbrev pub outputs : Target → Value → Action Unit
+outputs name v = either wrong_type (λ bytes. and_then (stores name v) (λ done. writes (bytes ++ codes "\n"))) (text_of v)
+
+-- a variable is set
+abbrev pub assigns : Target → Value → Action Unit
+assigns name v = if is_output name then outputs name v else stores name v

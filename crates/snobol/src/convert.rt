@@ -7,7 +7,7 @@ ghost use Rattle.snobol.specs.Converted.{IsThere, has_text};
 ghost use Rattle.snobol.specs.State.{Does, tree_of, IsPatternOf};
 
 use crate::machine::{DATA_TYPE, Exit, LATER, Machine, error};
-use sno_value::{PatId, Value, int_text, to_int};
+use sno_value::{PatId, Text, Value, int_text, to_int};
 use std::alloc::Global;
 
 /// The number of an integer, or of a string that writes one; else error 1.
@@ -48,6 +48,13 @@ pub(crate) fn has_text(value: &Value) -> bool
         Value::Str(_) | Value::Int(_) => true,
         _ => false,
     }
+}
+
+/// The null string.
+pub(crate) fn null(alloc: Global) -> Value
+    ensures { result ≡ Value.Str [] }
+{
+    Value::Str(Text::new(Vec::new(alloc)))
 }
 
 /// Whether a value is the null string.

@@ -9,10 +9,13 @@ mod evaluate;
 mod forms;
 mod functions;
 mod job;
+mod lines;
 mod listing;
 mod machine;
 mod operators;
 mod pile;
+mod session;
+mod unary;
 
 pub use enumeration::{WaysOutcome, ways};
 pub use job::perform;

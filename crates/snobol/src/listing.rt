@@ -1,51 +1,18 @@
-//! The lines of the ways in which a pattern matches.
-ghost use Rattle.std.specs.Prelude.{◌≡◌, List, ◌<◌, ◌||◌, [], false, true, length, IfOk, IfErr, string_bytes};
-ghost use Rattle.sno_io.specs.Devices.{TakesBytes};
+//! The listing of the events of a match.
+ghost use Rattle.std.specs.Prelude.{◌≡◌, ◌<◌, ◌≤◌, ◌||◌, [], false, true, length, OnOk};
 ghost use Rattle.sno_pattern.specs.Table.{tree};
 ghost use Rattle.sno_match.specs.Search.{trace};
 ghost use Rattle.sno_match.specs.Events.{in_trace, is_last, is_value};
-ghost use Rattle.sno_match.specs.declared.event.Pending.{Pending};
-ghost use Rattle.snobol.specs.Lines.{line_of, lines_of, IsBrokenOff};
+ghost use Rattle.sno_match.specs.Within.{IsWithin};
+ghost use Rattle.snobol.specs.Session.{listed, listed_all};
+ghost use Rattle.snobol.specs.Performs.{Performs};
 
-use crate::machine::Stop;
-use sno_io::{DeviceFault, Sink, put};
-use sno_match::{Event, Matcher};
-use sno_pattern::Patterns;
+use crate::lines::line_of;
+use crate::machine::{Machine, Stop};
+use crate::session::take_effect;
+use sno_io::{Sink, put};
+use sno_match::{Event, Matcher, Pending};
 use sno_value::PatId;
-use std::alloc::{AllocError, Global};
-
-impl From<AllocError> for Stop {
-    ghost use Rattle.snobol.specs.declared.machine.Stop.TheVariants.{NoMemory};
-
-    ghost from_gives = { λ _ e. e ≡ NoMemory };
-
-    fn from(_error: AllocError) -> Stop {
-        Stop::NoMemory
-    }
-}
-
-impl From<DeviceFault> for Stop {
-    ghost use Rattle.snobol.specs.declared.machine.Stop.TheVariants.{WriteFault};
-
-    ghost from_gives = { λ _ e. e ≡ WriteFault };
-
-    fn from(_fault: DeviceFault) -> Stop {
-        Stop::WriteFault
-    }
-}
-
-/// The line of an event, with its line feed.
-fn line_of(alloc: Global, event: Event) -> Result<String, AllocError>
-    ensures { IfOk result (λ line. (way : List Pending) → string_bytes line ≡ line_of (in_trace event way)) }
-{
-    match event {
-        Event::Way { start, end } => format!(in alloc; "way {start} {end}\n"),
-        Event::Exhausted => format!(in alloc; "exhausted\n"),
-        Event::Aborted => format!(in alloc; "aborted\n"),
-        Event::Limit => format!(in alloc; "limit\n"),
-        _ => Ok(String::new(alloc)),
-    }
-}
 
 /// Whether nothing more is told behind an event.
 fn is_over(event: Event) -> bool
@@ -57,29 +24,49 @@ fn is_over(event: Event) -> bool
     )
 }
 
-/// Writes the line of each event of a match, up to the last.
+/// Lists the events of a match, up to the last: each event's line is written, and then it takes effect.
 pub(crate) fn list_ways<W: Sink>(
-    alloc: Global,
-    patterns: &Patterns,
+    machine: &mut Machine,
     pattern: PatId,
     subject: &[u8],
     anchored: bool,
     limit: u32,
     writer: &mut W,
 ) -> Result<(), Stop>
-    requires pattern { pattern.0 < length patterns.now }
+    requires pattern { pattern.0 < length machine.old.nodes }
+    requires subject { length subject.now ≤ 1_000_000 }
     requires sound { W.broken writer.old ≡ false }
-    ensures lines { TakesBytes (W.taken writer.old) (W.taken writer.new) result (lines_of (trace (tree patterns.now pattern.0) subject.now anchored limit [])) }
-    ensures stops { IfErr result IsBrokenOff }
+    ensures does { Performs (listed_all subject.now (trace (tree machine.old.nodes pattern.0) subject.now anchored limit [])) machine.old machine.new (W.taken writer.old) (W.taken writer.new) result }
     ensures fault { result ≡ Err Stop.WriteFault → W.broken writer.new ≡ true }
 {
-    let mut matcher = Matcher::new(alloc, patterns, pattern, subject, anchored, limit)?;
+    let alloc = machine.alloc();
+    let mut matcher = Matcher::new(alloc, machine.patterns(), pattern, subject, anchored, limit)?;
     'events: loop {
-        let event = matcher.next(patterns)?;
-        let line = line_of(alloc, event)?;
-        put(writer, line.as_bytes())?;
+        let event = matcher.next(machine.patterns())?;
+        list_event(machine, subject, event, matcher.pending(), writer)?;
         if is_over(event) {
             return Ok(());
         }
     }
+}
+
+/// Writes the line of an event, which then takes effect.
+fn list_event<W: Sink>(
+    machine: &mut Machine,
+    subject: &[u8],
+    event: Event,
+    way: &[Pending],
+    writer: &mut W,
+) -> Result<(), Stop>
+    requires subject { length subject.now ≤ 1_000_000 }
+    requires within { IsWithin (length subject.now) (in_trace event way.now) }
+    requires sound { W.broken writer.old ≡ false }
+    ensures does { Performs (listed subject.now (in_trace event way.now)) machine.old machine.new (W.taken writer.old) (W.taken writer.new) result }
+    ensures nodes { machine.new.nodes ≡ machine.old.nodes }
+    ensures sound { OnOk result (W.broken writer.new ≡ false) }
+    ensures fault { result ≡ Err Stop.WriteFault → W.broken writer.new ≡ true }
+{
+    let line = line_of(machine, event, way)?;
+    put(writer, &line)?;
+    take_effect(machine, subject, event, writer)
 }

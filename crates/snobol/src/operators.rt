@@ -1,18 +1,19 @@
-//! The operators.
+//! The binary operators.
 ghost use Rattle.std.specs.Prelude.{◌≡◌, ◌<◌, List, length, IsTrue};
 ghost use Rattle.sno_pattern.specs.Table.{Node};
 ghost use Rattle.snobol.specs.Values.{shown, IsValueOf};
-ghost use Rattle.snobol.specs.Evaluate.{makes_value, joined, joined_patterns, text_of, number_of, concatenation, alternation, result_of, operation, signed};
-ghost use Rattle.snobol.specs.Operations.{join_of, both, is_arithmetic, calculated};
+ghost use Rattle.snobol.specs.Evaluate.{makes_value, joined, joined_patterns, number_of, concatenation, alternation, result_of, operation, pattern_with_target};
+ghost use Rattle.snobol.specs.Variables.{text_of};
+ghost use Rattle.snobol.specs.Operations.{join_of, assignment_of, both, is_arithmetic, calculated};
 ghost use Rattle.snobol.specs.Converted.{IsThere, has_text};
 ghost use Rattle.snobol.specs.State.{State, Does, tree_of};
 
 use crate::convert::{as_pattern, has_text, is_null, is_patternable, number_of, text_of};
 use crate::machine::{
-    BAD_COUNT, DATA_TYPE, DIVISION_BY_ZERO, Exit, LATER, Machine, OVERFLOW, TOO_LONG, error,
+    BAD_COUNT, DATA_TYPE, DIVISION_BY_ZERO, Exit, Machine, OVERFLOW, TOO_LONG, error,
 };
-use sno_text::{Operator, UnaryOperator};
-use sno_value::{Arith, PatId, Text, Value, add, div, mul, pow, sub};
+use sno_text::Operator;
+use sno_value::{Arith, Name, PatId, Text, Value, add, div, mul, pow, sub};
 use std::alloc::Global;
 
 /// The most bytes of a string.
@@ -25,6 +26,15 @@ enum Join {
     Cat,
     /// One or the other.
     Alt,
+}
+
+/// When a part that was matched is assigned.
+#[derive(Clone, Copy, Debug)]
+enum Assignment {
+    /// When the whole match has succeeded.
+    Conditional,
+    /// As soon as the pattern matches.
+    Immediate,
 }
 
 /// A binary operator on its operands.
@@ -49,24 +59,50 @@ pub(crate) fn operation(
             let (x, y) = numbers(&x, &y)?;
             computed(calculated(operator, x, y))
         }
-        Operator::Conditional | Operator::Immediate => Err(error(LATER)),
+        Operator::Conditional => pattern_with_target(machine, Assignment::Conditional, x, y),
+        Operator::Immediate => pattern_with_target(machine, Assignment::Immediate, x, y),
     }
 }
 
-/// A unary operator on its operand.
-pub(crate) fn signed(operator: UnaryOperator, x: &Value) -> Result<Value, Exit>
-    ensures { (s : State) → Does shown IsValueOf (signed operator (shown s.nodes x.now)) s s result }
+/// P . X or P $ X, where X was taken as a name.
+fn pattern_with_target(
+    machine: &mut Machine,
+    assignment: Assignment,
+    x: Value,
+    y: Value,
+) -> Result<Value, Exit>
+    requires { IsValueOf machine.old.nodes x }
+    ensures { Does shown IsValueOf (pattern_with_target (assignment_of assignment) (shown machine.old.nodes x) (shown machine.old.nodes y)) machine.old machine.new result }
 {
-    match operator {
-        UnaryOperator::Plus => {
-            let number = number_of(x)?;
-            Ok(Value::Int(number))
+    let Value::Name(target) = y else {
+        return Err(error(DATA_TYPE));
+    };
+    if !is_patternable(&x) {
+        return Err(error(DATA_TYPE));
+    }
+    let body = as_pattern(machine, x)?;
+    assigned(machine, assignment, body, target)
+}
+
+/// The pattern of a pattern with a target.
+fn assigned(
+    machine: &mut Machine,
+    assignment: Assignment,
+    body: PatId,
+    target: Name,
+) -> Result<Value, Exit>
+    requires { body.0 < length machine.old.nodes }
+    ensures { Does shown IsValueOf (makes_value (assignment_of assignment (tree_of machine.old.nodes body) target)) machine.old machine.new result }
+{
+    match assignment {
+        Assignment::Conditional => {
+            let id = machine.cond(body, target)?;
+            Ok(Value::Pat(id))
         }
-        UnaryOperator::Minus => {
-            let number = number_of(x)?;
-            computed(sub(0, number))
+        Assignment::Immediate => {
+            let id = machine.imm(body, target)?;
+            Ok(Value::Pat(id))
         }
-        _ => Err(error(LATER)),
     }
 }
 
@@ -170,7 +206,7 @@ fn calculated(operator: Operator, x: i64, y: i64) -> Result<i64, Arith>
 }
 
 /// The value that arithmetic gave.
-fn computed(outcome: Result<i64, Arith>) -> Result<Value, Exit>
+pub(crate) fn computed(outcome: Result<i64, Arith>) -> Result<Value, Exit>
     ensures { (s : State) → Does shown IsValueOf (result_of outcome) s s result }
 {
     match outcome {

@@ -1,16 +1,16 @@
 //! The expressions that wait for an operand, and the values that they hold. Evaluation is a loop over this pile, so that
 //! no depth of operators reaches the machine's stack.
-ghost use Rattle.std.specs.Prelude.{◌≡◌, ◌≤◌, ◌+◌, ◌-◌, [], length, map, take, drop, Some, IfOk, IfErr};
+ghost use Rattle.std.specs.Prelude.{◌≡◌, ◌≤◌, ◌+◌, ◌-◌, List, [], length, map, take, drop, Some, IfOk, IfErr};
 ghost use Rattle.std.specs.List.{AllByRecursion};
-ghost use Rattle.sno_value.specs.declared.value.Value.{Value as Stored};
-ghost use Rattle.sno_text.specs.Source.{Source};
-ghost use Rattle.snobol.specs.Values.{Value as Seen, shown, IsValueOf};
+ghost use Rattle.sno_pattern.specs.Table.{Node};
+ghost use Rattle.snobol.specs.Values.{shown, IsValueOf};
 ghost use Rattle.snobol.specs.Forms.{IsOrdered};
 ghost use Rattle.snobol.specs.State.{Does};
-ghost use Rattle.snobol.specs.Pile.{holds, apply_at, after_turn, after_next, turn_work, Falls, at_hand, still_at_hand, AreFirst};
+ghost use Rattle.snobol.specs.Pile.{holds, apply_at, after_turn, after_next, turn_work, Falls, at_hand, still_at_hand, Keeps};
 
 use crate::apply::apply;
-use crate::forms::{Part, operand};
+use crate::convert::null;
+use crate::forms::{Part, absorbs_failure, operand};
 use crate::machine::{Exit, Machine, Stop};
 use sno_text::Program;
 use sno_value::Value;
@@ -49,6 +49,7 @@ pub(crate) enum Next {
 pub(crate) struct Pile {
     waiting: Vec<Waiting>,
     values: Vec<Value>,
+    alloc: Global,
 }
 
 impl Model for Pile {
@@ -70,30 +71,31 @@ impl Pile {
         Pile {
             waiting: Vec::new(alloc),
             values: Vec::new(alloc),
+            alloc,
         }
     }
 
     /// Takes a turn.
     pub fn next(&mut self, program: &Program, turn: Turn) -> Result<Next, Exit>
         requires { IsOrdered program.now }
-        ensures rest { IfOk result (λ n. (see : Stored → Seen) → after_turn program.now see self.old turn ≡ after_next program.now see self.new n) }
+        ensures rest { IfOk result (λ n. (nodes : List Node) → after_turn program.now (shown nodes) self.old turn ≡ after_next program.now (shown nodes) self.new n) }
         ensures work { IfOk result (λ n. Falls program.now self.new n (turn_work program.now self.old turn)) }
-        ensures moved { IfOk result (λ n. AreFirst (still_at_hand self.new.values n) (at_hand self.old.values turn)) }
+        ensures known { IfOk result (λ n. Keeps (at_hand self.old.values turn) (still_at_hand self.new.values n)) }
         ensures memory { IfErr result (λ e. e ≡ Exit.Halt Stop.NoMemory) }
     {
         match turn {
             Turn::Enter(part) => self.enter(program, part),
             Turn::Got(value) => self.resume(program, value),
-            Turn::Failed => Ok(self.fail()),
+            Turn::Failed => Ok(self.fail(program)),
         }
     }
 
     /// Enters an expression: its first operand is next, or its form where it has none.
     fn enter(&mut self, program: &Program, part: Part) -> Result<Next, Exit>
         requires { IsOrdered program.now }
-        ensures rest { IfOk result (λ n. (see : Stored → Seen) → after_turn program.now see self.old (Turn.Enter part) ≡ after_next program.now see self.new n) }
+        ensures rest { IfOk result (λ n. (nodes : List Node) → after_turn program.now (shown nodes) self.old (Turn.Enter part) ≡ after_next program.now (shown nodes) self.new n) }
         ensures work { IfOk result (λ n. Falls program.now self.new n (turn_work program.now self.old (Turn.Enter part))) }
-        ensures moved { IfOk result (λ n. still_at_hand self.new.values n ≡ self.old.values) }
+        ensures known { IfOk result (λ n. Keeps self.old.values (still_at_hand self.new.values n)) }
         ensures memory { IfErr result (λ e. e ≡ Exit.Halt Stop.NoMemory) }
     {
         match operand(program, part, 0) {
@@ -108,9 +110,9 @@ impl Pile {
     /// The last that waits takes a value: its next operand is next, or its form where it has no more.
     fn resume(&mut self, program: &Program, value: Value) -> Result<Next, Exit>
         requires { IsOrdered program.now }
-        ensures rest { IfOk result (λ n. (see : Stored → Seen) → after_turn program.now see self.old (Turn.Got value) ≡ after_next program.now see self.new n) }
+        ensures rest { IfOk result (λ n. (nodes : List Node) → after_turn program.now (shown nodes) self.old (Turn.Got value) ≡ after_next program.now (shown nodes) self.new n) }
         ensures work { IfOk result (λ n. Falls program.now self.new n (turn_work program.now self.old (Turn.Got value))) }
-        ensures moved { IfOk result (λ n. still_at_hand self.new.values n ≡ at_hand self.old.values (Turn.Got value)) }
+        ensures known { IfOk result (λ n. Keeps (at_hand self.old.values (Turn.Got value)) (still_at_hand self.new.values n)) }
         ensures memory { IfErr result (λ e. e ≡ Exit.Halt Stop.NoMemory) }
     {
         let Some(last) = self.waiting.pop() else {
@@ -130,17 +132,20 @@ impl Pile {
         }
     }
 
-    /// The last that waits fails with its operand, as no form absorbs a failure.
-    fn fail(&mut self) -> Next
-        ensures rest { (source : Source) (see : Stored → Seen) → after_turn source see self.old Turn.Failed ≡ after_next source see self.new result }
-        ensures work { (source : Source) → Falls source self.new result (turn_work source self.old Turn.Failed) }
-        ensures moved { AreFirst (still_at_hand self.new.values result) self.old.values }
+    /// The last that waits fails with its operand, or is null where it absorbs the failure.
+    fn fail(&mut self, program: &Program) -> Next
+        ensures rest { (nodes : List Node) → after_turn program.now (shown nodes) self.old Turn.Failed ≡ after_next program.now (shown nodes) self.new result }
+        ensures work { Falls program.now self.new result (turn_work program.now self.old Turn.Failed) }
+        ensures known { Keeps self.old.values (still_at_hand self.new.values result) }
     {
         let Some(last) = self.waiting.pop() else {
             return Next::Lost;
         };
         let at = self.values.len().saturating_sub(last.held);
         self.values.truncate(at);
+        if absorbs_failure(program, last.part) {
+            return Next::Turn(Turn::Got(null(self.alloc)));
+        }
         Next::Turn(Turn::Failed)
     }
 

@@ -1,0 +1,31 @@
+-- What functions did that write. Private contracts alone cite it.
+use Rattle.std.specs.Prelude.{◌≡◌, ℕ, List, ◌++◌, Option, None, Some, Result, Ok, Err, codes}
+use Rattle.std.specs.Vec.{Vec}
+use Rattle.std.specs.Io.KnownBytes.{Appends}
+use Rattle.sno_io.specs.Devices.{Begins}
+use Rattle.snobol.specs.declared.machine.Stop.{Stop}
+use Rattle.snobol.specs.declared.machine.Stop.TheVariants.{Error as HasError, NoMemory, WriteFault}
+use Rattle.snobol.specs.World.{World}
+use Rattle.snobol.specs.Action.{Error, Got, Stops, Outcome, Action}
+use Rattle.snobol.specs.State.{State, world}
+
+-- what was written and how it ended is what the outcome says; where it was broken off, a beginning was written
+abbrev pub Ends : Outcome Unit → World → List ℕ → Result Unit Stop → Type 0
+Ends o after wrote (Ok done) = o ≡ record { ending = Got tt; world = after; wrote = wrote }
+Ends o after wrote (Err (HasError code)) = (o.ending ≡ Stops (Error code)) × (o.wrote ≡ wrote)
+Ends o after wrote (Err NoMemory) = Begins wrote o.wrote
+Ends o after wrote (Err WriteFault) = Begins wrote o.wrote
+
+-- The code did what the action does, where the writer had taken `taken` and then `now`.
+pub record Performs (act : Action Unit) (before after : State) (taken now : Option (List ℕ)) (result : Result Unit Stop) : Type 0 where
+  pub wrote : List ℕ
+  pub appends : Appends taken now wrote
+  pub ends : Ends (act (world before)) (world after) wrote result
+
+-- a value's text with a line feed; a value without one is error 1
+abbrev pub IsLineOf : Option (List ℕ) → Result (Vec ℕ Global) Stop → Type 0
+IsLineOf None (Ok line) = ⊥
+IsLineOf (Some bytes) (Ok line) = line.items ≡ bytes ++ codes "\n"
+IsLineOf o (Err (HasError code)) = (o ≡ None) × (code ≡ 1)
+IsLineOf o (Err NoMemory) = Unit {0}
+IsLineOf o (Err WriteFault) = ⊥
