@@ -6,14 +6,14 @@ use Rattle.sno_value.specs.declared.ids.PatId.{PatId}
 use Rattle.sno_value.specs.declared.kind.PrimitiveKind.{PrimitiveKind}
 use Rattle.sno_value.specs.declared.value.Value.{Value as Stored}
 use Rattle.sno_pattern.specs.declared.argument.Arg.TheVariants.{Count}
-use Rattle.sno_text.specs.declared.node.Node.{Node as Form}
 use Rattle.sno_text.specs.Source.{Source}
 use Rattle.sno_pattern.specs.Pattern.{Pattern, Arbno}
 use Rattle.sno_pattern.specs.Table.{Node}
 use Rattle.snobol.specs.declared.machine.Exit.{Exit}
 use Rattle.snobol.specs.Action.{End, Error, Action, gives, stops, settles, and_then}
 use Rattle.snobol.specs.Values.{Value, Pat, shown, IsValueOf}
-use Rattle.snobol.specs.Evaluate.{applied, later, argument, as_pattern, makes_value, count_primitive, set_primitive, repetition, wrong_type}
+use Rattle.snobol.specs.Evaluate.{argument, as_pattern, makes_value, count_primitive, set_primitive, repetition}
+use Rattle.snobol.specs.Variables.{wrong_type}
 use Rattle.snobol.specs.declared.forms.Part.{Part}
 use Rattle.snobol.specs.Forms.{node_at}
 use Rattle.snobol.specs.State.{State, Does, tree_of, IsPatternOf}
@@ -57,9 +57,3 @@ second_known nodes v (x ∷ xs) ys h k all = rw h (k, all.1)
 -- a number beyond the table has no form
 pub no_form : (source : Source) (part : Part) → length source.nodes ≤ part.node.0 → node_at source part ≡ None
 no_form source part h = slice_get_past source.nodes part.node.0 h
-
--- no form has a name yet
-pub name_later : (text : List ℕ) (nodes : List Form) (i : ℕ) (xs : List Value) → i < length nodes → applied text (slice_get nodes i) true (Some xs) ≡ later
-name_later text [] i xs h = absurd (omega arith)
-name_later text (node ∷ nodes) zero xs h = refl
-name_later text (node ∷ nodes) (suc i) xs h = name_later text nodes i xs (omega arith)

@@ -13,8 +13,10 @@ use Rattle.snobol.specs.declared.machine.Exit.{Exit}
 use Rattle.snobol.specs.declared.machine.Exit.TheVariants.{Failure, Halt}
 use Rattle.snobol.specs.declared.machine.Stop.TheVariants.{Error as HasError, NoMemory, WriteFault}
 use Rattle.snobol.specs.Action.{Action, gives, and_then, either}
-use Rattle.snobol.specs.Values.{Value, Pat, shown, IsValueOf}
-use Rattle.snobol.specs.Evaluate.{number_of, operation, text_of, makes_value, is_null, is_patternable, as_pattern, joined_patterns, joined, concatenation, on_numbers, result_of, wrong_type}
+use Rattle.snobol.specs.Values.{Value, Pat, Name, shown, IsValueOf}
+use Rattle.snobol.specs.Evaluate.{number_of, operation, makes_value, is_null, is_patternable, as_pattern, joined_patterns, joined, concatenation, on_numbers, result_of, pattern_with_target}
+use Rattle.sno_value.specs.declared.value.Name.{Name as Target}
+use Rattle.snobol.specs.Variables.{wrong_type, text_of}
 use Rattle.snobol.specs.State.{State, Does, tree_of, IsPatternOf}
 use Rattle.snobol.specs.Converted.{has_text, IsThere}
 use Rattle.snobol.specs.Operations.{both, is_arithmetic, calculated}
@@ -22,11 +24,15 @@ use Rattle.snobol.proofs.Outcomes.{gives_does, stops_does, no_memory_does, grows
 use Rattle.snobol.proofs.Builders.{tree_stays}
 
 -- what isn't there is error 1
+pub missing_in : {X A Y B : Type 0} (see : X → A) (look : List Node → Y → B) (suits : List Node → Y → Type 0) (o : Option A) (act : Action B) (s : State) (e : Exit)
+    → (o ≡ None → act ≡ wrong_type) → IsThere see o (Err e) → Does look suits act s s (Err e)
+missing_in see look suits o act s Failure none h = absurd h
+missing_in see look suits o act s (Halt (HasError code)) none h = rw (none h.0, h.1) (stops_does look suits s 1)
+missing_in see look suits o act s (Halt NoMemory) none h = no_memory_does look suits act s s (grows_none s.nodes)
+missing_in see look suits o act s (Halt WriteFault) none h = absurd h
+
 pub missing : {X A : Type 0} (see : X → A) (o : Option A) (act : Action Value) (s : State) (e : Exit) → (o ≡ None → act ≡ wrong_type) → IsThere see o (Err e) → Does {X = Stored} shown IsValueOf act s s (Err e)
-missing see o act s Failure none h = absurd h
-missing see o act s (Halt (HasError code)) none h = rw (none h.0, h.1) (stops_does shown IsValueOf s 1)
-missing see o act s (Halt NoMemory) none h = no_memory_does shown IsValueOf act s s (grows_none s.nodes)
-missing see o act s (Halt WriteFault) none h = absurd h
+missing see o act s e none h = missing_in see shown IsValueOf o act s e none h
 
 -- numbers
 
@@ -138,6 +144,14 @@ both_joined join x y a b c d first second r h k v p q m =
     rw (patterns_in_turn join x (shown a.nodes y) h k)
     (then_got tree_of IsPatternOf shown IsValueOf (as_pattern x) (λ t. and_then (as_pattern (shown a.nodes y)) (λ u. makes_value (join t u))) a b d first r p
     (then_got tree_of IsPatternOf shown IsValueOf (as_pattern (shown a.nodes y)) (λ u. makes_value (join (tree_of b.nodes first) u)) b c d second r (rw old at q) (rw stays at m)))
+
+pub target_refused : (join : Pattern → Target → Pattern) (x : Value) (target : Target) (a b : State) (e : Exit) → is_patternable x ≡ true
+    → Does {X = PatId} tree_of IsPatternOf (as_pattern x) a b (Err e) → Does {X = Stored} shown IsValueOf (pattern_with_target join x (Name target)) a b (Err e)
+target_refused join x target a b e h p = rw h (then_err tree_of IsPatternOf shown IsValueOf (as_pattern x) (λ p. makes_value (join p target)) a b e p)
+
+pub target_joined : (join : Pattern → Target → Pattern) (x : Value) (target : Target) (a b c : State) (body : PatId) (r : Result Stored Exit) → is_patternable x ≡ true
+    → Does tree_of IsPatternOf (as_pattern x) a b (Ok body) → Does shown IsValueOf (makes_value (join (tree_of b.nodes body) target)) b c r → Does shown IsValueOf (pattern_with_target join x (Name target)) a c r
+target_joined join x target a b c body r h p m = rw h (then_got tree_of IsPatternOf shown IsValueOf (as_pattern x) (λ p. makes_value (join p target)) a b c body r p m)
 
 -- a text that is there is no error 1
 pub text_refused : (act : Action Value) (v : Stored) (s : State) (e : Exit) → has_text v ≡ true → IsThere {X = Vec ℕ Global} (λ t. t.items) (text_of (shown s.nodes v)) (Err e) → Does {X = Stored} shown IsValueOf act s s (Err e)

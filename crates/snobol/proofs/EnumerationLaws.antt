@@ -21,7 +21,10 @@ use Rattle.snobol.specs.Action.{End, Error, Ending, Got, Fails, Stops, Outcome, 
 use Rattle.snobol.specs.Forms.{value}
 use Rattle.snobol.specs.Evaluate.{expression, as_pattern}
 use Rattle.snobol.specs.State.{State, new_state, world, Does, tree_of, IsPatternOf}
-use Rattle.snobol.specs.Lines.{lines_of, IsBrokenOff}
+use Rattle.snobol.specs.Session.{listed_all}
+use Rattle.snobol.specs.Variables.{writes}
+use Rattle.snobol.specs.Performs.{Ends, Performs}
+use Rattle.snobol.proofs.Performing.{appends_nothing}
 use Rattle.snobol.specs.declared.enumeration.WaysOutcome.{WaysOutcome}
 use Rattle.snobol.specs.Reading.{IsRead}
 use Rattle.snobol.specs.Listing.{lists_ways, lists, listing, Tells, IsListing, outcome_of}
@@ -38,10 +41,20 @@ listing_is source e subject anchored limit short =
 
 -- it is listed
 pub listed : (source : Source) (e : ExprId) (subject : List ℕ) (anchored : Bool) (limit : ℕ) (b : State) (id : PatId) → length subject ≤ 1_000_000 → Does tree_of IsPatternOf (built source e) new_state b (Ok id)
-    → listing source e subject anchored limit ≡ record { ending = Got tt; world = world b; wrote = lines_of (trace (tree b.nodes id.0) subject anchored limit []) }
+    → listing source e subject anchored limit ≡ listed_all subject (trace (tree b.nodes id.0) subject anchored limit []) (world b)
 unfolding settles
 listed source e subject anchored limit b id short did =
     listing_is source e subject anchored limit short ∙ ap (λ (o : Outcome Pattern). settled o.ending o.world o.wrote (lists_ways subject anchored limit)) did.meets
+
+tells_of : (o : Outcome Unit) (after : World) (wrote : List ℕ) (r : Result Unit Stop) → Ends o after wrote r → Tells o wrote r
+tells_of o after wrote (Ok done) h = (ap (λ (p : Outcome Unit). p.ending) h, ap (λ (p : Outcome Unit). p.wrote) h)
+tells_of o after wrote (Err (HasError code)) h = h
+tells_of o after wrote (Err NoMemory) h = h
+tells_of o after wrote (Err WriteFault) h = h
+
+-- what was performed is told
+pub told : (act : Action Unit) (o : Outcome Unit) (a b : State) (x y : Option (List ℕ)) (r : Result Unit Stop) → o ≡ act (world a) → Performs act a b x y r → (wrote : List ℕ) × Appends x y wrote × Tells o wrote r
+told act o a b x y r is did = (did.wrote, did.appends, rw is (tells_of (act (world a)) (world b) did.wrote r did.ends))
 
 -- it failed while it was built
 pub listed_failure : (source : Source) (e : ExprId) (subject : List ℕ) (anchored : Bool) (limit : ℕ) (b : State) → length subject ≤ 1_000_000 → Does {X = PatId} tree_of IsPatternOf (built source e) new_state b (Err Failure)
@@ -64,11 +77,9 @@ listed_stop source e subject anchored limit b (HasError code) short did =
 listed_stop source e subject anchored limit b NoMemory short did = ((listing source e subject anchored limit).wrote, refl)
 listed_stop source e subject anchored limit b WriteFault short did = absurd did.meets
 
--- a beginning of the lines
-pub told_in_part : (o : Outcome Unit) (lines part : List ℕ) (why : Stop) → o.wrote ≡ lines → IsBrokenOff why → Begins part lines → Tells o part (Err why)
-told_in_part o lines part (HasError code) e h b = absurd h
-told_in_part o lines part NoMemory e h b = rw e b
-told_in_part o lines part WriteFault e h b = rw e b
+-- a beginning of the line of a pattern that has no way
+pub told_in_part : (o : Outcome Unit) (lines part : List ℕ) → o.wrote ≡ lines → Begins part lines → Tells o part (Err WriteFault)
+told_in_part o lines part e b = rw e b
 
 -- what was told of a pattern that is read is its listing
 pub is_listing : (pattern subject : List ℕ) (anchored : Bool) (limit : ℕ) (source : Source) (e : ExprId) (outcome : WaysOutcome) (end : Result Unit Stop) (wrote : List ℕ)
@@ -81,10 +92,6 @@ is_listing pattern subject anchored limit source e outcome (Err NoMemory) wrote 
     rw is (inr (record { source = source; number = e; read = read; begins = told }))
 is_listing pattern subject anchored limit source e outcome (Err WriteFault) wrote read is told =
     rw is (record { source = source; number = e; read = read; begins = told })
-
-pub appends_nothing : (taken : Option (List ℕ)) → Appends taken taken []
-appends_nothing None = tt
-appends_nothing (Some bytes) = sym (append-nil bytes)
 
 -- an expression that the reader accepts is read
 pub is_read : (text : List ℕ) (source : Source) (e : ExprId) → ((t : Tree) × IsAccepted text t × Stands source.nodes e t) → source.text ≡ text → e.0 < length source.nodes → IsTable (length source.text) source.nodes → IsRead text source e

@@ -7,7 +7,10 @@ pub mod Ordered
 pub mod ListingLaws
 pub mod EnumerationLaws
 pub mod Builders
-pub mod Variables
+pub mod Stores
+pub mod Performing
+pub mod LineLaws
+pub mod Names
 pub mod Primitives
 pub mod Conversions
 pub mod Arguments

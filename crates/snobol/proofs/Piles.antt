@@ -5,12 +5,12 @@ use Rattle.sno_value.specs.declared.value.Value.{Value as Stored}
 use Rattle.sno_text.specs.Source.{Source}
 use Rattle.snobol.specs.declared.forms.Part.{Part}
 use Rattle.snobol.specs.declared.pile.Waiting.{Waiting}
-use Rattle.snobol.specs.Values.{Value}
-use Rattle.snobol.specs.Forms.{parts_at, IsOrdered}
+use Rattle.snobol.specs.Values.{Value, Str}
+use Rattle.snobol.specs.Forms.{parts_at, node_at, absorbs, IsOrdered}
 use Rattle.snobol.specs.Evaluate.{expression, gathered}
-use Rattle.snobol.specs.Action.{settles, either}
+use Rattle.snobol.specs.Action.{settles, either, gives, fails}
 use Rattle.snobol.specs.Pile.{Rest, apply_at, resumed, under, turns, total, waits, holds}
-use Rattle.snobol.proofs.Settling.{settles_twice, settles_fails, settles_same}
+use Rattle.snobol.proofs.Settling.{settles_twice, settles_fails, settles_gives, settles_same}
 use Rattle.snobol.proofs.Expressions.{expression_is, turns_is}
 
 -- the last that waits
@@ -132,9 +132,16 @@ pub resumed_last : (source : Source) (p : Part) (held : ℕ) (vs : List Value) (
 resumed_last source p held vs v rest h =
     λ i. settles (gathered (expression source) (apply_at source p) (dropped_none (parts_at source p) (suc held) h i) (sym (held_more held vs v) i)) (rest (sym (kept_more held vs v) i))
 
--- one that waited has no value, as no form absorbs a failure
-pub resumed_failed : (source : Source) (f : Waiting) (vs : List Value) (rest : Rest) → resumed source f rest vs None ≡ rest (take (length vs - f.held) vs) None
-resumed_failed source f vs rest = settles_fails (rest (take (length vs - f.held) vs))
+-- one that waited has no value where its operand has none
+pub resumed_failed : (source : Source) (f : Waiting) (vs : List Value) (rest : Rest) → absorbs (node_at source f.part) f.part.as_name ≡ false → resumed source f rest vs None ≡ rest (take (length vs - f.held) vs) None
+resumed_failed source f vs rest h =
+    ap (λ (b : Bool). settles (if b then gives (Str []) else fails) (rest (take (length vs - f.held) vs))) h ∙ settles_fails (rest (take (length vs - f.held) vs))
+
+-- or is null there
+pub resumed_absorbed : (source : Source) (f : Waiting) (vs : List Value) (rest : Rest) → absorbs (node_at source f.part) f.part.as_name ≡ true
+    → resumed source f rest vs None ≡ rest (take (length vs - f.held) vs) (Some (Str []))
+resumed_absorbed source f vs rest h =
+    ap (λ (b : Bool). settles (if b then gives (Str []) else fails) (rest (take (length vs - f.held) vs))) h ∙ settles_gives (Str []) (rest (take (length vs - f.held) vs))
 
 -- turns fall
 

@@ -18,21 +18,21 @@ use Rattle.snobol.specs.declared.machine.Exit.TheVariants.{Halt}
 use Rattle.snobol.specs.declared.machine.Stop.TheVariants.{Error as HasError}
 use Rattle.snobol.specs.Action.{Error, Stops, Action, stops}
 use Rattle.snobol.specs.Evaluate.{makes}
-use Rattle.snobol.specs.State.{State, world, Does, tree_of, IsPatternOf, exit_of}
+use Rattle.snobol.specs.State.{State, world, IsKnown, Does, tree_of, IsPatternOf, exit_of}
 use Rattle.snobol.specs.Primitives.{with_bytes, makes_primitive}
 use Rattle.snobol.proofs.Outcomes.{no_memory_does}
 use Rattle.snobol.proofs.Builders.{made}
 
-pub primitive_made : (kind : PrimitiveKind) (arg : Arg) (a b : State) (id : PatId) → IsGoodArg arg → Appends a.nodes b.nodes (LeafNode (primitive_of kind arg)) id
+pub primitive_made : (kind : PrimitiveKind) (arg : Arg) (a b : State) (id : PatId) → IsKnown a.nodes a.store → b.store ≡ a.store → IsGoodArg arg → Appends a.nodes b.nodes (LeafNode (primitive_of kind arg)) id
     → Does tree_of IsPatternOf (makes_primitive kind arg) a b (Ok id)
-primitive_made kind (Count (pos n)) a b id good h = made _ a b id h
-primitive_made kind (Count (negsuc n)) a b id good h = absurd (omega (arith, ints))
-primitive_made kind (Set bytes) a b id good h = set_made kind bytes.now a b id good h
+primitive_made kind (Count (pos n)) a b id known same good h = made _ a b id known same h
+primitive_made kind (Count (negsuc n)) a b id known same good h = absurd (omega (arith, ints))
+primitive_made kind (Set bytes) a b id known same good h = set_made kind bytes.now a b id known same good h
   where
-    set_made : (kind : PrimitiveKind) (bytes : List ℕ) (a b : State) (id : PatId) → 0 < length bytes → Appends a.nodes b.nodes (LeafNode (with_set kind (set_of bytes))) id
+    set_made : (kind : PrimitiveKind) (bytes : List ℕ) (a b : State) (id : PatId) → IsKnown a.nodes a.store → b.store ≡ a.store → 0 < length bytes → Appends a.nodes b.nodes (LeafNode (with_set kind (set_of bytes))) id
         → Does tree_of IsPatternOf (with_bytes kind bytes) a b (Ok id)
-    set_made kind [] a b id good h = absurd (omega arith)
-    set_made kind (byte ∷ bytes) a b id good h = made _ a b id h
+    set_made kind [] a b id known same good h = absurd (omega arith)
+    set_made kind (byte ∷ bytes) a b id known same good h = made _ a b id known same h
 
 -- a part that stops with an error
 pub stopped : (act : Action Pattern) (code : ℕ) (a b : State) → b.nodes ≡ a.nodes → (act (world a)).ending ≡ Stops (Error code) → (act (world a)).wrote ≡ []

@@ -1,6 +1,7 @@
 -- What functions did that write. Private contracts alone cite it.
 use Rattle.std.specs.Prelude.{◌≡◌, ℕ, List, ◌++◌, Option, None, Some, Result, Ok, Err, codes}
-use Rattle.std.specs.Vec.{Vec}
+use Rattle.std.specs.declared.alloc.Global.{Global}
+use Rattle.std.specs.declared.vec.Vec.{Vec}
 use Rattle.std.specs.Io.KnownBytes.{Appends}
 use Rattle.sno_io.specs.Devices.{Begins}
 use Rattle.snobol.specs.declared.machine.Stop.{Stop}

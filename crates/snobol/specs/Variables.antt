@@ -55,7 +55,7 @@ text_of_name w other = []
 -- a variable's name as a value is its text; any other name is itself
 abbrev pub name_value : Target → Action Value
 name_value (Var id) w = gives (Str (text_of_name w (Var id))) w
-name_value other = gives (Name other)
+name_value other w = gives (Name other) w
 
 abbrev pub value_in : World → Target → Value
 value_in w (Var id) = slice_index_or w.values id.0 (Str [])

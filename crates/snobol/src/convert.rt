@@ -1,8 +1,9 @@
 //! The number, the text and the pattern of a value.
-ghost use Rattle.std.specs.Prelude.{◌≡◌, ◌≤◌, List, length, IfOk};
+ghost use Rattle.std.specs.Prelude.{◌≡◌, ◌≤◌, List, [], length, IfOk};
 ghost use Rattle.sno_pattern.specs.Table.{Node};
 ghost use Rattle.snobol.specs.Values.{shown, IsValueOf};
-ghost use Rattle.snobol.specs.Evaluate.{number_of, text_of, as_pattern, is_patternable, is_null};
+ghost use Rattle.snobol.specs.Evaluate.{number_of, as_pattern, is_patternable, is_null};
+ghost use Rattle.snobol.specs.Variables.{text_of};
 ghost use Rattle.snobol.specs.Converted.{IsThere, has_text};
 ghost use Rattle.snobol.specs.State.{Does, tree_of, IsPatternOf};
 

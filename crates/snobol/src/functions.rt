@@ -4,7 +4,8 @@ ghost use Rattle.std.specs.List.{AllByRecursion};
 ghost use Rattle.sno_value.specs.Kind.{takes_count};
 ghost use Rattle.sno_pattern.specs.Table.{Node};
 ghost use Rattle.snobol.specs.Values.{shown, IsValueOf};
-ghost use Rattle.snobol.specs.Evaluate.{argument, called, count_primitive, repetition, set_primitive, number_of, text_of};
+ghost use Rattle.snobol.specs.Evaluate.{argument, called, count_primitive, repetition, set_primitive, number_of};
+ghost use Rattle.snobol.specs.Variables.{text_of};
 ghost use Rattle.snobol.specs.State.{Does};
 
 use crate::builtins::Builtin;

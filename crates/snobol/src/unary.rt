@@ -1,12 +1,12 @@
 //! The unary operators, and the names of forms.
 ghost use Rattle.std.specs.Prelude.{◌≡◌};
 ghost use Rattle.snobol.specs.Values.{shown, IsValueOf};
-ghost use Rattle.snobol.specs.Evaluate.{unary, cursor_pattern, name_of, number_of};
+ghost use Rattle.snobol.specs.Evaluate.{unary, unary_name, cursor_pattern, name_of, number_of};
 ghost use Rattle.snobol.specs.Variables.{named_by};
 ghost use Rattle.snobol.specs.State.{State, Does, itself, any};
 
 use crate::convert::{null, number_of, text_of};
-use crate::machine::{DATA_TYPE, Exit, LATER, Machine, error};
+use crate::machine::{DATA_TYPE, Exit, LATER, Machine, NO_VARIABLE, error};
 use crate::operators::computed;
 use sno_text::UnaryOperator;
 use sno_value::{Name, Value, sub};
@@ -51,8 +51,26 @@ fn minus(x: &Value) -> Result<Value, Exit>
     computed(sub(0, number))
 }
 
+/// The name of a unary operator's form, which $X alone has.
+pub(crate) fn unary_name(
+    machine: &mut Machine,
+    operator: UnaryOperator,
+    x: Value,
+) -> Result<Value, Exit>
+    requires { IsValueOf machine.old.nodes x }
+    ensures { Does shown IsValueOf (unary_name operator (shown machine.old.nodes x)) machine.old machine.new result }
+{
+    match operator {
+        UnaryOperator::Indirect => {
+            let target = named_by(machine, x)?;
+            Ok(Value::Name(target))
+        }
+        _ => Err(error(NO_VARIABLE)),
+    }
+}
+
 /// The variable that a value names: a name itself, and a text by its symbol.
-pub(crate) fn named_by(machine: &mut Machine, x: Value) -> Result<Name, Exit>
+fn named_by(machine: &mut Machine, x: Value) -> Result<Name, Exit>
     requires { IsValueOf machine.old.nodes x }
     ensures { Does itself any (named_by (shown machine.old.nodes x)) machine.old machine.new result }
 {

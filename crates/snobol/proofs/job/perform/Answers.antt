@@ -1,5 +1,5 @@
 use Rattle.std.proofs.Common.{◌≡◌, refl, []}
-use Rattle.snobol.proofs.EnumerationLaws.{appends_nothing}
+use Rattle.snobol.proofs.Performing.{appends_nothing}
 use Rattle.snobol.proofs.job.perform.Goals as goal
 
 pub returns-in-Some : goal.returns-in-Some

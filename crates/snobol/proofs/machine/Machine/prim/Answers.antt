@@ -1,9 +1,10 @@
+use Rattle.std.proofs.Common.{refl}
 use Rattle.std.proofs.lemmas.Result.{err_from_is_err_and}
 use Rattle.snobol.proofs.Primitives.{primitive_made, primitive_refused}
 use Rattle.snobol.proofs.machine.Machine.prim.Goals as goal
 
 pub returns : goal.returns
-returns c = rw (← c.self.view_is) (primitive_made _ _ _ _ _ c.in_ok-id.ensures.good c.in_ok-id.ensures.ok)
+returns c = rw (← c.self.view_is) (primitive_made _ _ _ _ _ c.self.invariant refl c.in_ok-id.ensures.good c.in_ok-id.ensures.ok)
 
 pub returns-in_err-id : goal.returns-in_err-id
 returns-in_err-id c =

@@ -1,4 +1,5 @@
 use Rattle.std.proofs.Common.{◌≤◌, length, map, ap, sym, ◌∙◌, arith, refl, is_ok}
+use Rattle.snobol.specs.Values.{shown}
 use Rattle.snobol.specs.Pile.{holds, under, outcome}
 use Rattle.snobol.specs.Evaluate.{expression}
 use Rattle.snobol.specs.Action.{settles}
@@ -11,7 +12,8 @@ invariant_of-self-in-Some c =
     (let i : holds c.self.inside.waiting.items ≤ length c.self.inside.values.items = c.self.invariant in omega arith)
 
 pub returns-in_ok-push-in-Some-clause-rest : goal.returns-in_ok-push-in-Some-clause-rest
-returns-in_ok-push-in-Some-clause-rest c see =
+returns-in_ok-push-in-Some-clause-rest c nodes =
+    let see = shown nodes in
     let source = c.args.program.now in let waiting = c.self.inside.waiting.items in let values = c.self.inside.values.items in
     rw (← c.self.view_is) (entered_first source c.args.part c.in-Some.first (map see values) (under source waiting outcome) c.requires (sym c.operand.ensures ∙ c.in-Some.is)
     ∙ ap (λ k. settles (expression source c.in-Some.first) (k (map see values))) (sym (under_in source c.push.new.self.items waiting (record { part = c.args.part; held = 0 }) outcome c.in_ok-push-in-Some.ensures.items)))
@@ -21,7 +23,8 @@ returns-in_ok-push-in-Some-clause-work c =
     rw (← c.self.view_is) (first_falls c.args.program.now c.args.part c.in-Some.first c.self.inside.waiting.items c.push.new.self.items c.requires (sym c.operand.ensures ∙ c.in-Some.is) c.in_ok-push-in-Some.ensures.items)
 
 pub returns-in-None-clause-rest : goal.returns-in-None-clause-rest
-returns-in-None-clause-rest c see =
+returns-in-None-clause-rest c nodes =
+    let see = shown nodes in
     let source = c.args.program.now in let values = c.args.self.now.values in let rest = under source c.args.self.now.waiting outcome in
     entered_leaf source c.args.part (map see values) rest c.requires (sym c.operand.ensures ∙ c.in-None.is)
     ∙ applied_seen source c.args.part see 0 values (map see values) rest refl

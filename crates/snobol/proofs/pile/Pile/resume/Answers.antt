@@ -1,5 +1,6 @@
 use Rattle.std.proofs.Common.{◌≡◌, suc, ◌+◌, [], ◌∷◌, ◌++◌, length, map, ap, sym, ◌∙◌, arith, Some, slice_get, is_ok}
 use Rattle.std.proofs.lemmas.List.{length-append, map-append}
+use Rattle.snobol.specs.Values.{shown}
 use Rattle.snobol.specs.Pile.{under, outcome}
 use Rattle.snobol.specs.Evaluate.{expression}
 use Rattle.snobol.specs.Action.{settles}
@@ -22,7 +23,8 @@ invariant_of-self-in-None c =
     let h = held_in _ _ _ _ c.in-Some.ensures.items c.self.invariant in let a = ap length c.in_ok-push.ensures.items in let b = length-append c.self.inside.values.items (c.args.value ∷ []) in omega arith
 
 pub returns-in_ok-push-in-Some-operand-clause-rest : goal.returns-in_ok-push-in-Some-operand-clause-rest
-returns-in_ok-push-in-Some-operand-clause-rest c see =
+returns-in_ok-push-in-Some-operand-clause-rest c nodes =
+    let see = shown nodes in
     let source = c.args.program.now in let waiting = c.pop.new.self.items in let values = c.self.inside.values.items in let part = c.in-Some.last.part in let held = c.in-Some.last.held in let next = c.in-Some-operand.next in
     let more : held + 1 ≡ suc held = omega arith in
     let found : slice_get _ (suc held) ≡ Some next = rw more at (sym c.operand.ensures ∙ c.in-Some-operand.is) in
@@ -40,7 +42,8 @@ returns-in_ok-push-in-Some-operand-clause-work c =
     (rw more at (sym c.operand.ensures ∙ c.in-Some-operand.is)) c.in-Some.ensures.items (rw more at c.in_ok-push-in-Some-operand.ensures.items))
 
 pub returns-in-None-clause-rest : goal.returns-in-None-clause-rest
-returns-in-None-clause-rest c see =
+returns-in-None-clause-rest c nodes =
+    let see = shown nodes in
     let source = c.args.program.now in let waiting = c.pop.new.self.items in let values = c.self.inside.values.items in let part = c.in-Some.last.part in let held = c.in-Some.last.held in
     let more : held + 1 ≡ suc held = omega arith in
     let rest = under source waiting outcome in
