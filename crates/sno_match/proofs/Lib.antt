@@ -23,3 +23,4 @@ pub mod Unique
 pub mod ToldWays
 pub mod QuietWays
 pub mod SessionWays
+pub mod WithinLaws

@@ -14,7 +14,7 @@ use Rattle.sno_match.proofs.Goals.{Goes, done, pass}
 use Rattle.sno_match.proofs.Quiet.{taken, Meets, amid-at, amid-place, search_within-finds}
 use Rattle.sno_match.proofs.ToldWays.{are-ways}
 
-starts-within : (anchored : Bool) (s : List ℕ) → Each (Within 0 (length s)) (starts anchored s)
+pub starts-within : (anchored : Bool) (s : List ℕ) → Each (Within 0 (length s)) (starts anchored s)
 starts-within true s = ((omega arith, omega arith), tt)
 starts-within false s = count_from-within 0 (length s) 0 (suc (length s)) (omega arith) (omega arith)
 

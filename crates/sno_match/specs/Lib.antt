@@ -5,6 +5,7 @@ pub use Rattle.sno_pattern.specs.Quiet
 pub mod Search
 pub mod Ways
 pub mod Events
+pub mod Within
 pub mod Session
 pub mod Point
 pub mod Top

@@ -1,7 +1,8 @@
 //! A match that is asked for one event after another.
 ghost use Rattle.std.specs.Prelude.{◌≡◌, ◌<◌, ◌≤◌, ◌+◌, ◌-◌, ◌*◌, ◌++◌, [], ◌∷◌, false, true, length, drop, take, IfOk, IfSome, IsOk, OnOk, OnErr};
 ghost use Rattle.sno_match.specs.Session.{SameMatch, IsTold, StaysAt, IsCounted, TellsWays, Begins, begins, told_of};
-ghost use Rattle.sno_match.specs.Events.{last_pending};
+ghost use Rattle.sno_match.specs.Events.{in_trace, last_pending};
+ghost use Rattle.sno_match.specs.Within.{IsWithin};
 ghost use Rattle.sno_match.specs.State.{after};
 ghost use Rattle.sno_match.specs.Running.{Advances};
 
@@ -92,7 +93,7 @@ impl<P: Points> Engine<P> {
     }
 
     /// The next event. Behind one of the last three it is that event again, and no memory is taken. Where memory is
-    /// refused no event was told, and the call may be made again.
+    /// refused no event was told, and the call may be made again. What an event tells lies within the subject.
     ///
     /// The table is that of the call before, at first that of `new`; builders may have made it longer.
     pub fn next(&mut self, patterns: &Patterns) -> Result<Event, AllocError>
@@ -105,6 +106,7 @@ impl<P: Points> Engine<P> {
         ensures again { self.old.ended ≡ true → IsOk result × (self.new ≡ record self.old { nodes = patterns.now }) }
         ensures counts { IsCounted self.new }
         ensures ways { TellsWays self.new result }
+        ensures within { IfOk result (λ event. IsWithin (length self.new.subject) (in_trace event self.new.way)) }
     {
         self.lent = Snapshot::of(patterns);
         if let State::Ended(event) = self.state {

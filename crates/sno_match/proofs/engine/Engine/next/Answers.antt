@@ -3,6 +3,7 @@ use Rattle.std.proofs.lemmas.Result.{err_from_is_err_and}
 use Rattle.sno_match.proofs.CountLaws.{match_counted}
 use Rattle.sno_match.proofs.NextLaws as laws
 use Rattle.sno_match.proofs.SessionWays.{told-ways, refused-ways}
+use Rattle.sno_match.proofs.WithinLaws.{told_within}
 use Rattle.sno_match.proofs.engine.Engine.next.Goals as goal
 
 pub invariant_of-self : goal.invariant_of-self
@@ -88,4 +89,5 @@ returns-in-Some g c =
           c.requires.asked c.in_default.not-Ended h);
       counts = c.in_ok-event.ensures.counts;
       ways = told-ways _ _ _ told;
+      within = told_within _ _ _ told;
     }
