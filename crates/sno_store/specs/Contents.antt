@@ -2,7 +2,6 @@
 use Rattle.std.specs.Prelude.{◌≡◌, ℕ, suc, ◌==◌, nat_lt, Bool, List, [], ◌∷◌, ◌++◌, codes, length, slice_index_or, slice_set, Result, Ok, Err, if◌then◌else◌}
 use Rattle.std.specs.Str.{bytes_eq}
 use Rattle.sno_value.specs.declared.ids.SymId.{SymId}
-use Rattle.sno_value.specs.declared.ids.PatId.{PatId}
 use Rattle.sno_value.specs.declared.value.Name.{Name}
 use Rattle.sno_value.specs.declared.value.Name.TheVariants.{Var}
 use Rattle.sno_value.specs.declared.value.Value.{Value}
