@@ -1,0 +1,62 @@
+-- What a store holds, and what its calls do with that.
+use Rattle.std.specs.Prelude.{◌≡◌, ℕ, suc, ◌==◌, nat_lt, Bool, List, [], ◌∷◌, ◌++◌, codes, length, slice_index_or, slice_set, Result, Ok, Err, if◌then◌else◌}
+use Rattle.std.specs.Str.{bytes_eq}
+use Rattle.sno_value.specs.declared.ids.SymId.{SymId}
+use Rattle.sno_value.specs.declared.value.Name.{Name}
+use Rattle.sno_value.specs.declared.value.Name.TheVariants.{Var}
+use Rattle.sno_value.specs.declared.value.Value.{Value}
+use Rattle.sno_value.specs.declared.value.Value.TheVariants.{Str, Pat}
+use Rattle.sno_store.specs.declared.error.StoreError.{StoreError}
+use Rattle.sno_store.specs.declared.error.StoreError.TheVariants.{NullName, Full, NoMemory}
+
+-- What a store holds.
+pub record Contents : Type 0 where
+  -- the symbols, in the order in which they joined
+  pub symbols : List (List ℕ)
+  -- the values of the variables, by the symbols' numbers
+  pub values : List Value
+
+-- the number of a name: how many symbols stand before it, all of them where it is none
+abbrev pub place : List ℕ → List (List ℕ) → ℕ
+place name [] = 0
+place name (symbol ∷ symbols) = if bytes_eq name symbol then 0 else suc (place name symbols)
+
+abbrev pub is_symbol : List ℕ → List (List ℕ) → Bool
+is_symbol name symbols = nat_lt (place name symbols) (length symbols)
+
+-- the number that a name is given, or why it is refused
+abbrev pub joining : List ℕ → List (List ℕ) → Result ℕ StoreError
+joining [] symbols = Err NullName
+joining (byte ∷ bytes) symbols =
+    if is_symbol (byte ∷ bytes) symbols then Ok (place (byte ∷ bytes) symbols) else (if length symbols == 1_000_000 then Err Full else Ok (length symbols))
+
+-- a name joins the symbols where it is none of them, and begins with the null string
+abbrev pub with_symbol : List ℕ → Contents → Contents
+with_symbol name c = if is_symbol name c.symbols then c else record { symbols = c.symbols ++ name ∷ []; values = c.values ++ Str [] ∷ [] }
+
+-- what `symbol` did
+abbrev pub IsJoined : List ℕ → Contents → Contents → Result SymId StoreError → Type 0
+IsJoined name old new (Ok id) = (joining name old.symbols ≡ Ok id.0) × (new ≡ with_symbol name old)
+IsJoined name old new (Err NullName) = (joining name old.symbols ≡ Err NullName) × (new ≡ old)
+IsJoined name old new (Err Full) = (joining name old.symbols ≡ Err Full) × (new ≡ old)
+IsJoined name old new (Err NoMemory) = new ≡ old
+
+-- the value of what is named; null where the store has no such name
+abbrev pub value_of : Contents → Name → Value
+value_of c (Var symbol) = slice_index_or c.values symbol.0 (Str [])
+value_of c other = Str []
+
+-- a variable is given a value
+abbrev pub with_value : Name → Value → Contents → Contents
+with_value (Var symbol) value c = record c { values = slice_set c.values symbol.0 value }
+with_value other value c = c
+
+abbrev pub pattern : ℕ → Value
+pattern n = Pat (record { 0 = n })
+
+-- a new store: the variables that begin with a pattern, then INPUT and OUTPUT, which begin with null
+abbrev pub new_contents : Contents
+new_contents = record {
+  symbols = codes "ARB" ∷ codes "BAL" ∷ codes "REM" ∷ codes "FAIL" ∷ codes "FENCE" ∷ codes "ABORT" ∷ codes "SUCCEED" ∷ codes "INPUT" ∷ codes "OUTPUT" ∷ [];
+  values = pattern 0 ∷ pattern 1 ∷ pattern 2 ∷ pattern 3 ∷ pattern 4 ∷ pattern 5 ∷ pattern 6 ∷ Str [] ∷ Str [] ∷ [];
+}

@@ -1,0 +1,8 @@
+-- The patterns with which variables of a new store begin.
+use Rattle.std.specs.Prelude.{List, [], ◌∷◌}
+use Rattle.sno_pattern.specs.Pattern.{Arb, Bal, Rem, Fail}
+use Rattle.sno_pattern.specs.Table.{Node, LeafNode, FenceNode, AbortNode, SucceedNode}
+
+-- by the numbers that their variables hold
+abbrev pub first_patterns : List Node
+first_patterns = LeafNode Arb ∷ LeafNode Bal ∷ LeafNode Rem ∷ LeafNode Fail ∷ FenceNode ∷ AbortNode ∷ SucceedNode ∷ []

@@ -1,0 +1,36 @@
+//! Why a store refuses.
+
+use std::alloc::{AllocError, AllocFailed};
+
+/// Why a store refuses. Of several reasons the first in a call's table is told, and the store is as it was.
+#[derive(Clone, Copy, Debug, Drop, PartialEq, Eq)]
+pub enum StoreError {
+    /// A name is the null string (error 6).
+    NullName,
+    /// The store holds as much of a kind as it may (error 9).
+    Full,
+    /// Memory was refused.
+    NoMemory,
+}
+
+impl From<AllocError> for StoreError {
+    ghost use Rattle.std.specs.Prelude.{◌≡◌};
+    ghost use Rattle.sno_store.specs.declared.error.StoreError.TheVariants.{NoMemory};
+
+    ghost from_gives = { λ _ e. e ≡ NoMemory };
+
+    fn from(_refused: AllocError) -> StoreError {
+        StoreError::NoMemory
+    }
+}
+
+impl<T: Drop> From<AllocFailed<T>> for StoreError {
+    ghost use Rattle.std.specs.Prelude.{◌≡◌};
+    ghost use Rattle.sno_store.specs.declared.error.StoreError.TheVariants.{NoMemory};
+
+    ghost from_gives = { λ _ e. e ≡ NoMemory };
+
+    fn from(_refused: AllocFailed<T>) -> StoreError {
+        StoreError::NoMemory
+    }
+}

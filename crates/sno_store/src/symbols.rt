@@ -1,0 +1,81 @@
+//! The texts of the symbols, by number and by text.
+ghost use Rattle.std.specs.Prelude.{◌≡◌, ◌≤◌, ◌<◌, [], ◌∷◌, ◌++◌, length, false, slice_index_or, option_map, IfOk, OnOk, OnErr};
+ghost use Rattle.sno_store.specs.Contents.{is_symbol};
+ghost use Rattle.sno_store.specs.Symbols.{found};
+
+use indexmap::IndexSet;
+use sno_value::SymId;
+use std::alloc::{AllocError, Global};
+use std::marker::Model;
+
+/// How many symbols a store holds at most (this profile).
+pub(crate) const MOST_SYMBOLS: usize = 1_000_000;
+
+/// The symbols, which contracts see as the list of their texts.
+#[derive(Drop)]
+pub(crate) struct Symbols {
+    alloc: Global,
+    texts: IndexSet<Vec<u8>>,
+}
+
+impl Model for Symbols {
+    ghost use Rattle.std.specs.Prelude.{List, ℕ, ◌≤◌, map, length};
+
+    ghost Value = { List (List ℕ) };
+
+    ghost view = { λ s. map (λ text. text.items) s.texts.keys };
+
+    ghost invariant = { λ s. length s.texts.keys ≤ 1_000_000 };
+}
+
+impl Symbols {
+    /// No symbols. It takes no memory.
+    pub(crate) fn new(alloc: Global) -> Symbols
+        ensures { result ≡ [] }
+    {
+        Symbols {
+            alloc,
+            texts: IndexSet::new(alloc),
+        }
+    }
+
+    /// How many symbols there are.
+    pub(crate) fn len(&self) -> usize
+        ensures number { result ≡ length self.now }
+        ensures few { result ≤ 1_000_000 }
+    {
+        self.texts.len()
+    }
+
+    /// The number of a text, if it is a symbol.
+    pub(crate) fn find(&self, name: &[u8]) -> Option<SymId>
+        ensures { option_map (λ id. id.0) result ≡ found name.now self.now }
+    {
+        let place = self.texts.get_index_of(name)?;
+        Some(SymId(place as u32))
+    }
+
+    /// A text that is no symbol joins them at the end.
+    pub(crate) fn push(&mut self, name: &[u8]) -> Result<SymId, AllocError>
+        requires new { is_symbol name.now self.old ≡ false }
+        requires room { length self.old < 1_000_000 }
+        ensures id { IfOk result (λ id. id.0 ≡ length self.old) }
+        ensures ok { OnOk result (self.new ≡ self.old ++ name.now ∷ []) }
+        ensures err { OnErr result (self.new ≡ self.old) }
+    {
+        let id = SymId(self.texts.len() as u32);
+        let text = Vec::from_slice(self.alloc, name)?;
+        self.texts.insert(text)?;
+        Ok(id)
+    }
+
+    /// The text of a symbol, which is empty where there is none with this number.
+    pub(crate) fn text(&self, symbol: SymId) -> &[u8]
+        ensures { result.now ≡ slice_index_or self.now symbol.0 [] }
+    {
+        match self.texts.get_index(symbol.0 as usize) {
+            Some(text) => text.as_slice(),
+            None => b"",
+        }
+    }
+}
