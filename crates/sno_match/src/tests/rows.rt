@@ -337,11 +337,12 @@ fn assignments_on_the_way(rt: HostRuntime) -> Result<(), Fail> {
     Ok(())
 }
 
-/// The pending list of the first event.
-fn first_pending(rt: &impl Abort, told: &[Told], want: &[(u32, usize, usize)]) {
-    for first in told.first() {
-        assert_eq!(rt; first.pending.len(), want.len());
-        for (pending, (target, start, end)) in first.pending.iter().zip(want) {
+/// The pending list of the last way at each event.
+fn assert_pending(rt: &impl Abort, got: &[Told], want: &[&[(u32, usize, usize)]]) {
+    assert_eq!(rt; got.len(), want.len());
+    for (told, list) in got.iter().zip(want) {
+        assert_eq!(rt; told.pending.len(), list.len());
+        for (pending, (target, start, end)) in told.pending.iter().zip(*list) {
             let expected = Pending {
                 target: variable(*target),
                 start: *start,
@@ -364,7 +365,8 @@ fn assignments_that_wait(rt: HostRuntime) -> Result<(), Fail> {
     ];
     let told = events_of(&rt, alloc, &forms, b"XY", true, 1000)?;
     assert_told(&rt, &told, &[(way(0, 2), 7), (Event::Exhausted, 7)]);
-    first_pending(&rt, &told, &[(1, 0, 1), (2, 0, 2)]);
+    let both = [(1, 0, 1), (2, 0, 2)];
+    assert_pending(&rt, &told, &[&both, &both]);
     // ('A' . X 'C' | 'A' . Y) 'B'
     let forms = [
         Form::Text(b"A"),
@@ -377,8 +379,23 @@ fn assignments_that_wait(rt: HostRuntime) -> Result<(), Fail> {
         Form::Cat(5, 6),
     ];
     let told = events_of(&rt, alloc, &forms, b"AB", true, 1000)?;
-    assert_eq!(rt; told.len(), 2);
-    first_pending(&rt, &told, &[(2, 0, 1)]);
+    assert_told(&rt, &told, &[(way(0, 2), 12), (Event::Exhausted, 12)]);
+    assert_pending(&rt, &told, &[&[(2, 0, 1)], &[(2, 0, 1)]]);
+    // LEN(1) . X | LEN(2) . Y
+    let forms = [
+        Form::Len(1),
+        Form::Cond(0, 1),
+        Form::Len(2),
+        Form::Cond(2, 2),
+        Form::Alt(1, 3),
+    ];
+    let told = events_of(&rt, alloc, &forms, b"AB", true, 1000)?;
+    assert_told(
+        &rt,
+        &told,
+        &[(way(0, 1), 4), (way(0, 2), 8), (Event::Exhausted, 8)],
+    );
+    assert_pending(&rt, &told, &[&[(1, 0, 1)], &[(2, 0, 2)], &[(2, 0, 2)]]);
     // LEN(1) $ X . Y
     let forms = [Form::Len(1), Form::Imm(0, 1), Form::Cond(1, 2)];
     let told = events_of(&rt, alloc, &forms, b"AB", true, 1000)?;
@@ -387,8 +404,10 @@ fn assignments_that_wait(rt: HostRuntime) -> Result<(), Fail> {
         &told,
         &[(assign(1, 0, 1), 4), (way(0, 1), 5), (Event::Exhausted, 5)],
     );
+    assert_pending(&rt, &told, &[&[], &[(2, 0, 1)], &[(2, 0, 1)]]);
     let told = events_of(&rt, alloc, &forms, b"AB", true, 4)?;
     assert_told(&rt, &told, &[(assign(1, 0, 1), 4), (Event::Limit, 4)]);
+    assert_pending(&rt, &told, &[&[], &[]]);
     Ok(())
 }
 
