@@ -8,7 +8,6 @@ use Rattle.sno_pattern.specs.Table.{Node, tree, tree_over, trees_onto, no_patter
 use Rattle.sno_pattern.proofs.TableLaws.{tree-append}
 use Rattle.sno_pattern.specs.Built.{Appends}
 use Rattle.snobol.specs.Evaluate.{makes}
-use Rattle.sno_store.specs.Contents.{Contents}
 use Rattle.snobol.specs.Values.{shown}
 use Rattle.snobol.specs.State.{State, Grows, Does, tree_of, IsPatternOf, IsKnown}
 use Rattle.snobol.proofs.Outcomes.{all_shown_stay}
@@ -29,19 +28,22 @@ last_tree before (x ∷ nodes) node =
     let e : length before + length (x ∷ nodes) ≡ length next + length nodes = omega (arith, length-append before (tree_over before x ∷ [])) in
     rw e (last_tree next nodes node)
 
-pub made : (node : Node) (a b : State) (id : PatId) → IsKnown a.nodes a.store → b.store ≡ a.store → Appends a.nodes b.nodes node id → Does tree_of IsPatternOf (makes (tree_over (trees_onto [] a.nodes) node)) a b (Ok id)
-made node a b id known store h =
+pub made : (node : Node) (a b : State) (id : PatId) → IsKnown a.nodes a.store → b ≡ record a { nodes = b.nodes } → Appends a.nodes b.nodes node id → Does tree_of IsPatternOf (makes (tree_over (trees_onto [] a.nodes) node)) a b (Ok id)
+made node a b id known only h =
     let room : nat_lt (length a.nodes) 4_000_000 ≡ true = lt-ltb (length a.nodes) 4_000_000 h.2 in
     let count : length b.nodes ≡ length a.nodes + 1 = ap length h.1 ∙ length-append a.nodes (node ∷ []) in
     let from_none : 0 + length a.nodes ≡ length a.nodes = omega arith in
     let last : tree (a.nodes ++ node ∷ []) (length a.nodes) ≡ tree_over (trees_onto [] a.nodes) node = rw from_none at (last_tree [] a.nodes node) in
     let same : tree b.nodes id.0 ≡ tree_over (trees_onto [] a.nodes) node = ap (λ ns. tree ns id.0) h.1 ∙ ap (λ n. tree (a.nodes ++ node ∷ []) n) h.0 ∙ last in
     let values : map (shown b.nodes) b.store.values ≡ map (shown a.nodes) a.store.values =
-        ap (λ (c : Contents). map (shown b.nodes) c.values) store ∙ all_shown_stay a.nodes b.nodes a.store.values (node ∷ [], h.1) known.1
+        ap (λ (c : State). map (shown b.nodes) c.store.values) only ∙ all_shown_stay a.nodes b.nodes a.store.values (node ∷ [], h.1) known.1
     in
-    let symbols : b.store.symbols ≡ a.store.symbols = ap (λ (c : Contents). c.symbols) store in
+    let symbols : b.store.symbols ≡ a.store.symbols = ap (λ (c : State). c.store.symbols) only in
+    let held : b.reading.held ≡ a.reading.held = ap (λ (c : State). c.reading.held) only in
+    let keywords : b.keywords ≡ a.keywords = ap (λ (c : State). c.keywords) only in
     record {
       grows = (node ∷ [], h.1);
-      meets = rw (room, count, same, values, symbols) refl;
+      meets = λ more. rw (room, count, same, values, symbols, held, keywords) refl;
       answer = omega arith;
+      unread = ap (λ (c : State). c.reading) only;
     }

@@ -1,5 +1,5 @@
 -- What is asked of a value, and patterns that become values.
-use Rattle.std.proofs.Common.{Vec, Global, ◌≡◌, ℕ, ℤ, pos, true, false, List, refl, ap, Option, None, Some, Result, Ok, Err}
+use Rattle.std.proofs.Common.{Vec, Global, ◌≡◌, ℕ, ℤ, pos, true, false, List, refl, ap, ◌∙◌, Option, None, Some, Result, Ok, Err}
 use Rattle.sno_value.specs.declared.ids.PatId.{PatId}
 use Rattle.sno_value.specs.declared.value.Value.{Value as Stored}
 use Rattle.sno_value.specs.declared.value.Value.TheVariants as stored
@@ -7,11 +7,11 @@ use Rattle.sno_value.specs.declared.arithmetic.Arith.{Arith}
 use Rattle.sno_value.specs.Arithmetic.{difference_of}
 use Rattle.sno_text.specs.declared.node.Operator.{Operator}
 use Rattle.sno_text.specs.declared.node.Operator.TheVariants.{Alternate, Concatenate, Add, Subtract, Divide, Multiply, Power, Conditional, Immediate}
-use Rattle.sno_pattern.specs.Pattern.{Pattern}
+use Rattle.sno_pattern.specs.Pattern.{Pattern, Cat}
 use Rattle.sno_pattern.specs.Table.{Node}
 use Rattle.snobol.specs.declared.machine.Exit.{Exit}
 use Rattle.snobol.specs.declared.machine.Exit.TheVariants.{Failure, Halt}
-use Rattle.snobol.specs.declared.machine.Stop.TheVariants.{Error as HasError, NoMemory, WriteFault}
+use Rattle.snobol.specs.declared.machine.Stop.TheVariants.{Error as HasError, NoMemory, ReadFault, WriteFault}
 use Rattle.snobol.specs.Action.{Action, gives, and_then, either}
 use Rattle.snobol.specs.Values.{Value, Pat, Name, shown, IsValueOf}
 use Rattle.snobol.specs.Evaluate.{number_of, operation, makes_value, is_null, is_patternable, as_pattern, joined_patterns, joined, concatenation, on_numbers, result_of, pattern_with_target}
@@ -28,7 +28,8 @@ pub missing_in : {X A Y B : Type 0} (see : X → A) (look : List Node → Y → 
     → (o ≡ None → act ≡ wrong_type) → IsThere see o (Err e) → Does look suits act s s (Err e)
 missing_in see look suits o act s Failure none h = absurd h
 missing_in see look suits o act s (Halt (HasError code)) none h = rw (none h.0, h.1) (stops_does look suits s 1)
-missing_in see look suits o act s (Halt NoMemory) none h = no_memory_does look suits act s s (grows_none s.nodes)
+missing_in see look suits o act s (Halt NoMemory) none h = no_memory_does look suits act s s (grows_none s.nodes) refl
+missing_in see look suits o act s (Halt ReadFault) none h = absurd h
 missing_in see look suits o act s (Halt WriteFault) none h = absurd h
 
 pub missing : {X A : Type 0} (see : X → A) (o : Option A) (act : Action Value) (s : State) (e : Exit) → (o ≡ None → act ≡ wrong_type) → IsThere see o (Err e) → Does {X = Stored} shown IsValueOf act s s (Err e)
@@ -56,12 +57,14 @@ pub first_missing : (x y : Option ℤ) (e : Exit) → IsThere {X = ℤ} (λ n. n
 first_missing x y Failure h = h
 first_missing x y (Halt (HasError code)) h = rw h.0 (refl, h.1)
 first_missing x y (Halt NoMemory) h = h
+first_missing x y (Halt ReadFault) h = h
 first_missing x y (Halt WriteFault) h = h
 
 pub second_missing : (x y : Option ℤ) (n : ℤ) (e : Exit) → x ≡ Some n → IsThere {X = ℤ} (λ n. n) y (Err e) → IsThere {X = ℤ × ℤ} (λ p. p) (both x y) (Err e)
 second_missing x y n Failure is h = h
 second_missing x y n (Halt (HasError code)) is h = rw (is, h.0) (refl, h.1)
 second_missing x y n (Halt NoMemory) is h = h
+second_missing x y n (Halt ReadFault) is h = h
 second_missing x y n (Halt WriteFault) is h = h
 
 pub arithmetic_operation : (operator : Operator) (x y : Value) → is_arithmetic operator ≡ true → operation operator x y ≡ on_numbers (calculated operator) (number_of x) (number_of y)
@@ -97,6 +100,18 @@ text_none nodes (stored.Table id) h = refl
 
 pub concatenation_else : (x y : Value) → is_null x ≡ false → is_null y ≡ false → concatenation x y ≡ joined (text_of x) (text_of y) x y
 concatenation_else x y h k = rw (h, k) refl
+
+second_textless : (o : Option (List ℕ)) (x y : Value) → joined o None x y ≡ joined_patterns Cat x y
+second_textless None x y = refl
+second_textless (Some bytes) x y = refl
+
+pub joined_first : (nodes : List Node) (x y : Stored) → is_null (shown nodes x) ≡ false → is_null (shown nodes y) ≡ false → has_text x ≡ false → concatenation (shown nodes x) (shown nodes y) ≡ joined_patterns Cat (shown nodes x) (shown nodes y)
+joined_first nodes x y h k t = concatenation_else (shown nodes x) (shown nodes y) h k ∙ ap (λ o. joined o (text_of (shown nodes y)) (shown nodes x) (shown nodes y)) (text_none nodes x t)
+
+pub joined_second : (nodes : List Node) (x y : Stored) → is_null (shown nodes x) ≡ false → is_null (shown nodes y) ≡ false → has_text y ≡ false → concatenation (shown nodes x) (shown nodes y) ≡ joined_patterns Cat (shown nodes x) (shown nodes y)
+joined_second nodes x y h k t =
+    concatenation_else (shown nodes x) (shown nodes y) h k
+    ∙ (ap (λ o. joined (text_of (shown nodes x)) o (shown nodes x) (shown nodes y)) (text_none nodes y t) ∙ second_textless (text_of (shown nodes x)) (shown nodes x) (shown nodes y))
 
 -- patterns
 

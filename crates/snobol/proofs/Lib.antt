@@ -8,6 +8,8 @@ pub mod ListingLaws
 pub mod EnumerationLaws
 pub mod Builders
 pub mod Stores
+pub mod Reading
+pub mod InputLaws
 pub mod Performing
 pub mod LineLaws
 pub mod Names

@@ -9,7 +9,7 @@ use Rattle.sno_pattern.proofs.TableLaws.{tree-append}
 use Rattle.snobol.specs.declared.machine.Exit.{Exit}
 use Rattle.snobol.specs.declared.machine.Exit.TheVariants.{Failure, Halt}
 use Rattle.snobol.specs.declared.machine.Stop.{Stop}
-use Rattle.snobol.specs.declared.machine.Stop.TheVariants.{Error as HasError, NoMemory, WriteFault}
+use Rattle.snobol.specs.declared.machine.Stop.TheVariants.{Error as HasError, NoMemory, ReadFault, WriteFault}
 use Rattle.snobol.specs.World.{World}
 use Rattle.snobol.specs.Values.{Pat, shown, IsValueOf}
 use Rattle.snobol.specs.Action.{Error, Got, Outcome, Action, settled, settles, either, and_then, gives, fails, stops}
@@ -59,17 +59,17 @@ all_values_stay old new (v ∷ vs) g h = (value_stays old new v g h.0, all_value
 -- the simplest actions
 
 pub gives_does : {X A : Type 0} (see : List Node → X → A) (fits : List Node → X → Type 0) (s : State) (x : X) (value : A) → see s.nodes x ≡ value → fits s.nodes x → Does see fits (gives value) s s (Ok x)
-gives_does see fits s x value e h = record { grows = grows_none s.nodes; meets = ap (λ v. record { ending = Got v; world = world s; wrote = [] }) (sym e); answer = h }
+gives_does see fits s x value e h = record { grows = grows_none s.nodes; meets = λ more. ap (λ v. record { ending = Got v; world = world s more; wrote = [] }) (sym e); answer = h; unread = refl }
 
 pub fails_does : {X A : Type 0} (see : List Node → X → A) (fits : List Node → X → Type 0) (s : State) → Does see fits fails s s (Err Failure)
-fails_does see fits s = record { grows = grows_none s.nodes; meets = refl; answer = tt }
+fails_does see fits s = record { grows = grows_none s.nodes; meets = λ more. refl; answer = tt; unread = refl }
 
 pub stops_does : {X A : Type 0} (see : List Node → X → A) (fits : List Node → X → Type 0) (s : State) (code : ℕ) → Does see fits (stops (Error code)) s s (Err (Halt (HasError code)))
-stops_does see fits s code = record { grows = grows_none s.nodes; meets = (refl, refl); answer = tt }
+stops_does see fits s code = record { grows = grows_none s.nodes; meets = λ more. (refl, refl); answer = tt; unread = refl }
 
 -- want of memory may end any of them
-pub no_memory_does : {X A : Type 0} (see : List Node → X → A) (fits : List Node → X → Type 0) (act : Action A) (a b : State) → Grows a.nodes b.nodes → Does see fits act a b (Err (Halt NoMemory))
-no_memory_does see fits act a b g = record { grows = g; meets = tt; answer = tt }
+pub no_memory_does : {X A : Type 0} (see : List Node → X → A) (fits : List Node → X → Type 0) (act : Action A) (a b : State) → Grows a.nodes b.nodes → b.reading ≡ a.reading → Does see fits act a b (Err (Halt NoMemory))
+no_memory_does see fits act a b g u = record { grows = g; meets = λ more. tt; answer = tt; unread = u }
 
 -- an action that ended in one way, and what follows that
 
@@ -79,8 +79,9 @@ unfolding settles
 settles_got {A = A} see fits look suits act k a b c x r p q =
     record {
       grows = grows_twice a.nodes b.nodes c.nodes p.grows q.grows;
-      meets = subst (λ (o : Outcome A). Meets (look c.nodes) (settled o.ending o.world o.wrote k) (world c) r) (sym p.meets) q.meets;
+      meets = λ more. subst (λ (o : Outcome A). Meets (look c.nodes) (settled o.ending o.world o.wrote k) (world c more) r) (sym (p.meets more)) (q.meets more);
       answer = q.answer;
+      unread = q.unread ∙ p.unread;
     }
 
 pub settles_failed : {X Y A B : Type 0} (see : List Node → X → A) (fits : List Node → X → Type 0) (look : List Node → Y → B) (suits : List Node → Y → Type 0) (act : Action A) (k : Option A → Action B) (a b c : State) (r : Result Y Exit)
@@ -89,19 +90,21 @@ unfolding settles
 settles_failed {A = A} see fits look suits act k a b c r p q =
     record {
       grows = grows_twice a.nodes b.nodes c.nodes p.grows q.grows;
-      meets = subst (λ (o : Outcome A). Meets (look c.nodes) (settled o.ending o.world o.wrote k) (world c) r) (sym p.meets) q.meets;
+      meets = λ more. subst (λ (o : Outcome A). Meets (look c.nodes) (settled o.ending o.world o.wrote k) (world c more) r) (sym (p.meets more)) (q.meets more);
       answer = q.answer;
+      unread = q.unread ∙ p.unread;
     }
 
 settled_stops : {X Y A B : Type 0} (see : X → A) (look : Y → B) (k : Option A → Action B) (o : Outcome A) (w : World) (why : Stop) → Meets {X = X} see o w (Err (Halt why)) → Meets {X = Y} look (settled o.ending o.world o.wrote k) w (Err (Halt why))
 settled_stops see look k o w (HasError code) h = rw h.0 (refl, h.1)
 settled_stops see look k o w NoMemory h = tt
+settled_stops see look k o w ReadFault h = h
 settled_stops see look k o w WriteFault h = h
 
 pub settles_halt : {X Y A B : Type 0} (see : List Node → X → A) (fits : List Node → X → Type 0) (look : List Node → Y → B) (suits : List Node → Y → Type 0) (act : Action A) (k : Option A → Action B) (a b : State) (why : Stop)
     → Does see fits act a b (Err (Halt why)) → Does look suits (settles act k) a b (Err (Halt why))
 unfolding settles
-settles_halt see fits look suits act k a b why p = record { grows = p.grows; meets = settled_stops (see b.nodes) (look b.nodes) k (act (world a)) (world b) why p.meets; answer = tt }
+settles_halt see fits look suits act k a b why p = record { grows = p.grows; meets = λ more. settled_stops (see b.nodes) (look b.nodes) k (act (world a more)) (world b more) why (p.meets more); answer = tt; unread = p.unread }
 
 -- the same of what goes on only with a value
 

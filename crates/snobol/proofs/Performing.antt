@@ -6,7 +6,7 @@ use Rattle.sno_io.specs.Devices.{Begins}
 use Rattle.sno_io.proofs.Bytes.{appends_then}
 use Rattle.sno_value.specs.declared.value.Name.{Name as Target}
 use Rattle.snobol.specs.declared.machine.Stop.{Stop}
-use Rattle.snobol.specs.declared.machine.Stop.TheVariants.{Error as HasError, NoMemory, WriteFault}
+use Rattle.snobol.specs.declared.machine.Stop.TheVariants.{Error as HasError, NoMemory, ReadFault, WriteFault}
 use Rattle.snobol.specs.World.{World}
 use Rattle.snobol.specs.Values.{Value}
 use Rattle.snobol.specs.Action.{End, Error, Ending, Got, Fails, Stops, Outcome, Action, settled, settles, and_then, either, gives, fails}
@@ -32,17 +32,18 @@ appends_nothing (Some bytes) = sym (append-nil bytes)
 
 -- nothing to do
 pub nothing_done : (s : State) (taken : Option (List ℕ)) → Performs (gives tt) s s taken taken (Ok tt)
-nothing_done s taken = record { wrote = []; appends = appends_nothing taken; ends = refl }
+nothing_done s taken = record { wrote = []; appends = appends_nothing taken; ends = λ more. refl; unread = refl }
 
 -- want of memory before anything was written
-pub no_memory : (act : Action Unit) (a b : State) (taken : Option (List ℕ)) → Performs act a b taken taken (Err NoMemory)
-no_memory act a b taken = record { wrote = []; appends = appends_nothing taken; ends = ((act (world a)).wrote, refl) }
+pub no_memory : (act : Action Unit) (a b : State) (taken : Option (List ℕ)) → b.reading ≡ a.reading → Performs act a b taken taken (Err NoMemory)
+no_memory act a b taken u = record { wrote = []; appends = appends_nothing taken; ends = λ more. ((act (world a more)).wrote, refl); unread = u }
 
 ends_then : (o : Outcome Unit) (next : Unit → Action Unit) (b c : World) (first second : List ℕ) (r : Result Unit Stop)
     → o ≡ record { ending = Got tt; world = b; wrote = first } → Ends (next tt b) c second r → Ends (settled o.ending o.world o.wrote (either fails next)) c (first ++ second) r
 ends_then o next b c first second (Ok done) is h = rw is (ap (λ (p : Outcome Unit). record { ending = p.ending; world = p.world; wrote = first ++ p.wrote }) h)
 ends_then o next b c first second (Err (HasError code)) is h = rw is (h.0, ap (λ bytes. first ++ bytes) h.1)
 ends_then o next b c first second (Err NoMemory) is h = rw is (h.0, append_assoc first second h.0 ∙ ap (λ bytes. first ++ bytes) h.1)
+ends_then o next b c first second (Err ReadFault) is h = h
 ends_then o next b c first second (Err WriteFault) is h = rw is (h.0, append_assoc first second h.0 ∙ ap (λ bytes. first ++ bytes) h.1)
 
 -- one after the other
@@ -52,7 +53,8 @@ unfolding settles
 performs_then act next a b c x y z r p q = record {
   wrote = p.wrote ++ q.wrote;
   appends = appends_then x y z p.wrote q.wrote p.appends q.appends;
-  ends = ends_then (act (world a)) next (world b) (world c) p.wrote q.wrote r p.ends q.ends;
+  ends = λ more. ends_then (act (world a more)) next (world b more) (world c more) p.wrote q.wrote r (p.ends more) (q.ends more);
+  unread = q.unread ∙ p.unread;
 }
 
 begins_settled : (end : Ending Unit) (w : World) (wrote part : List ℕ) (next : Option Unit → Action Unit) → Begins part wrote → Begins part (settled end w wrote next).wrote
@@ -63,13 +65,14 @@ begins_settled (Stops why) w wrote part next h = h
 ends_stop : (o : Outcome Unit) (next : Option Unit → Action Unit) (b : World) (wrote : List ℕ) (why : Stop) → Ends o b wrote (Err why) → Ends (settled o.ending o.world o.wrote next) b wrote (Err why)
 ends_stop o next b wrote (HasError code) h = rw (h.0, h.1) (refl, refl)
 ends_stop o next b wrote NoMemory h = begins_settled o.ending o.world o.wrote wrote next h
+ends_stop o next b wrote ReadFault h = h
 ends_stop o next b wrote WriteFault h = begins_settled o.ending o.world o.wrote wrote next h
 
 -- what ended a part ended the whole
 pub performs_stop : (act : Action Unit) (next : Unit → Action Unit) (a b : State) (x y : Option (List ℕ)) (why : Stop)
     → Performs act a b x y (Err why) → Performs (and_then act next) a b x y (Err why)
 unfolding settles
-performs_stop act next a b x y why p = record { wrote = p.wrote; appends = p.appends; ends = ends_stop (act (world a)) (either fails next) (world b) p.wrote why p.ends }
+performs_stop act next a b x y why p = record { wrote = p.wrote; appends = p.appends; ends = λ more. ends_stop (act (world a more)) (either fails next) (world b more) p.wrote why (p.ends more); unread = p.unread }
 
 -- a variable that is set
 
@@ -78,7 +81,8 @@ pub stored : (name : Target) (value : Stored) (a b : State) (taken : Option (Lis
 stored name value a b taken isnt is = rw (isnt, is) (record {
   wrote = [];
   appends = appends_nothing taken;
-  ends = ap (λ (w : World). record { ending = Got tt; world = w; wrote = [] }) (sym (set_seen a name value));
+  ends = λ more. ap (λ (w : World). record { ending = Got tt; world = w; wrote = [] }) (sym (set_seen a name value more));
+  unread = refl;
 })
 
 -- what OUTPUT does with a value that has a text
@@ -97,34 +101,42 @@ output_written name value a b x y line out is has put =
     rw (out, is) (record {
       wrote = line.items;
       appends = put;
-      ends = outputs_is name (shown a.nodes value) t.0 (world a) t.1
-          ∙ (λ i. record { ending = Got tt; world = sym (set_seen a name value) i; wrote = sym t.2 i });
+      ends = λ more. outputs_is name (shown a.nodes value) t.0 (world a more) t.1
+          ∙ (λ i. record { ending = Got tt; world = sym (set_seen a name value more) i; wrote = sym t.2 i });
+      unread = refl;
     })
 
-pub output_cut : (name : Target) (value : Stored) (a b : State) (x y : Option (List ℕ)) (line : Vec ℕ Global) (part : List ℕ) → is_output name ≡ true
+pub output_cut : (name : Target) (value : Stored) (a b : State) (x y : Option (List ℕ)) (line : Vec ℕ Global) (part : List ℕ) → is_output name ≡ true → b.reading ≡ a.reading
     → IsLineOf (text_of (shown a.nodes value)) (Ok line) → Begins part line.items → Appends x y part → Performs (assigns name (shown a.nodes value)) a b x y (Err WriteFault)
-output_cut name value a b x y line part out has begins put =
+output_cut name value a b x y line part out u has begins put =
     let t = text_there (text_of (shown a.nodes value)) line has in
     rw out (record {
       wrote = part;
       appends = put;
-      ends = rw (outputs_is name (shown a.nodes value) t.0 (world a) t.1, ← t.2) begins;
+      ends = λ more. rw (outputs_is name (shown a.nodes value) t.0 (world a more) t.1, ← t.2) begins;
+      unread = u;
     })
+
+pub output_refused : (name : Target) (value : Stored) (a : State) (x : Option (List ℕ)) (why : Stop) → is_output name ≡ true → IsLineOf (text_of (shown a.nodes value)) (Err why) → Performs (assigns name (shown a.nodes value)) a a x x (Err why)
+output_refused name value a x (HasError code) out h = rw (out, h.0, h.1) (record { wrote = []; appends = appends_nothing x; ends = λ more. (refl, refl); unread = refl })
+output_refused name value a x NoMemory out h = no_memory (assigns name (shown a.nodes value)) a a x refl
+output_refused name value a x ReadFault out h = absurd h
+output_refused name value a x WriteFault out h = absurd h
 
 -- the line of an event
 
 abbrev line_written : Event → Action Unit
-line_written event w = writes (line_of w event) w
+line_written event w = writes (line_of w.symbols event) w
 
-pub line_done : (event : Event) (s : State) (x y : Option (List ℕ)) (line : List ℕ) → line ≡ line_of (world s) event → Appends x y line → Performs (line_written event) s s x y (Ok tt)
-line_done event s x y line is put = record { wrote = line; appends = put; ends = rw is refl }
+pub line_done : (event : Event) (s : State) (x y : Option (List ℕ)) (line : List ℕ) → line ≡ line_of s.store.symbols event → Appends x y line → Performs (line_written event) s s x y (Ok tt)
+line_done event s x y line is put = record { wrote = line; appends = put; ends = λ more. rw is refl; unread = refl }
 
-pub line_cut : (event : Event) (s : State) (x y : Option (List ℕ)) (line part : List ℕ) → line ≡ line_of (world s) event → Begins part line → Appends x y part → Performs (line_written event) s s x y (Err WriteFault)
-line_cut event s x y line part is begins put = record { wrote = part; appends = put; ends = rw is at begins }
+pub line_cut : (event : Event) (s : State) (x y : Option (List ℕ)) (line part : List ℕ) → line ≡ line_of s.store.symbols event → Begins part line → Appends x y part → Performs (line_written event) s s x y (Err WriteFault)
+line_cut event s x y line part is begins put = record { wrote = part; appends = put; ends = λ more. rw is at begins; unread = refl }
 
 -- an event that is listed
 
-pub listed_cut : (subject : List ℕ) (event : Event) (s : State) (x y : Option (List ℕ)) (line part : List ℕ) → line ≡ line_of (world s) event → Begins part line → Appends x y part
+pub listed_cut : (subject : List ℕ) (event : Event) (s : State) (x y : Option (List ℕ)) (line part : List ℕ) → line ≡ line_of s.store.symbols event → Begins part line → Appends x y part
     → Performs (listed subject event) s s x y (Err WriteFault)
 listed_cut subject event s x y line part is begins put =
     performs_stop (line_written event) (λ done. effect subject event) s s x y WriteFault (line_cut event s x y line part is begins put)
@@ -139,7 +151,7 @@ effect_is subject V.Exhausted way = refl
 effect_is subject V.Aborted way = refl
 effect_is subject V.Limit way = refl
 
-pub listed_on : (subject : List ℕ) (event : Told) (way : List Pending) (a b : State) (x y z : Option (List ℕ)) (line : List ℕ) (r : Result Unit Stop) → line ≡ line_of (world a) (in_trace event way) → Appends x y line
+pub listed_on : (subject : List ℕ) (event : Told) (way : List Pending) (a b : State) (x y z : Option (List ℕ)) (line : List ℕ) (r : Result Unit Stop) → line ≡ line_of a.store.symbols (in_trace event way) → Appends x y line
     → Performs (effect subject (in_trace event [])) a b y z r → Performs (listed subject (in_trace event way)) a b x z r
 listed_on subject event way a b x y z line r is put did =
     performs_then (line_written (in_trace event way)) (λ done. effect subject (in_trace event way)) a a b x y z r (line_done (in_trace event way) a x y line is put)

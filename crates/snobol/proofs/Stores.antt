@@ -15,7 +15,7 @@ use Rattle.sno_store.specs.declared.error.StoreError.TheVariants.{NullName, Full
 use Rattle.snobol.specs.World.{World}
 use Rattle.snobol.specs.Values.{Value, Str, shown, IsValueOf}
 use Rattle.snobol.specs.Action.{Error, Got, Outcome, gives, stops}
-use Rattle.snobol.specs.Variables.{symbol, variable_named, joins, value_in, with_value, reads, name_value, text_of_name, is_input}
+use Rattle.snobol.specs.Variables.{symbol, variable_named, joins, value_in, with_value, holds, name_value}
 use Rattle.snobol.specs.State.{State, world, Grows, Does, itself, any, IsKnown, exit_of_store}
 use Rattle.snobol.proofs.Outcomes.{grows_none, gives_does, stops_does, no_memory_does, all_shown_stay, all_values_stay}
 
@@ -54,33 +54,33 @@ known_set nodes (Entry object i) value store v k = k
 
 -- a text that names a variable
 
-abbrev at_store : List Node → Contents → World
-at_store nodes store = world (record { nodes = nodes; store = store })
+abbrev at_store : State → Contents → List ℕ → World
+at_store a store more = world (record a { store = store }) more
 
 abbrev number_given : Bool → Bool → ℕ → ℕ → Result ℕ StoreError
 number_given found full k n = if found then Ok k else (if full then Err Full else Ok n)
 
-joined_by : (found full : Bool) (name : List ℕ) (nodes : List Node) (old new : Contents) (id : SymId) (k : ℕ)
-    → number_given found full k (length old.symbols) ≡ Ok id.0
-    → new ≡ (if found then old else record { symbols = old.symbols ++ name ∷ []; values = old.values ++ stored.Str [] ∷ [] })
-    → (if found then gives (Var (symbol k)) (at_store nodes old) else if full then stops (Error 9) (at_store nodes old) else joins name (at_store nodes old))
-    ≡ record { ending = Got (Var id); world = at_store nodes new; wrote = [] }
-joined_by true full name nodes old new id k is same =
+joined_by : (found full : Bool) (name : List ℕ) (a : State) (new : Contents) (id : SymId) (k : ℕ) (more : List ℕ)
+    → number_given found full k (length a.store.symbols) ≡ Ok id.0
+    → new ≡ (if found then a.store else record { symbols = a.store.symbols ++ name ∷ []; values = a.store.values ++ stored.Str [] ∷ [] })
+    → (if found then gives (Var (symbol k)) (world a more) else if full then stops (Error 9) (world a more) else joins name (world a more))
+    ≡ record { ending = Got (Var id); world = at_store a new more; wrote = [] }
+joined_by true full name a new id k more is same =
     let e : k ≡ id.0 = cc is in
-    λ i. record { ending = Got (Var (symbol (e i))); world = at_store nodes (sym same i); wrote = [] }
-joined_by false true name nodes old new id k is same = absurd (cc is)
-joined_by false false name nodes old new id k is same =
-    let e : length old.symbols ≡ id.0 = cc is in
-    (λ i. record { ending = Got (Var (symbol (e i))); world = record { nodes = length nodes; symbols = old.symbols ++ name ∷ []; values = sym (map-append (shown nodes) old.values (stored.Str [] ∷ [])) i }; wrote = [] })
-    ∙ ap (λ c. record { ending = Got (Var id); world = at_store nodes c; wrote = [] }) (sym same)
+    λ i. record { ending = Got (Var (symbol (e i))); world = at_store a (sym same i) more; wrote = [] }
+joined_by false true name a new id k more is same = absurd (cc is)
+joined_by false false name a new id k more is same =
+    let e : length a.store.symbols ≡ id.0 = cc is in
+    (λ i. record { ending = Got (Var (symbol (e i))); world = record (world a more) { symbols = a.store.symbols ++ name ∷ []; values = sym (map-append (shown a.nodes) a.store.values (stored.Str [] ∷ [])) i }; wrote = [] })
+    ∙ ap (λ c. record { ending = Got (Var id); world = at_store a c more; wrote = [] }) (sym same)
 
-pub named : (nodes : List Node) (old new : Contents) (name : List ℕ) (id : SymId) → IsJoined name old new (Ok id)
-    → Does itself any (variable_named name) (record { nodes = nodes; store = old }) (record { nodes = nodes; store = new }) (Ok (Var id))
-named nodes old new [] id h = absurd (cc h.0)
-named nodes old new (byte ∷ bytes) id h = record {
-  grows = grows_none nodes;
-  meets = joined_by (is_symbol (byte ∷ bytes) old.symbols) (length old.symbols == 1_000_000) (byte ∷ bytes) nodes old new id (place (byte ∷ bytes) old.symbols) h.0 h.1;
+pub named : (a : State) (new : Contents) (name : List ℕ) (id : SymId) → IsJoined name a.store new (Ok id) → Does itself any (variable_named name) a (record a { store = new }) (Ok (Var id))
+named a new [] id h = absurd (cc h.0)
+named a new (byte ∷ bytes) id h = record {
+  grows = grows_none a.nodes;
+  meets = λ more. joined_by (is_symbol (byte ∷ bytes) a.store.symbols) (length a.store.symbols == 1_000_000) (byte ∷ bytes) a new id (place (byte ∷ bytes) a.store.symbols) more h.0 h.1;
   answer = tt;
+  unread = refl;
 }
 
 full_by : (found full : Bool) (name : List ℕ) (w : World) (k n : ℕ) (e : StoreError) → number_given found full k n ≡ Err e
@@ -89,42 +89,40 @@ full_by true full name w k n e is = absurd (cc is)
 full_by false true name w k n e is = let same : Full ≡ e = cc is in (sym same, refl)
 full_by false false name w k n e is = absurd (cc is)
 
-refused_full : (nodes : List Node) (old new : Contents) (name : List ℕ) → joining name old.symbols ≡ Err Full → new ≡ old
-    → Does {X = Target} itself any (variable_named name) (record { nodes = nodes; store = old }) (record { nodes = nodes; store = new }) (Err (exit_of_store Full))
-refused_full nodes old new [] is same = absurd (cc is)
-refused_full nodes old new (byte ∷ bytes) is same =
-    let is_full = full_by (is_symbol (byte ∷ bytes) old.symbols) (length old.symbols == 1_000_000) (byte ∷ bytes) (at_store nodes old) (place (byte ∷ bytes) old.symbols) (length old.symbols) Full is in
-    record { grows = grows_none nodes; meets = (ap (λ (o : Outcome Target). o.ending) is_full.1, ap (λ (o : Outcome Target). o.wrote) is_full.1); answer = tt }
+refused_full : (a : State) (new : Contents) (name : List ℕ) → joining name a.store.symbols ≡ Err Full → Does {X = Target} itself any (variable_named name) a (record a { store = new }) (Err (exit_of_store Full))
+refused_full a new [] is = absurd (cc is)
+refused_full a new (byte ∷ bytes) is =
+    let is_full : (more : List ℕ) → _ = λ more. full_by (is_symbol (byte ∷ bytes) a.store.symbols) (length a.store.symbols == 1_000_000) (byte ∷ bytes) (world a more) (place (byte ∷ bytes) a.store.symbols) (length a.store.symbols) Full is in
+    record { grows = grows_none a.nodes; meets = λ more. (ap (λ (o : Outcome Target). o.ending) (is_full more).1, ap (λ (o : Outcome Target). o.wrote) (is_full more).1); answer = tt; unread = refl }
 
-refused_null : (nodes : List Node) (old new : Contents) (name : List ℕ) → joining name old.symbols ≡ Err NullName → new ≡ old
-    → Does {X = Target} itself any (variable_named name) (record { nodes = nodes; store = old }) (record { nodes = nodes; store = new }) (Err (exit_of_store NullName))
-refused_null nodes old new [] is same = record { grows = grows_none nodes; meets = (refl, refl); answer = tt }
-refused_null nodes old new (byte ∷ bytes) is same =
-    let none = full_by (is_symbol (byte ∷ bytes) old.symbols) (length old.symbols == 1_000_000) (byte ∷ bytes) (at_store nodes old) (place (byte ∷ bytes) old.symbols) (length old.symbols) NullName is in absurd (cc none.0)
+refused_null : (a : State) (new : Contents) (name : List ℕ) → joining name a.store.symbols ≡ Err NullName → Does {X = Target} itself any (variable_named name) a (record a { store = new }) (Err (exit_of_store NullName))
+refused_null a new [] is = record { grows = grows_none a.nodes; meets = λ more. (refl, refl); answer = tt; unread = refl }
+refused_null a new (byte ∷ bytes) is =
+    let none = full_by (is_symbol (byte ∷ bytes) a.store.symbols) (length a.store.symbols == 1_000_000) (byte ∷ bytes) (world a []) (place (byte ∷ bytes) a.store.symbols) (length a.store.symbols) NullName is in absurd (cc none.0)
 
-pub not_named : (nodes : List Node) (old new : Contents) (name : List ℕ) (e : StoreError) → IsJoined name old new (Err e)
-    → Does {X = Target} itself any (variable_named name) (record { nodes = nodes; store = old }) (record { nodes = nodes; store = new }) (Err (exit_of_store e))
-not_named nodes old new name NullName h = refused_null nodes old new name h.0 h.1
-not_named nodes old new name Full h = refused_full nodes old new name h.0 h.1
-not_named nodes old new name NoMemory h = no_memory_does itself any (variable_named name) (record { nodes = nodes; store = old }) (record { nodes = nodes; store = new }) (grows_none nodes)
+pub not_named : (a : State) (new : Contents) (name : List ℕ) (e : StoreError) → IsJoined name a.store new (Err e) → Does {X = Target} itself any (variable_named name) a (record a { store = new }) (Err (exit_of_store e))
+not_named a new name NullName h = refused_null a new name h.0
+not_named a new name Full h = refused_full a new name h.0
+not_named a new name NoMemory h = no_memory_does itself any (variable_named name) a (record a { store = new }) (grows_none a.nodes) refl
 
 -- a variable that is read
 
-value_seen : (s : State) (name : Target) → value_in (world s) name ≡ shown s.nodes (value_of s.store name)
-value_seen s (Var id) = get_or-map (shown s.nodes) s.store.values id.0 (stored.Str [])
-value_seen s (Elem object i) = refl
-value_seen s (Entry object i) = refl
+value_seen : (s : State) (name : Target) (more : List ℕ) → value_in (world s more) name ≡ shown s.nodes (value_of s.store name)
+value_seen s (Var id) more = get_or-map (shown s.nodes) s.store.values id.0 (stored.Str [])
+value_seen s (Elem object i) more = refl
+value_seen s (Entry object i) more = refl
 
 value_known : (s : State) (name : Target) → IsKnown s.nodes s.store → IsValueOf s.nodes (value_of s.store name)
 value_known s (Var id) k = all_at (IsValueOf s.nodes) s.store.values id.0 (stored.Str []) k.1 (omega arith)
 value_known s (Elem object i) k = omega arith
 value_known s (Entry object i) k = omega arith
 
-pub read_does : (s : State) (name : Target) (v : Stored) → IsKnown s.nodes s.store → is_input name ≡ false → v ≡ value_of s.store name → Does shown IsValueOf (reads name) s s (Ok v)
-read_does s name v k isnt same = record {
+pub holds_does : (s : State) (name : Target) (v : Stored) → IsKnown s.nodes s.store → v ≡ value_of s.store name → Does shown IsValueOf (holds name) s s (Ok v)
+holds_does s name v k same = record {
   grows = grows_none s.nodes;
-  meets = rw (isnt, same, ← value_seen s name) refl;
+  meets = λ more. rw (same, ← value_seen s name more) refl;
   answer = rw same (value_known s name k);
+  unread = refl;
 }
 
 -- a name as a value
@@ -132,13 +130,14 @@ read_does s name v k isnt same = record {
 pub named_text : (s : State) (id : SymId) (bytes : List ℕ) → IsKnown s.nodes s.store → bytes ≡ slice_index_or s.store.symbols id.0 [] → Does shown IsValueOf (name_value (Var id)) s s (Ok (stored.Str bytes))
 named_text s id bytes k same = record {
   grows = grows_none s.nodes;
-  meets = rw same refl;
+  meets = λ more. rw same refl;
+  unread = refl;
   answer = rw same (all_at (λ symbol. length symbol ≤ 1_000_000) s.store.symbols id.0 [] k.0 (omega arith));
 }
 
 -- a variable that is set
 
-pub set_seen : (s : State) (name : Target) (value : Stored) → world (record s { store = with_stored name value s.store }) ≡ with_value name (shown s.nodes value) (world s)
-set_seen s (Var id) value = ap (λ vs. record { nodes = length s.nodes; symbols = s.store.symbols; values = vs }) (map-set (shown s.nodes) s.store.values id.0 value)
-set_seen s (Elem object i) value = refl
-set_seen s (Entry object i) value = refl
+pub set_seen : (s : State) (name : Target) (value : Stored) (more : List ℕ) → world (record s { store = with_stored name value s.store }) more ≡ with_value name (shown s.nodes value) (world s more)
+set_seen s (Var id) value more = ap (λ vs. record (world s more) { values = vs }) (map-set (shown s.nodes) s.store.values id.0 value)
+set_seen s (Elem object i) value more = refl
+set_seen s (Entry object i) value more = refl

@@ -4,7 +4,7 @@ use Rattle.sno_value.specs.declared.value.Value.{Value as Stored}
 use Rattle.sno_value.specs.declared.value.Value.TheVariants.{Str, Int}
 use Rattle.snobol.specs.declared.machine.Exit.{Exit}
 use Rattle.snobol.specs.declared.machine.Exit.TheVariants.{Failure, Halt}
-use Rattle.snobol.specs.declared.machine.Stop.TheVariants.{Error as HasError, NoMemory, WriteFault}
+use Rattle.snobol.specs.declared.machine.Stop.TheVariants.{Error as HasError, NoMemory, ReadFault, WriteFault}
 
 -- a string or an integer
 abbrev pub has_text : Stored → Bool
@@ -18,4 +18,5 @@ IsThere see o (Ok x) = o ≡ Some (see x)
 IsThere see o (Err Failure) = ⊥
 IsThere see o (Err (Halt (HasError code))) = (o ≡ None) × (code ≡ 1)
 IsThere see o (Err (Halt NoMemory)) = Unit {0}
+IsThere see o (Err (Halt ReadFault)) = ⊥
 IsThere see o (Err (Halt WriteFault)) = ⊥

@@ -9,7 +9,7 @@ use Rattle.snobol.specs.declared.enumeration.WaysOutcome.{WaysOutcome}
 use Rattle.snobol.specs.declared.enumeration.WaysOutcome.TheVariants.{Done, Refused, Error as HasError, NoMemory, WriteFault}
 use Rattle.snobol.specs.declared.machine.Stop.{Stop}
 use Rattle.snobol.specs.declared.machine.Stop.TheVariants as stops_by
-use Rattle.snobol.specs.World.{World, new_world}
+use Rattle.snobol.specs.World.{World, new_world, new_keywords}
 use Rattle.snobol.specs.Action.{End, Error, Ending, Got, Stops, Outcome, Action, stops, settles, either, and_then}
 use Rattle.snobol.specs.Forms.{value}
 use Rattle.snobol.specs.Evaluate.{expression, as_pattern}
@@ -29,13 +29,14 @@ lists source e subject anchored limit =
 
 -- how the listing of a pattern that is read ends, and its lines
 abbrev pub listing : Source → ExprId → List ℕ → Bool → ℕ → Outcome Unit
-listing source e subject anchored limit = lists source e subject anchored limit new_world
+listing source e subject anchored limit = lists source e subject anchored limit (new_world [] (new_keywords anchored 1_000_000))
 
 -- What was written and how it ended is what the outcome says; where it was broken off, a beginning was written.
 abbrev pub Tells : Outcome Unit → List ℕ → Result Unit Stop → Type 0
 Tells o wrote (Ok done) = (o.ending ≡ Got tt) × (o.wrote ≡ wrote)
 Tells o wrote (Err (stops_by.Error code)) = (o.ending ≡ Stops (Error code)) × (o.wrote ≡ wrote)
 Tells o wrote (Err stops_by.NoMemory) = Begins wrote o.wrote
+Tells o wrote (Err stops_by.ReadFault) = ⊥
 Tells o wrote (Err stops_by.WriteFault) = Begins wrote o.wrote
 
 -- how a call ended
@@ -43,6 +44,7 @@ abbrev pub outcome_of : Result Unit Stop → WaysOutcome
 outcome_of (Ok done) = Done
 outcome_of (Err (stops_by.Error code)) = HasError code
 outcome_of (Err stops_by.NoMemory) = NoMemory
+outcome_of (Err stops_by.ReadFault) = NoMemory
 outcome_of (Err stops_by.WriteFault) = WriteFault
 
 -- The pattern's text is read, and this is the listing's end and its lines.

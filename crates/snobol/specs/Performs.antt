@@ -5,7 +5,7 @@ use Rattle.std.specs.declared.vec.Vec.{Vec}
 use Rattle.std.specs.Io.KnownBytes.{Appends}
 use Rattle.sno_io.specs.Devices.{Begins}
 use Rattle.snobol.specs.declared.machine.Stop.{Stop}
-use Rattle.snobol.specs.declared.machine.Stop.TheVariants.{Error as HasError, NoMemory, WriteFault}
+use Rattle.snobol.specs.declared.machine.Stop.TheVariants.{Error as HasError, NoMemory, ReadFault, WriteFault}
 use Rattle.snobol.specs.World.{World}
 use Rattle.snobol.specs.Action.{Error, Got, Stops, Outcome, Action}
 use Rattle.snobol.specs.State.{State, world}
@@ -15,13 +15,15 @@ abbrev pub Ends : Outcome Unit → World → List ℕ → Result Unit Stop → T
 Ends o after wrote (Ok done) = o ≡ record { ending = Got tt; world = after; wrote = wrote }
 Ends o after wrote (Err (HasError code)) = (o.ending ≡ Stops (Error code)) × (o.wrote ≡ wrote)
 Ends o after wrote (Err NoMemory) = Begins wrote o.wrote
+Ends o after wrote (Err ReadFault) = ⊥
 Ends o after wrote (Err WriteFault) = Begins wrote o.wrote
 
 -- The code did what the action does, where the writer had taken `taken` and then `now`.
 pub record Performs (act : Action Unit) (before after : State) (taken now : Option (List ℕ)) (result : Result Unit Stop) : Type 0 where
   pub wrote : List ℕ
   pub appends : Appends taken now wrote
-  pub ends : Ends (act (world before)) (world after) wrote result
+  pub ends : (more : List ℕ) → Ends (act (world before more)) (world after more) wrote result
+  pub unread : after.reading ≡ before.reading
 
 -- a value's text with a line feed; a value without one is error 1
 abbrev pub IsLineOf : Option (List ℕ) → Result (Vec ℕ Global) Stop → Type 0
@@ -29,4 +31,5 @@ IsLineOf None (Ok line) = ⊥
 IsLineOf (Some bytes) (Ok line) = line.items ≡ bytes ++ codes "\n"
 IsLineOf o (Err (HasError code)) = (o ≡ None) × (code ≡ 1)
 IsLineOf o (Err NoMemory) = Unit {0}
+IsLineOf o (Err ReadFault) = ⊥
 IsLineOf o (Err WriteFault) = ⊥

@@ -18,7 +18,7 @@ effect subject event = gives tt
 
 -- an event's line is written, and then the event takes effect
 abbrev pub listed : List ℕ → Event → Action Unit
-listed subject event = and_then (λ w. writes (line_of w event) w) (λ done. effect subject event)
+listed subject event = and_then (λ w. writes (line_of w.symbols event) w) (λ done. effect subject event)
 
 -- the events in their order
 abbrev pub listed_all : List ℕ → List (Event × ℕ) → Action Unit

@@ -1,5 +1,5 @@
 -- What contracts see of a machine, and what its functions did.
-use Rattle.std.specs.Prelude.{◌≡◌, ◌<◌, ◌≤◌, List, [], ◌++◌, length, map, Result, Ok, Err}
+use Rattle.std.specs.Prelude.{◌≡◌, ℕ, ℤ, ◌<◌, ◌≤◌, Bool, true, false, List, [], ◌++◌, length, map, Option, None, Some, Result, Ok, Err}
 use Rattle.std.specs.List.{AllByRecursion}
 use Rattle.sno_value.specs.declared.ids.PatId.{PatId}
 use Rattle.sno_pattern.specs.declared.table.BuildError.{BuildError}
@@ -10,22 +10,39 @@ use Rattle.sno_store.specs.Contents.{Contents, new_contents}
 use Rattle.sno_store.specs.First.{first_patterns}
 use Rattle.sno_store.specs.declared.error.StoreError.{StoreError}
 use Rattle.sno_store.specs.declared.error.StoreError.TheVariants as store_refusal
+use Rattle.std.specs.declared.vec.Vec.{Vec}
+use Rattle.std.specs.declared.alloc.Global.{Global}
+use Rattle.sno_value.specs.declared.value.Value.{Value as Stored}
+use Rattle.sno_value.specs.declared.value.Value.TheVariants as stored
+use Rattle.sno_io.specs.declared.lines.LineError.{LineError}
+use Rattle.sno_io.specs.declared.lines.LineError.TheVariants as too
+use Rattle.snobol.specs.Variables.{line_kept}
 use Rattle.snobol.specs.Values.{shown, IsValueOf}
 use Rattle.snobol.specs.declared.machine.Exit.{Exit}
 use Rattle.snobol.specs.declared.machine.Exit.TheVariants.{Failure, Halt}
-use Rattle.snobol.specs.declared.machine.Stop.TheVariants.{Error as HasError, NoMemory, WriteFault}
-use Rattle.snobol.specs.World.{World}
+use Rattle.snobol.specs.declared.machine.Stop.TheVariants.{Error as HasError, NoMemory, ReadFault, WriteFault}
+use Rattle.std.specs.Io.KnownBytes.{Consumes}
+use Rattle.sno_io.specs.Lines.{Reading}
+use Rattle.snobol.specs.World.{World, Keywords}
+use Rattle.snobol.specs.declared.machine.Keywords.{Keywords as Kept}
 use Rattle.snobol.specs.Action.{Error, Got, Fails, Stops, Outcome, Action}
 
 pub record State : Type 0 where
   pub nodes : List Node
   pub store : Contents
+  -- the input that was read and is still held
+  pub reading : Reading
+  pub keywords : Keywords
 
-abbrev pub new_state : State
-new_state = record { nodes = first_patterns; store = new_contents }
+abbrev pub keywords_of : Kept → Keywords
+keywords_of k = record { anchor = k.anchor; trim = k.trim; limit = k.limit; begun = k.begun; statement = k.statement }
 
-abbrev pub world : State → World
-world s = record { nodes = length s.nodes; symbols = s.store.symbols; values = map (shown s.nodes) s.store.values }
+abbrev pub new_state : Keywords → State
+new_state keywords = record { nodes = first_patterns; store = new_contents; reading = record { held = []; told_end = false; stopped = None }; keywords = keywords }
+
+-- the world that a state shows, where `more` input may come behind what is held
+abbrev pub world : State → List ℕ → World
+world s more = record { nodes = length s.nodes; symbols = s.store.symbols; values = map (shown s.nodes) s.store.values; input = s.reading.held ++ more; keywords = s.keywords }
 
 -- no symbol has more than 1,000,000 bytes, and the values are of this table
 abbrev pub IsKnown : List Node → Contents → Type 0
@@ -37,6 +54,7 @@ Meets see o after (Ok x) = o ≡ record { ending = Got (see x); world = after; w
 Meets see o after (Err Failure) = o ≡ record { ending = Fails; world = after; wrote = [] }
 Meets see o after (Err (Halt (HasError code))) = (o.ending ≡ Stops (Error code)) × (o.wrote ≡ [])
 Meets see o after (Err (Halt NoMemory)) = Unit {0}
+Meets see o after (Err (Halt ReadFault)) = ⊥
 Meets see o after (Err (Halt WriteFault)) = ⊥
 
 -- the nodes of a table that has grown
@@ -47,11 +65,64 @@ abbrev pub OnAnswer : {X : Type 0} → (X → Type 0) → Result X Exit → Type
 OnAnswer P (Ok x) = P x
 OnAnswer P (Err e) = Unit {0}
 
--- The code did what the action does. `see` says which value an answer stands for, and `fits` what holds of it, in the table after.
+-- the same of one that may read
+abbrev pub MeetsReading : {X A : Type 0} → (X → A) → Outcome A → World → Result X Exit → Type 0
+MeetsReading see o after (Ok x) = Meets see o after (Ok x)
+MeetsReading see o after (Err Failure) = Meets see o after (Err Failure)
+MeetsReading see o after (Err (Halt (HasError code))) = Meets see o after (Err (Halt (HasError code)))
+MeetsReading see o after (Err (Halt NoMemory)) = Unit {0}
+MeetsReading see o after (Err (Halt ReadFault)) = Unit {0}
+MeetsReading see o after (Err (Halt WriteFault)) = ⊥
+
+-- The code did what the action does, and read nothing. `see` says which value an answer stands for, and `fits` what holds
+-- of it, in the table after.
 pub record Does {X A : Type 0} (see : List Node → X → A) (fits : List Node → X → Type 0) (act : Action A) (before after : State) (result : Result X Exit) : Type 0 where
   pub grows : Grows before.nodes after.nodes
-  pub meets : Meets (see after.nodes) (act (world before)) (world after) result
+  pub meets : (more : List ℕ) → Meets (see after.nodes) (act (world before more)) (world after more) result
   pub answer : OnAnswer (fits after.nodes) result
+  pub unread : after.reading ≡ before.reading
+
+-- a reader, as far as it tells
+pub record Feed : Type 0 where
+  pub left : Option (List ℕ)
+  pub at_end : Bool
+  pub broken : Bool
+
+abbrev pub feed : Option (List ℕ) → Bool → Bool → Feed
+feed left at_end broken = record { left = left; at_end = at_end; broken = broken }
+
+-- the reader hasn't failed, and is that of the call before
+pub record IsReady (s : State) (f : Feed) : Type 0 where
+  pub going : s.reading.stopped ≡ None
+  pub same : s.reading.told_end ≡ true → f.at_end ≡ true
+  pub sound : f.broken ≡ false
+
+-- it goes on behind a value or a failure
+abbrev pub OnGoing : {X : Type 0} → Result X Exit → Type 0 → Type 0
+OnGoing (Ok x) P = P
+OnGoing (Err Failure) P = P
+OnGoing (Err (Halt why)) P = Unit {0}
+
+-- a read fault has its cause
+abbrev pub HasCause : {X : Type 0} → Result X Exit → Feed → Type 0
+HasCause (Ok x) f = Unit {0}
+HasCause (Err Failure) f = Unit {0}
+HasCause (Err (Halt (HasError code))) f = Unit {0}
+HasCause (Err (Halt NoMemory)) f = Unit {0}
+HasCause (Err (Halt ReadFault)) f = f.broken ≡ true
+HasCause (Err (Halt WriteFault)) f = Unit {0}
+
+-- The code did what the action does, for whatever input may still come behind what the reader gave; nothing comes once
+-- the end was told.
+pub record Reads {X A : Type 0} (see : List Node → X → A) (fits : List Node → X → Type 0) (act : Action A) (before after : State) (old new : Feed) (result : Result X Exit) : Type 0 where
+  pub given : List ℕ
+  pub consumed : Consumes old.left new.left given
+  pub ended : before.reading.told_end ≡ true → (given ≡ []) × (after.reading.told_end ≡ true)
+  pub grows : Grows before.nodes after.nodes
+  pub meets : (more : List ℕ) → (after.reading.told_end ≡ true → more ≡ []) → MeetsReading (see after.nodes) (act (world before (given ++ more))) (world after more) result
+  pub answer : OnAnswer (fits after.nodes) result
+  pub ready : OnGoing result (IsReady after new)
+  pub cause : HasCause result new
 
 -- an answer that stands for itself, of which nothing else is said
 abbrev pub itself : {X : Type 0} → List Node → X → X
@@ -78,3 +149,11 @@ abbrev pub exit_of_store : StoreError → Exit
 exit_of_store store_refusal.NullName = Halt (HasError 6)
 exit_of_store store_refusal.Full = Halt (HasError 9)
 exit_of_store store_refusal.NoMemory = Halt NoMemory
+
+-- what the answer of the input is to a program, whose &TRIM is given
+abbrev pub value_of_line : ℤ → Result (Option (Vec ℕ Global)) LineError → Result Stored Exit
+value_of_line trim (Ok (Some line)) = Ok (stored.Str (line_kept trim line.items))
+value_of_line trim (Ok None) = Err Failure
+value_of_line trim (Err too.TooLong) = Err (Halt (HasError 8))
+value_of_line trim (Err too.ReadFault) = Err (Halt ReadFault)
+value_of_line trim (Err too.NoMemory) = Err (Halt NoMemory)

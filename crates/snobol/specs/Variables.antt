@@ -1,5 +1,5 @@
 -- Variables: how they are named, read and set.
-use Rattle.std.specs.Prelude.{ℕ, ◌==◌, Bool, true, false, List, [], ◌∷◌, ◌++◌, if◌then◌else◌, length, slice_index_or, slice_set, codes, Option, None, Some}
+use Rattle.std.specs.Prelude.{ℕ, zero, ℤ, pos, nat_lt, ◌==◌, Bool, true, false, List, [], ◌∷◌, ◌++◌, if◌then◌else◌, length, slice_index_or, slice_set, codes, Option, None, Some}
 use Rattle.std.specs.Fmt.{signed_decimal}
 use Rattle.sno_value.specs.declared.ids.SymId.{SymId}
 use Rattle.sno_value.specs.declared.value.Name.{Name as Target}
@@ -7,7 +7,9 @@ use Rattle.sno_value.specs.declared.value.Name.TheVariants.{Var, Elem, Entry}
 use Rattle.sno_store.specs.Contents.{place, is_symbol}
 use Rattle.snobol.specs.World.{World}
 use Rattle.snobol.specs.Values.{Value, Str, Int, Name}
-use Rattle.snobol.specs.Action.{Error, Got, Action, gives, fails, stops, either, and_then}
+use Rattle.sno_value.specs.Strings.{trimmed}
+use Rattle.sno_io.specs.Lines.{next_line}
+use Rattle.snobol.specs.Action.{Error, Got, Fails, Action, gives, fails, stops, either, and_then}
 
 -- data type
 abbrev pub wrong_type : {A : Type 0} → Action A
@@ -21,6 +23,11 @@ text_of other = None
 
 abbrev pub symbol : ℕ → SymId
 symbol k = record { 0 = k }
+
+-- trailing spaces are dropped from a line where &TRIM isn't 0
+abbrev pub line_kept : ℤ → List ℕ → List ℕ
+line_kept (pos zero) line = line
+line_kept trim line = trimmed line
 
 -- INPUT and OUTPUT, by their numbers among the symbols
 abbrev pub is_input : Target → Bool
@@ -48,22 +55,33 @@ named_by (Name target) = gives target
 named_by other = either wrong_type variable_named (text_of other)
 
 -- the bytes of a variable's name
-abbrev pub text_of_name : World → Target → List ℕ
-text_of_name w (Var id) = slice_index_or w.symbols id.0 []
-text_of_name w other = []
+abbrev pub text_of_name : List (List ℕ) → Target → List ℕ
+text_of_name symbols (Var id) = slice_index_or symbols id.0 []
+text_of_name symbols other = []
 
 -- a variable's name as a value is its text; any other name is itself
 abbrev pub name_value : Target → Action Value
-name_value (Var id) w = gives (Str (text_of_name w (Var id))) w
+name_value (Var id) w = gives (Str (text_of_name w.symbols (Var id))) w
 name_value other w = gives (Name other) w
 
 abbrev pub value_in : World → Target → Value
 value_in w (Var id) = slice_index_or w.values id.0 (Str [])
 value_in w other = Str []
 
--- the value of a variable; INPUT has no lines
+-- the next line of the input; at its end there is none, and a line of more than 1,000,000 bytes is error 8
+abbrev pub line_read : Option (List ℕ × List ℕ) → Action Value
+line_read None w = record { ending = Fails; world = record w { input = [] }; wrote = [] }
+line_read (Some line) w = if nat_lt 1_000_000 (length line.0) then stops (Error 8) w else record { ending = Got (Str (line_kept w.keywords.trim line.0)); world = record w { input = line.1 }; wrote = [] }
+
+abbrev pub reads_line : Action Value
+reads_line w = line_read (next_line w.input) w
+
+abbrev pub holds : Target → Action Value
+holds name w = gives (value_in w name) w
+
+-- the value of a variable; INPUT reads a line
 abbrev pub reads : Target → Action Value
-reads name w = if is_input name then fails w else gives (value_in w name) w
+reads name w = if is_input name then reads_line w else holds name w
 
 abbrev pub writes : List ℕ → Action Unit
 writes bytes w = record { ending = Got tt; world = w; wrote = bytes }

@@ -1,7 +1,19 @@
 -- What a program can change, as far as its forms reach today.
-use Rattle.std.specs.Prelude.{ℕ, List, [], ◌∷◌, codes}
+use Rattle.std.specs.Prelude.{ℕ, ℤ, pos, Bool, if◌then◌else◌, List, [], ◌∷◌, codes}
 use Rattle.sno_pattern.specs.Pattern.{Arb, Bal, Rem, Fail, Leaf, Fence, Abort, Succeed}
 use Rattle.snobol.specs.Values.{Value, Str, Pat}
+
+-- the keywords that the program sets, and those that count
+pub record Keywords : Type 0 where
+  -- &ANCHOR and &TRIM
+  pub anchor : ℤ
+  pub trim : ℤ
+  -- &STLIMIT: the most statements that may begin
+  pub limit : ℕ
+  -- &STCOUNT: how many have begun
+  pub begun : ℕ
+  -- &STNO: the number of the one that is performed
+  pub statement : ℕ
 
 pub record World : Type 0 where
   -- how many pattern nodes there are
@@ -9,12 +21,21 @@ pub record World : Type 0 where
   -- the symbols in the order in which they joined, and by their numbers the values of the variables
   pub symbols : List (List ℕ)
   pub values : List Value
+  -- the bytes of the input that are left
+  pub input : List ℕ
+  pub keywords : Keywords
+
+-- before a program's first statement
+abbrev pub new_keywords : Bool → ℕ → Keywords
+new_keywords anchored limit = record { anchor = if anchored then pos 1 else pos 0; trim = pos 0; limit = limit; begun = 0; statement = 0 }
 
 -- A new store has the variables that begin with a pattern, and INPUT and OUTPUT, which begin with null.
-abbrev pub new_world : World
-new_world =
+abbrev pub new_world : List ℕ → Keywords → World
+new_world input keywords =
     record {
       nodes = 7;
       symbols = codes "ARB" ∷ codes "BAL" ∷ codes "REM" ∷ codes "FAIL" ∷ codes "FENCE" ∷ codes "ABORT" ∷ codes "SUCCEED" ∷ codes "INPUT" ∷ codes "OUTPUT" ∷ [];
       values = Pat (Leaf Arb) ∷ Pat (Leaf Bal) ∷ Pat (Leaf Rem) ∷ Pat (Leaf Fail) ∷ Pat Fence ∷ Pat Abort ∷ Pat Succeed ∷ Str [] ∷ Str [] ∷ [];
+      input = input;
+      keywords = keywords;
     }

@@ -1,25 +1,36 @@
 //! Forms and what they give of their operands, worked out by hand.
-ghost use Rattle.std.specs.Prelude.{◌≤◌, IfOk, List, length};
+ghost use Rattle.std.specs.Prelude.{◌≡◌, false, None, ◌≤◌, IfOk, List, length};
 ghost use Rattle.std.specs.List.{AllByRecursion};
 ghost use Rattle.sno_pattern.specs.Table.{Node};
 ghost use Rattle.snobol.specs.Values.{IsValueOf};
 
 use crate::apply::apply;
 use crate::forms::value_of;
-use crate::machine::{Exit, Machine, error};
+use crate::machine::{Exit, Keywords, Machine, error};
+use crate::no_input::NoInput;
 use sno_pattern::Shape;
 use sno_text::read_expression;
 use sno_value::{ExprId, ObjId, PatId, Text, Value};
 use std::alloc::{AllocError, Global};
 use std::test::Fail;
 
+const KEYWORDS: Keywords = Keywords {
+    anchor: 0,
+    trim: 0,
+    limit: 1_000_000,
+    begun: 0,
+    statement: 0,
+};
+
 /// What the outermost form of an expression gives of these operands.
 fn given(machine: &mut Machine, text: &[u8], operands: &mut [Value]) -> Result<Value, Exit>
     requires text { length text.now ≤ 1000 }
     requires values { AllByRecursion (IsValueOf machine.old.nodes) operands.old }
+    requires going { machine.old.reading.stopped ≡ None }
+    requires unread { machine.old.reading.told_end ≡ false }
 {
     match read_expression(machine.alloc(), text) {
-        Ok((program, expression)) => apply(machine, &program, value_of(expression), operands),
+        Ok((program, expression)) => apply(machine, &mut NoInput::new(), &program, value_of(expression), operands),
         Err(_) => Err(Exit::Failure),
     }
 }
@@ -28,7 +39,7 @@ fn given(machine: &mut Machine, text: &[u8], operands: &mut [Value]) -> Result<V
 fn number(alloc: Global, text: &[u8], x: i64, y: i64) -> Result<i64, Exit>
     requires { length text.now ≤ 1000 }
 {
-    let mut machine = Machine::new(alloc)?;
+    let mut machine = Machine::new(alloc, KEYWORDS)?;
     match given(&mut machine, text, &mut [Value::Int(x), Value::Int(y)])? {
         Value::Int(number) => Ok(number),
         _ => Err(Exit::Failure),
@@ -41,7 +52,7 @@ fn string(alloc: Global, text: &[u8], x: &[u8], y: &[u8]) -> Result<Vec<u8>, Exi
     requires x { length x.now ≤ 1_000_000 }
     requires y { length y.now ≤ 1_000_000 }
 {
-    let mut machine = Machine::new(alloc)?;
+    let mut machine = Machine::new(alloc, KEYWORDS)?;
     let mut operands = [string_value(alloc, x)?, string_value(alloc, y)?];
     match given(&mut machine, text, &mut operands)? {
         Value::Str(text) => Ok(text.into_vec()),
@@ -55,7 +66,7 @@ fn pattern(alloc: Global, text: &[u8], x: &[u8], y: &[u8]) -> Result<(u32, Shape
     requires x { length x.now ≤ 1_000_000 }
     requires y { length y.now ≤ 1_000_000 }
 {
-    let mut machine = Machine::new(alloc)?;
+    let mut machine = Machine::new(alloc, KEYWORDS)?;
     let mut operands = [string_value(alloc, x)?, string_value(alloc, y)?];
     match given(&mut machine, text, &mut operands)? {
         Value::Pat(id) if id.0 < machine.patterns().len() => Ok((
@@ -155,7 +166,7 @@ fn patterns(rt: HostRuntime) -> Result<(), Fail> {
 #[test]
 fn mixed_operands(rt: HostRuntime) -> Result<(), Fail> {
     let alloc = rt.alloc();
-    let mut machine = Machine::new(alloc)?;
+    let mut machine = Machine::new(alloc, KEYWORDS)?;
     let two = given(&mut machine, b"X Y", &mut [Value::Int(1), Value::Int(-2)])?;
     assert_eq!(rt; two, string_value(alloc, b"1-2")?);
     let null = string_value(alloc, b"")?;

@@ -12,6 +12,7 @@ mod job;
 mod lines;
 mod listing;
 mod machine;
+mod no_input;
 mod operators;
 mod pile;
 mod session;

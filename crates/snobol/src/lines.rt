@@ -1,7 +1,6 @@
 //! The lines that `ways` writes.
 ghost use Rattle.std.specs.Prelude.{◌≡◌, ◌++◌, IfOk, OnOk, codes, string_bytes};
 ghost use Rattle.sno_match.specs.Events.{in_trace};
-ghost use Rattle.snobol.specs.State.{world};
 ghost use Rattle.snobol.specs.Variables.{text_of_name};
 ghost use Rattle.snobol.specs.Lines.{line_of, pending_part, pending_parts};
 
@@ -16,7 +15,7 @@ pub(crate) fn line_of(
     event: Event,
     way: &[Pending],
 ) -> Result<Vec<u8>, AllocError>
-    ensures { IfOk result (λ line. line.items ≡ line_of (world machine.now) (in_trace event way.now)) }
+    ensures { IfOk result (λ line. line.items ≡ line_of machine.now.store.symbols (in_trace event way.now)) }
 {
     let alloc = machine.alloc();
     match event {
@@ -43,7 +42,7 @@ fn way_line(
     end: usize,
     pending: &[Pending],
 ) -> Result<Vec<u8>, AllocError>
-    ensures { IfOk result (λ line. line.items ≡ line_of (world machine.now) (in_trace (Event.Way start end) pending.now)) }
+    ensures { IfOk result (λ line. line.items ≡ line_of machine.now.store.symbols (in_trace (Event.Way start end) pending.now)) }
 {
     let mut line = format!(in machine.alloc(); "way {start} {end}")?.into_bytes();
     for assignment in pending {
@@ -59,7 +58,7 @@ fn push_pending(
     line: &mut Vec<u8>,
     assignment: Pending,
 ) -> Result<(), AllocError>
-    ensures { OnOk result (line.new.items ≡ line.old.items ++ pending_part (world machine.now) assignment) }
+    ensures { OnOk result (line.new.items ≡ line.old.items ++ pending_part machine.now.store.symbols assignment) }
 {
     let Pending { target, start, end } = assignment;
     let places = format!(in machine.alloc(); "={start}-{end}")?;
@@ -76,7 +75,7 @@ fn target_line(
     target: Name,
     places: &[u8],
 ) -> Result<Vec<u8>, AllocError>
-    ensures { IfOk result (λ line. line.items ≡ word.now ++ (text_of_name (world machine.now) target ++ places.now)) }
+    ensures { IfOk result (λ line. line.items ≡ word.now ++ (text_of_name machine.now.store.symbols target ++ places.now)) }
 {
     let mut line = word.to_vec(machine.alloc())?;
     line.extend_from_slice(machine.name_text(target))?;

@@ -5,13 +5,14 @@ ghost use Rattle.std.specs.List.{AllByRecursion};
 ghost use Rattle.sno_pattern.specs.Table.{Node};
 ghost use Rattle.snobol.specs.Values.{shown, IsValueOf};
 ghost use Rattle.snobol.specs.Forms.{IsOrdered};
-ghost use Rattle.snobol.specs.State.{Does};
+ghost use Rattle.snobol.specs.State.{Reads, IsReady, feed};
 ghost use Rattle.snobol.specs.Pile.{holds, apply_at, after_turn, after_next, turn_work, Falls, at_hand, still_at_hand, Keeps};
 
 use crate::apply::apply;
 use crate::convert::null;
 use crate::forms::{Part, absorbs_failure, operand};
 use crate::machine::{Exit, Machine, Stop};
+use sno_io::Source;
 use sno_text::Program;
 use sno_value::Value;
 use std::alloc::Global;
@@ -150,9 +151,10 @@ impl Pile {
     }
 
     /// What a form gives that is applied to the last values, which are let go.
-    pub fn apply(
+    pub fn apply<R: Source>(
         &mut self,
         machine: &mut Machine,
+        reader: &mut R,
         program: &Program,
         part: Part,
         count: usize,
@@ -160,12 +162,14 @@ impl Pile {
         requires text { length program.now.text ≤ 1_000_000 }
         requires count { holds self.old.waiting + count ≤ length self.old.values }
         requires values { AllByRecursion (IsValueOf machine.old.nodes) self.old.values }
-        ensures does { Does shown IsValueOf (apply_at program.now part (Some (map (shown machine.old.nodes) (drop (length self.old.values - count) self.old.values)))) machine.old machine.new result }
+        requires ready { IsReady machine.old (feed (R.left reader.old) (R.at_end reader.old) (R.broken reader.old)) }
+        ensures does { Reads shown IsValueOf (apply_at program.now part (Some (map (shown machine.old.nodes) (drop (length self.old.values - count) self.old.values)))) machine.old machine.new (feed (R.left reader.old) (R.at_end reader.old) (R.broken reader.old)) (feed (R.left reader.new) (R.at_end reader.new) (R.broken reader.new)) result }
         ensures rest { self.new ≡ record self.old { values = take (length self.old.values - count) self.old.values } }
     {
         let at = self.values.len() - count;
         let value = apply(
             machine,
+            reader,
             program,
             part,
             &mut self.values.as_mut_slice()[at..],

@@ -3,29 +3,32 @@ ghost use Rattle.std.specs.Prelude.{◌≡◌};
 ghost use Rattle.snobol.specs.Values.{shown, IsValueOf};
 ghost use Rattle.snobol.specs.Evaluate.{unary, unary_name, cursor_pattern, name_of, number_of};
 ghost use Rattle.snobol.specs.Variables.{named_by};
-ghost use Rattle.snobol.specs.State.{State, Does, itself, any};
+ghost use Rattle.snobol.specs.State.{State, Does, Reads, IsReady, feed, itself, any};
 
 use crate::convert::{null, number_of, text_of};
 use crate::machine::{DATA_TYPE, Exit, LATER, Machine, NO_VARIABLE, error};
 use crate::operators::computed;
+use sno_io::Source;
 use sno_text::UnaryOperator;
 use sno_value::{Name, Value, sub};
 
 /// A unary operator on its operand, which is a name behind `.` and `@`.
-pub(crate) fn unary(
+pub(crate) fn unary<R: Source>(
     machine: &mut Machine,
+    reader: &mut R,
     operator: UnaryOperator,
     x: Value,
 ) -> Result<Value, Exit>
-    requires { IsValueOf machine.old.nodes x }
-    ensures { Does shown IsValueOf (unary operator (shown machine.old.nodes x)) machine.old machine.new result }
+    requires value { IsValueOf machine.old.nodes x }
+    requires ready { IsReady machine.old (feed (R.left reader.old) (R.at_end reader.old) (R.broken reader.old)) }
+    ensures { Reads shown IsValueOf (unary operator (shown machine.old.nodes x)) machine.old machine.new (feed (R.left reader.old) (R.at_end reader.old) (R.broken reader.old)) (feed (R.left reader.new) (R.at_end reader.new) (R.broken reader.new)) result }
 {
     match operator {
         UnaryOperator::Plus => plus(&x),
         UnaryOperator::Minus => minus(&x),
         UnaryOperator::Indirect => {
             let target = named_by(machine, x)?;
-            machine.read(target)
+            machine.read(reader, target)
         }
         UnaryOperator::NameOf => name_of(machine, &x),
         UnaryOperator::Cursor => cursor_pattern(machine, &x),

@@ -1,4 +1,4 @@
-use Rattle.std.proofs.Common.{◌≡◌, ◌∙◌, ◌+◌, ◌≤◌, suc, sym, ap, arith, length, drop, subst, List, ℕ}
+use Rattle.std.proofs.Common.{◌≡◌, ◌∙◌, ◌+◌, ◌≤◌, suc, sym, ap, arith, length, drop, subst, refl, List, ℕ}
 use Rattle.std.proofs.lemmas.Result.{err_from_is_err_and}
 use Rattle.sno_match.specs.Events.{is_last, is_value}
 use Rattle.sno_match.specs.Session.{trace_of}
@@ -9,13 +9,13 @@ use Rattle.snobol.proofs.listing.list_ways.Goals as goal
 pub returns-in_err-matcher-clause-does : goal.returns-in_err-matcher-clause-does
 returns-in_err-matcher-clause-does g c =
     let p = err_from_is_err_and c.from_residual.result c.from_residual.ensures.1 in
-    rw p.1 (rw p.2 (no_memory _ _ _ _))
+    rw p.1 (rw p.2 (no_memory _ _ _ _ refl))
 
 pub returns-in_err-event-clause-does : goal.returns-in_err-event-clause-does
 returns-in_err-event-clause-does g c =
     let p = err_from_is_err_and c.from_residual-in_err-event.result c.from_residual-in_err-event.ensures.1 in
     let i = c.events.invariant in
-    rw (p.1, p.2, ← i.trace) (i.leads _ _ _ (no_memory _ _ _ _))
+    rw (p.1, p.2, ← i.trace) (i.leads _ _ _ (no_memory _ _ _ _ refl))
 
 pub returns-in_err-list_event-clause-does : goal.returns-in_err-list_event-clause-does
 returns-in_err-list_event-clause-does g c =

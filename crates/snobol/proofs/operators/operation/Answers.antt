@@ -20,3 +20,12 @@ returns-in_ok-x-in-Add c =
     let y : SFits w64 c.in_ok-x-in-Add.y = search rules in
     let gave : c.calculated.result ≡ calculated c.args.operator c.in_ok-x-in-Add.x c.in_ok-x-in-Add.y = simp to_z-of_z at c.calculated.ensures in
     rw (arithmetic_operation _ _ _ is, both_there _ _ _ _ (c.in_ok-x-in-Add.ensures c.args.machine.now.nodes), ← gave) (c.computed.ensures c.args.machine.now)
+
+pub returns-in-Alternate : goal.returns-in-Alternate
+returns-in-Alternate c = rw c.in-Alternate.is c.alternation.ensures
+
+pub returns-in-Conditional : goal.returns-in-Conditional
+returns-in-Conditional c = rw c.in-Conditional.is c.pattern_with_target.ensures
+
+pub returns-in-Immediate : goal.returns-in-Immediate
+returns-in-Immediate c = rw c.in-Immediate.is c.pattern_with_target-in-Immediate.ensures

@@ -1,7 +1,9 @@
-use Rattle.std.proofs.Common.{◌≡◌, ◌<◌, ◌≤◌, ◌^◌, rules, arith, pos, length}
+use Rattle.std.proofs.Common.{◌≡◌, ◌<◌, ◌≤◌, ◌^◌, rules, arith, pos, length, refl}
 use Rattle.std.proofs.Math.Facts.{to_z_pos}
 use mir.Syntax.{w64}
+use Rattle.std.proofs.lemmas.Result.{err_from_is_err_and}
 use Rattle.snobol.specs.Session.{part_of}
+use Rattle.snobol.proofs.Performing.{no_memory}
 use Rattle.snobol.proofs.session.take_effect.Goals as goal
 
 pub returns-in_ok-part-in-Assign-clause-does : goal.returns-in_ok-part-in-Assign-clause-does
@@ -14,3 +16,8 @@ returns-in-Cursor-clause-does g c =
     let within = rw c.in-Cursor.is at c.requires.within in
     let small : c.in-Cursor.at < 9_223_372_036_854_775_808 = let s = c.requires.subject in omega arith in
     rw c.in-Cursor.is (rw (to_z_pos w64 small) at c.assign-in-Cursor.ensures.does)
+
+pub returns-in_err-part-in-Assign-clause-does : goal.returns-in_err-part-in-Assign-clause-does
+returns-in_err-part-in-Assign-clause-does g c =
+    let p = err_from_is_err_and c.from_residual.result c.from_residual.ensures.1 in
+    rw (p.1, p.2) (no_memory _ _ _ _ refl)
