@@ -1,0 +1,50 @@
+-- What a buffer holds after a read behind it, or after its first bytes were let go.
+use Rattle.std.proofs.Common.{◌≡◌, ℕ, ◌+◌, ◌-◌, ◌≤◌, List, ◌++◌, length, take, drop, slice_range, refl, sym, ap, ◌∙◌, arith}
+use Rattle.std.proofs.lemmas.List.{append-nil, take_at, drop_at, take-append-le, drop-append-le, drop-take, drop-drop, length-take-le, length-drop}
+use Rattle.std.proofs.lemmas.List.{length-append, with_items_is}
+use Rattle.std.specs.Vec.{with_items}
+use Rattle.std.specs.declared.vec.Vec.{Vec}
+use Rattle.std.specs.declared.alloc.Global.{Global}
+use borrow.Rule.Slice.PartMut.{put_mid, post_of}
+use lib.Seq.{take-add}
+
+-- a vector whose bytes from a place on were written over
+pub overwritten : (v : Vec ℕ Global) (all buf : List ℕ) (end : ℕ) → all ≡ v.items → end ≤ length all → length buf ≡ length all - end
+    → (with_items v (put_mid end (length all - end) all buf)).items ≡ put_mid end (length all - end) all buf
+overwritten v all buf end same within size =
+    let k = length all - end in
+    let front : length (take end all) ≡ end = length-take-le end all within in
+    let none : length (post_of end k all) ≡ 0 = omega (arith, length-drop k (drop end all), length-drop end all) in
+    let back : length (buf ++ post_of end k all) ≡ length buf + length (post_of end k all) = length-append buf (post_of end k all) in
+    let whole : length (put_mid end k all buf) ≡ length (take end all) + length (buf ++ post_of end k all) = length-append (take end all) (buf ++ post_of end k all) in
+    let len : v.len ≡ length v.items = v.ok.0 in
+    with_items_is v (put_mid end k all buf) (omega (arith, ap length same))
+
+-- the first n of the bytes that were put behind have joined
+pub grown : (xs ys : List ℕ) (start end k n : ℕ) → start ≤ end → end ≤ length xs → n ≤ length ys → slice_range (put_mid end k xs ys) start (end + n) ≡ slice_range xs start end ++ take n ys
+grown xs ys start end k n ordered within fits =
+    let front = length-take-le end xs within in
+    let held = drop start (take end xs) in
+    let len : length held ≡ end - start = omega (arith, length-drop start (take end xs)) in
+    let sum : end + n - start ≡ (end - start) + n = omega arith in
+    let parts : end ≡ start + (end - start) = omega arith in
+    let same : held ≡ take (end - start) (drop start xs) = ap (λ j. drop start (take j xs)) parts ∙ drop-take start (end - start) xs in
+    let after = ys ++ post_of end k xs in
+    ap (take (end + n - start)) (drop-append-le start (take end xs) after (omega arith))
+    ∙ ap (λ j. take j (held ++ after)) sum ∙ take-add (end - start) n (held ++ after)
+    ∙ (rw (take_at held after _ len, drop_at held after _ len, take-append-le n ys (post_of end k xs) fits, same) refl)
+
+-- where none has joined, the same bytes are held
+pub kept : (xs ys : List ℕ) (start end k : ℕ) → start ≤ end → end ≤ length xs → slice_range (put_mid end k xs ys) start end ≡ slice_range xs start end
+kept xs ys start end k ordered within =
+    let none : end ≡ end + 0 = omega arith in
+    ap (slice_range (put_mid end k xs ys) start) none ∙ grown xs ys start end k 0 ordered within (omega arith) ∙ append-nil _
+
+pub consumed : (xs : List ℕ) (start end count : ℕ) → start + count ≤ end → slice_range xs (start + count) end ≡ drop count (slice_range xs start end)
+consumed xs start end count inside =
+    let parts : end - start ≡ count + (end - (start + count)) = omega arith in
+    sym (
+    ap (λ j. drop count (take j (drop start xs))) parts
+    ∙ drop-take count _ (drop start xs)
+    ∙ ap (take (end - (start + count))) (drop-drop count start xs)
+    )
