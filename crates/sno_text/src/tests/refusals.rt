@@ -54,6 +54,10 @@ fn single_refusals(rt: HostRuntime) -> Result<(), Fail> {
             (" X = #\nEND", Some(Syntax { line: 1, code: 2 })),
             ("L\nL X = 1\nEND", Some(DuplicateLabel { line: 2 })),
             ("L\nEND M", Some(Syntax { line: 2, code: 4 })),
+            ("L\nEND\n\n* note\n+ M", Some(Syntax { line: 2, code: 4 })),
+            ("END RETURN", Some(Syntax { line: 1, code: 4 })),
+            (" X = '%{'\nEND", Some(TooLarge { line: 1 })),
+            (" X = '{'\nEND", None),
             (" X = 1\n", Some(NoEnd)),
             ("", Some(NoEnd)),
             ("* note\n", Some(NoEnd)),
@@ -220,6 +224,7 @@ fn statement_and_labels(rt: HostRuntime) -> Result<(), Fail> {
             (" X\nL\nEND\n", Some(TooLarge { line: 100_001 })),
             (" X\nEND M\n", Some(TooLarge { line: 100_001 })),
             (" X\n X\n", Some(TooLarge { line: 100_001 })),
+            (" X\nEND\n", Some(TooLarge { line: 100_001 })),
         ],
     )
 }
