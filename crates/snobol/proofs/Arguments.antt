@@ -1,9 +1,5 @@
 -- Functions on their arguments.
-use Rattle.sno_text.specs.declared.node.Node.{Node as Form}
-use Rattle.sno_text.specs.declared.node.Node.TheVariants.{Keyword, Item}
-use Rattle.sno_text.specs.declared.node.Span.{Span}
-use Rattle.sno_value.specs.declared.ids.ExprId.{ExprId}
-use Rattle.std.proofs.Common.{Vec, Global, ◌⊎◌, inl, inr, ◌≡◌, ℕ, zero, suc, ◌<◌, arith, true, ℤ, pos, negsuc, List, [], ◌∷◌, refl, sym, map, slice_set, slice_get, length, ◌≤◌, Option, None, Some, Result, Ok, Err}
+use Rattle.std.proofs.Common.{◌≡◌, ℕ, zero, suc, ◌<◌, arith, true, ℤ, pos, negsuc, List, [], ◌∷◌, refl, sym, map, slice_set, slice_get, length, ◌≤◌, Option, None, Some, Result, Ok, Err}
 use Rattle.std.specs.List.{AllByRecursion}
 use Rattle.std.proofs.lemmas.Option.{slice_get_past}
 use Rattle.sno_value.specs.declared.ids.PatId.{PatId}
@@ -16,7 +12,7 @@ use Rattle.sno_pattern.specs.Table.{Node}
 use Rattle.snobol.specs.declared.machine.Exit.{Exit}
 use Rattle.snobol.specs.Action.{End, Error, Action, gives, stops, settles, and_then}
 use Rattle.snobol.specs.Values.{Value, Pat, shown, IsValueOf}
-use Rattle.snobol.specs.Evaluate.{form_value, later, argument, as_pattern, makes_value, count_primitive, set_primitive, repetition}
+use Rattle.snobol.specs.Evaluate.{argument, as_pattern, makes_value, count_primitive, set_primitive, repetition}
 use Rattle.snobol.specs.Variables.{wrong_type}
 use Rattle.snobol.specs.declared.forms.Part.{Part}
 use Rattle.snobol.specs.Forms.{node_at}
@@ -61,8 +57,3 @@ second_known nodes v (x ∷ xs) ys h k all = rw h (k, all.1)
 -- a number beyond the table has no form
 pub no_form : (source : Source) (part : Part) → length source.nodes ≤ part.node.0 → node_at source part ≡ None
 no_form source part h = slice_get_past source.nodes part.node.0 h
-
--- a keyword or an item is still to come
-pub later_form : (text : List ℕ) (form : Form) (xs : List Value) → ((span : Span) × (form ≡ Keyword span)) ⊎ ((span : Span) × (ids : Vec ExprId Global) × (form ≡ Item span ids)) → form_value text form xs ≡ later
-later_form text form xs (inl h) = rw h.1 refl
-later_form text form xs (inr h) = rw h.2 refl

@@ -36,7 +36,7 @@ made node a b id known only h =
     let last : tree (a.nodes ++ node ∷ []) (length a.nodes) ≡ tree_over (trees_onto [] a.nodes) node = rw from_none at (last_tree [] a.nodes node) in
     let same : tree b.nodes id.0 ≡ tree_over (trees_onto [] a.nodes) node = ap (λ ns. tree ns id.0) h.1 ∙ ap (λ n. tree (a.nodes ++ node ∷ []) n) h.0 ∙ last in
     let values : map (shown b.nodes) b.store.values ≡ map (shown a.nodes) a.store.values =
-        ap (λ (c : State). map (shown b.nodes) c.store.values) only ∙ all_shown_stay a.nodes b.nodes a.store.values (node ∷ [], h.1) known.1
+    ap (λ (c : State). map (shown b.nodes) c.store.values) only ∙ all_shown_stay a.nodes b.nodes a.store.values (node ∷ [], h.1) known.1
     in
     let symbols : b.store.symbols ≡ a.store.symbols = ap (λ (c : State). c.store.symbols) only in
     let held : b.reading.held ≡ a.reading.held = ap (λ (c : State). c.reading.held) only in

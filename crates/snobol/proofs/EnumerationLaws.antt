@@ -1,6 +1,6 @@
 -- The listing of a pattern, from what its evaluation did.
-use Rattle.std.proofs.Common.{◌≡◌, ℕ, ◌≤◌, ◌<◌, Bool, false, nat_lt, List, [], ◌∷◌, ◌++◌, length, codes, refl, ap, sym, ◌∙◌, subst, arith, Option, Some, None, Result, Ok, Err, if◌then◌else◌, inr}
-use Rattle.std.proofs.lemmas.Bool.{le-ltb}
+use Rattle.std.proofs.Common.{◌≡◌, ℕ, pos, ◌≤◌, ◌<◌, Bool, true, false, nat_lt, List, [], ◌∷◌, ◌++◌, length, codes, refl, ap, sym, ◌∙◌, subst, arith, Option, Some, None, Result, Ok, Err, if◌then◌else◌, inr}
+use Rattle.std.proofs.lemmas.Bool.{le-ltb, lt-ltb}
 use Rattle.std.proofs.lemmas.List.{append-nil}
 use Rattle.std.specs.Io.KnownBytes.{Appends, Consumes}
 use Rattle.sno_io.specs.Devices.{Begins}
@@ -27,7 +27,7 @@ use Rattle.snobol.specs.Performs.{Ends, Performs}
 use Rattle.snobol.proofs.Performing.{appends_nothing}
 use Rattle.snobol.specs.declared.enumeration.WaysOutcome.{WaysOutcome}
 use Rattle.snobol.specs.Reading.{IsRead}
-use Rattle.snobol.specs.Listing.{lists_ways, lists, listing, Tells, IsListing, outcome_of}
+use Rattle.snobol.specs.Listing.{lists_ways, lists, listing, Tells, IsListed, IsListing, outcome_of}
 
 -- the pattern that is listed
 abbrev pub built : Source → ExprId → Action Pattern
@@ -35,10 +35,10 @@ built source e = and_then (expression source (value e)) as_pattern
 
 -- the world before a listing, and the state that shows it
 abbrev start : Bool → World
-start anchored = new_world [] (new_keywords anchored 1_000_000)
+start anchored = new_world [] (new_keywords anchored (pos 1_000_000))
 
 abbrev pub begun : Bool → State
-begun anchored = new_state (new_keywords anchored 1_000_000)
+begun anchored = new_state (new_keywords anchored (pos 1_000_000))
 
 -- a reader that has nothing to give
 abbrev pub Nothing : Feed → Type 0
@@ -60,7 +60,7 @@ nothing_given f g given none consumed = by f.left g.left none consumed
 did_meet : {X : Type 0} (see : List Node → X → Pattern) (fits : List Node → X → Type 0) (act : Action Pattern) (anchored : Bool) (b : State) (f g : Feed) (r : Result X Exit) → Nothing f → Reads see fits act (begun anchored) b f g r
     → MeetsReading (see b.nodes) (act (start anchored)) (world b []) r
 did_meet see fits act anchored b f g r none did =
-    subst (λ (bytes : List ℕ). MeetsReading (see b.nodes) (act (new_world bytes (new_keywords anchored 1_000_000))) (world b []) r)
+    subst (λ (bytes : List ℕ). MeetsReading (see b.nodes) (act (new_world bytes (new_keywords anchored (pos 1_000_000)))) (world b []) r)
     (ap (λ (bytes : List ℕ). bytes ++ []) (nothing_given f g did.given none did.consumed)) (did.meets [] (λ told. refl))
 
 listing_is : (source : Source) (e : ExprId) (subject : List ℕ) (anchored : Bool) (limit : ℕ) → length subject ≤ 1_000_000
@@ -138,3 +138,9 @@ is_listing pattern subject anchored limit source e outcome (Err WriteFault) wrot
 pub is_read : (text : List ℕ) (source : Source) (e : ExprId) → ((t : Tree) × IsAccepted text t × Stands source.nodes e t) → source.text ≡ text → e.0 < length source.nodes → IsTable (length source.text) source.nodes → IsRead text source e
 is_read text source e accepted same number table =
     record { tree = accepted.0; accepted = accepted.1; stands = accepted.2; source_text = same; number = number; table = table }
+
+-- a subject that is too long
+pub too_long : (pattern subject : List ℕ) (anchored : Bool) (limit : ℕ) (source : Source) (e : ExprId) → IsRead pattern source e → 1_000_000 < length subject → IsListed pattern subject anchored limit (Stops (Error 8)) []
+too_long pattern subject anchored limit source e read h =
+    let long : nat_lt 1_000_000 (length subject) ≡ true = lt-ltb 1_000_000 (length subject) h in
+    record { source = source; number = e; read = read; ends = rw long refl; written = rw long refl }

@@ -1,6 +1,6 @@
 -- A line of input that becomes a value.
-use Rattle.std.proofs.Common.{Vec, Global, ◌≡◌, ℕ, zero, suc, ℤ, pos, negsuc, ◌==◌, ◌<◌, ◌≤◌, nat_lt, Bool, true, false, if◌then◌else◌, List, [], ◌∷◌, ◌++◌, length, take, refl, ap, sym, ◌∙◌, subst, arith, append_assoc, Option, None, Some, Result, Ok, Err, IfErr, OnOk, IsErrOf, ◌↔◌, ◌≢◌}
-use Rattle.std.specs.List.{list_all}
+use Rattle.std.proofs.Common.{Vec, Global, ◌≡◌, ℕ, zero, suc, ◌+◌, ℤ, pos, negsuc, ◌==◌, ◌<◌, ◌≤◌, nat_lt, Bool, true, false, if◌then◌else◌, List, [], ◌∷◌, ◌++◌, length, take, refl, ap, sym, ◌∙◌, subst, arith, append_assoc, Option, None, Some, Result, Ok, Err, IfErr, OnOk, IsErrOf, ◌↔◌, ◌≢◌}
+use Rattle.std.specs.List.{list_all, range_with_len}
 use Rattle.std.proofs.lemmas.Bool.{le-ltb, lt-ltb}
 use Rattle.std.proofs.lemmas.List.{append-nil}
 use Rattle.std.specs.Io.KnownBytes.{Consumes}
@@ -115,3 +115,16 @@ input_read name a b f g r h did = subst (λ (act : Action Value). Reads shown Is
 
 pub held_read : (name : Target) (a b : State) (f g : Feed) (r : Result Stored Exit) → is_input name ≡ false → Reads shown IsValueOf (holds name) a b f g r → Reads shown IsValueOf (reads name) a b f g r
 held_read name a b f g r h did = subst (λ (act : Action Value). Reads shown IsValueOf act a b f g r) (sym (reads_held name h)) did
+
+-- the numbers from one on, and one more
+range_last : (a n : ℕ) → range_with_len a (suc n) ≡ range_with_len a n ++ (a + n) ∷ []
+range_last a zero = let e : a + 0 ≡ a = omega arith in ap (λ k. k ∷ []) (sym e)
+range_last a (suc n) =
+    let e : (a + 1) + n ≡ a + suc n = omega arith in
+    ap (λ ks. a ∷ ks) (range_last (a + 1) n ∙ ap (λ k. range_with_len (a + 1) n ++ k ∷ []) e)
+
+pub range_pushed : (n : ℕ) (old new : List ℕ) → old ≡ range_with_len 0 n → new ≡ old ++ n ∷ [] → new ≡ range_with_len 0 (n + 1)
+range_pushed n old new is more =
+    let e : n + 1 ≡ suc n = omega arith in
+    let z : 0 + n ≡ n = omega arith in
+    more ∙ (ap (λ xs. xs ++ n ∷ []) is ∙ (sym (range_last 0 n ∙ ap (λ k. range_with_len 0 n ++ k ∷ []) z) ∙ ap (range_with_len 0) (sym e)))

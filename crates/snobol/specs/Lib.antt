@@ -3,6 +3,7 @@ pub mod World
 pub mod Action
 pub mod Variables
 pub mod Builtins
+pub mod Keywords
 pub mod Forms
 pub mod Evaluate
 pub mod State

@@ -1,5 +1,5 @@
 -- The listing of a pattern's ways: what `ways` writes, and how it ends.
-use Rattle.std.specs.Prelude.{◌≡◌, ◌⊎◌, ℕ, nat_lt, Bool, List, [], if◌then◌else◌, length, codes, Option, Result, Ok, Err}
+use Rattle.std.specs.Prelude.{◌≡◌, ◌⊎◌, pos, ℕ, nat_lt, Bool, List, [], if◌then◌else◌, length, codes, Option, Result, Ok, Err}
 use Rattle.sno_io.specs.Devices.{Begins}
 use Rattle.sno_value.specs.declared.ids.ExprId.{ExprId}
 use Rattle.sno_text.specs.Source.{Source}
@@ -29,7 +29,7 @@ lists source e subject anchored limit =
 
 -- how the listing of a pattern that is read ends, and its lines
 abbrev pub listing : Source → ExprId → List ℕ → Bool → ℕ → Outcome Unit
-listing source e subject anchored limit = lists source e subject anchored limit (new_world [] (new_keywords anchored 1_000_000))
+listing source e subject anchored limit = lists source e subject anchored limit (new_world [] (new_keywords anchored (pos 1_000_000)))
 
 -- What was written and how it ended is what the outcome says; where it was broken off, a beginning was written.
 abbrev pub Tells : Outcome Unit → List ℕ → Result Unit Stop → Type 0

@@ -9,9 +9,9 @@ pub record Keywords : Type 0 where
   pub anchor : ℤ
   pub trim : ℤ
   -- &STLIMIT: the most statements that may begin
-  pub limit : ℕ
+  pub limit : ℤ
   -- &STCOUNT: how many have begun
-  pub begun : ℕ
+  pub begun : ℤ
   -- &STNO: the number of the one that is performed
   pub statement : ℕ
 
@@ -26,8 +26,8 @@ pub record World : Type 0 where
   pub keywords : Keywords
 
 -- before a program's first statement
-abbrev pub new_keywords : Bool → ℕ → Keywords
-new_keywords anchored limit = record { anchor = if anchored then pos 1 else pos 0; trim = pos 0; limit = limit; begun = 0; statement = 0 }
+abbrev pub new_keywords : Bool → ℤ → Keywords
+new_keywords anchored limit = record { anchor = if anchored then pos 1 else pos 0; trim = pos 0; limit = limit; begun = pos 0; statement = 0 }
 
 -- A new store has the variables that begin with a pattern, and INPUT and OUTPUT, which begin with null.
 abbrev pub new_world : List ℕ → Keywords → World

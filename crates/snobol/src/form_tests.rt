@@ -30,7 +30,13 @@ fn given(machine: &mut Machine, text: &[u8], operands: &mut [Value]) -> Result<V
     requires unread { machine.old.reading.told_end ≡ false }
 {
     match read_expression(machine.alloc(), text) {
-        Ok((program, expression)) => apply(machine, &mut NoInput::new(), &program, value_of(expression), operands),
+        Ok((program, expression)) => apply(
+            machine,
+            &mut NoInput::new(),
+            &program,
+            value_of(expression),
+            operands,
+        ),
         Err(_) => Err(Exit::Failure),
     }
 }

@@ -14,6 +14,6 @@ returns c =
     let x = sym (c.is_null.ensures nodes) ∙ c.if-is_null.false in
     let y = sym (c.is_null-2.ensures nodes) ∙ c.if-is_null-2.false in
     elim c.else-has_text.branch [
-      else-has_text-via-then-has_text+else-has_text-2 w ↦ rw (joined_second nodes c.args.x c.args.y x y (sym w.has_text-then-has_text.ensures ∙ w.if-has_text-2.false)) c.joined_patterns.ensures
+      | else-has_text-via-then-has_text+else-has_text-2 w ↦ rw (joined_second nodes c.args.x c.args.y x y (sym w.has_text-then-has_text.ensures ∙ w.if-has_text-2.false)) c.joined_patterns.ensures
       | else-has_text-via-else-has_text w ↦ rw (joined_first nodes c.args.x c.args.y x y (sym c.has_text.ensures ∙ w.if-has_text.false)) c.joined_patterns.ensures
     ]
