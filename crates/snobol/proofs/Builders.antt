@@ -37,7 +37,7 @@ made node a b id known store h =
     let last : tree (a.nodes ++ node ∷ []) (length a.nodes) ≡ tree_over (trees_onto [] a.nodes) node = rw from_none at (last_tree [] a.nodes node) in
     let same : tree b.nodes id.0 ≡ tree_over (trees_onto [] a.nodes) node = ap (λ ns. tree ns id.0) h.1 ∙ ap (λ n. tree (a.nodes ++ node ∷ []) n) h.0 ∙ last in
     let values : map (shown b.nodes) b.store.values ≡ map (shown a.nodes) a.store.values =
-        ap (λ (c : Contents). map (shown b.nodes) c.values) store ∙ all_shown_stay a.nodes b.nodes a.store.values (node ∷ [], h.1) known.1
+    ap (λ (c : Contents). map (shown b.nodes) c.values) store ∙ all_shown_stay a.nodes b.nodes a.store.values (node ∷ [], h.1) known.1
     in
     let symbols : b.store.symbols ≡ a.store.symbols = ap (λ (c : Contents). c.symbols) store in
     record {

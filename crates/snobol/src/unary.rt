@@ -12,11 +12,7 @@ use sno_text::UnaryOperator;
 use sno_value::{Name, Value, sub};
 
 /// A unary operator on its operand, which is a name behind `.` and `@`.
-pub(crate) fn unary(
-    machine: &mut Machine,
-    operator: UnaryOperator,
-    x: Value,
-) -> Result<Value, Exit>
+pub(crate) fn unary(machine: &mut Machine, operator: UnaryOperator, x: Value) -> Result<Value, Exit>
     requires { IsValueOf machine.old.nodes x }
     ensures { Does shown IsValueOf (unary operator (shown machine.old.nodes x)) machine.old machine.new result }
 {
