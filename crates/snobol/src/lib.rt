@@ -24,8 +24,4 @@ pub use sno_io::{Device, DeviceFault, Job, Sink, command, put, status_of};
 pub use sno_text::ReadError;
 
 #[cfg(test)]
-mod check_tests;
-#[cfg(test)]
-mod form_tests;
-#[cfg(test)]
 mod tests;
