@@ -1,4 +1,4 @@
--- What clauses read of the bytes that are held. Private contracts alone cite it.
+-- What the view of `Lines` and private contracts read of the bytes that are held.
 use Rattle.std.specs.Prelude.{◌≡◌, ◌⊎◌, ℕ, ◌-◌, ◌<◌, true, List, [], ◌++◌, length, slice_range, vec_len, Option}
 use Rattle.std.specs.Io.KnownBytes.{Consumes}
 use Rattle.sno_io.specs.declared.buffer.Buffer.{Buffer}

@@ -11,7 +11,7 @@ const BLOCK: usize = 8192;
 
 /// Bytes that were read and are held: `bytes[start..end]`. Behind them is room for more.
 #[derive(Drop)]
-pub struct Buffer {
+pub(crate) struct Buffer {
     bytes: Vec<u8>,
     start: usize,
     end: usize,
