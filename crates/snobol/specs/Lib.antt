@@ -4,6 +4,8 @@ pub mod Action
 pub mod Variables
 pub mod Builtins
 pub mod Forms
+pub mod Numbers
+pub mod Functions
 pub mod Evaluate
 pub mod State
 pub mod Pile

@@ -12,9 +12,12 @@ mod job;
 mod lines;
 mod listing;
 mod machine;
+mod numbers;
 mod operators;
 mod pile;
 mod session;
+mod texts;
+mod types;
 mod unary;
 
 pub use enumeration::{WaysOutcome, ways};
@@ -26,5 +29,7 @@ pub use sno_text::ReadError;
 mod check_tests;
 #[cfg(test)]
 mod form_tests;
+#[cfg(test)]
+mod function_tests;
 #[cfg(test)]
 mod tests;

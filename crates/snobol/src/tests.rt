@@ -360,6 +360,12 @@ fn errors_of_patterns(rt: HostRuntime) -> Result<(), Fail> {
             (
                 &["snobol4", "ways", "SIZE(1 / 0)", "A"],
                 "",
+                "snobol4: error 3\n",
+                1,
+            ),
+            (
+                &["snobol4", "ways", "CONVERT(1 / 0)", "A"],
+                "",
                 "snobol4: error 90\n",
                 1,
             ),

@@ -1,7 +1,8 @@
 //! The unary operators, and the names of forms.
 ghost use Rattle.std.specs.Prelude.{◌≡◌};
 ghost use Rattle.snobol.specs.Values.{shown, IsValueOf};
-ghost use Rattle.snobol.specs.Evaluate.{unary, unary_name, cursor_pattern, name_of, number_of};
+ghost use Rattle.snobol.specs.Evaluate.{unary, unary_name, cursor_pattern, name_of};
+ghost use Rattle.snobol.specs.Numbers.{number_of};
 ghost use Rattle.snobol.specs.Variables.{named_by};
 ghost use Rattle.snobol.specs.State.{State, Does, itself, any};
 
@@ -12,11 +13,7 @@ use sno_text::UnaryOperator;
 use sno_value::{Name, Value, sub};
 
 /// A unary operator on its operand, which is a name behind `.` and `@`.
-pub(crate) fn unary(
-    machine: &mut Machine,
-    operator: UnaryOperator,
-    x: Value,
-) -> Result<Value, Exit>
+pub(crate) fn unary(machine: &mut Machine, operator: UnaryOperator, x: Value) -> Result<Value, Exit>
     requires { IsValueOf machine.old.nodes x }
     ensures { Does shown IsValueOf (unary operator (shown machine.old.nodes x)) machine.old machine.new result }
 {
