@@ -50,6 +50,11 @@ pub second_stays : (nodes : List Node) (v : Stored) (xs ys : List Stored) → ys
 second_stays nodes v [] ys h = rw h refl
 second_stays nodes v (x ∷ xs) ys h = rw h refl
 
+pub third_stays : (nodes : List Node) (v w : Stored) (xs ys zs : List Stored) → ys ≡ slice_set xs 0 v → zs ≡ slice_set ys 1 w → argument (map (shown nodes) zs) 2 ≡ argument (map (shown nodes) xs) 2
+third_stays nodes v w [] ys zs h k = rw (k, h) refl
+third_stays nodes v w (x ∷ []) ys zs h k = rw (k, h) refl
+third_stays nodes v w (x ∷ y ∷ xs) ys zs h k = rw (k, h) refl
+
 pub second_known : (nodes : List Node) (v : Stored) (xs ys : List Stored) → ys ≡ slice_set xs 0 v → IsValueOf nodes v → AllByRecursion (IsValueOf nodes) xs → AllByRecursion (IsValueOf nodes) ys
 second_known nodes v [] ys h k all = rw h tt
 second_known nodes v (x ∷ xs) ys h k all = rw h (k, all.1)

@@ -14,7 +14,8 @@ use Rattle.snobol.specs.declared.machine.Exit.TheVariants.{Failure, Halt}
 use Rattle.snobol.specs.declared.machine.Stop.TheVariants.{Error as HasError, NoMemory, ReadFault, WriteFault}
 use Rattle.snobol.specs.Action.{Action, gives, and_then, either}
 use Rattle.snobol.specs.Values.{Value, Pat, Name, shown, IsValueOf}
-use Rattle.snobol.specs.Evaluate.{number_of, operation, makes_value, is_null, is_patternable, as_pattern, joined_patterns, joined, concatenation, on_numbers, result_of, pattern_with_target}
+use Rattle.snobol.specs.Evaluate.{operation, makes_value, is_null, is_patternable, as_pattern, joined_patterns, joined, concatenation, pattern_with_target}
+use Rattle.snobol.specs.Numbers.{number_of, on_numbers, result_of}
 use Rattle.sno_value.specs.declared.value.Name.{Name as Target}
 use Rattle.snobol.specs.Variables.{wrong_type, text_of}
 use Rattle.snobol.specs.State.{State, Does, tree_of, IsPatternOf}

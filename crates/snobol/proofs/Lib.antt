@@ -16,3 +16,4 @@ pub mod Names
 pub mod Primitives
 pub mod Conversions
 pub mod Arguments
+pub mod FunctionLaws

@@ -3,7 +3,9 @@ use Rattle.std.specs.Prelude.{ℕ, List, [], ◌∷◌, Option, Some, None, code
 use Rattle.std.specs.Str.{bytes_eq}
 use Rattle.sno_value.specs.declared.kind.PrimitiveKind.TheVariants.{Len, Pos, Rpos, Tab, Rtab, Any, NotAny, Span, Break}
 use Rattle.snobol.specs.declared.builtins.Builtin.{Builtin}
-use Rattle.snobol.specs.declared.builtins.Builtin.TheVariants.{Primitive, Arbno, Later}
+use Rattle.snobol.specs.declared.builtins.Builtin.TheVariants.{Primitive, Arbno, Plain, Later}
+use Rattle.snobol.specs.declared.builtins.Plain.TheVariants.{Compare, Remdr, Ident, Differ, Lgt, Integer, Size, Trim, Dupl, Replace, Datatype}
+use Rattle.snobol.specs.declared.builtins.Relation.TheVariants.{Equal, Unequal, Less, AtMost, Greater, AtLeast}
 
 -- what stands beside a name in a table
 abbrev pub found : {A : Type 0} → List ℕ → List (List ℕ × A) → Option A
@@ -17,13 +19,22 @@ pattern_functions =
     ∷ (codes "RTAB", Primitive Rtab) ∷ (codes "ANY", Primitive Any) ∷ (codes "NOTANY", Primitive NotAny) ∷ (codes "SPAN", Primitive Span)
     ∷ (codes "BREAK", Primitive Break) ∷ (codes "ARBNO", Arbno) ∷ []
 
+-- the functions of numbers
+abbrev pub number_functions : List (List ℕ × Builtin)
+number_functions =
+    (codes "EQ", Plain (Compare Equal)) ∷ (codes "NE", Plain (Compare Unequal)) ∷ (codes "LT", Plain (Compare Less)) ∷ (codes "LE", Plain (Compare AtMost))
+    ∷ (codes "GT", Plain (Compare Greater)) ∷ (codes "GE", Plain (Compare AtLeast)) ∷ (codes "REMDR", Plain Remdr) ∷ []
+
+-- the functions of texts and types
+abbrev pub text_functions : List (List ℕ × Builtin)
+text_functions =
+    (codes "IDENT", Plain Ident) ∷ (codes "DIFFER", Plain Differ) ∷ (codes "LGT", Plain Lgt) ∷ (codes "INTEGER", Plain Integer) ∷ (codes "SIZE", Plain Size)
+    ∷ (codes "TRIM", Plain Trim) ∷ (codes "DUPL", Plain Dupl) ∷ (codes "REPLACE", Plain Replace) ∷ (codes "DATATYPE", Plain Datatype) ∷ []
+
 -- those that are still to come
 abbrev pub later_functions : List (List ℕ × Builtin)
 later_functions =
-    (codes "EQ", Later) ∷ (codes "NE", Later) ∷ (codes "LT", Later) ∷ (codes "LE", Later) ∷ (codes "GT", Later) ∷ (codes "GE", Later)
-    ∷ (codes "IDENT", Later) ∷ (codes "DIFFER", Later) ∷ (codes "LGT", Later) ∷ (codes "INTEGER", Later) ∷ (codes "SIZE", Later)
-    ∷ (codes "TRIM", Later) ∷ (codes "DUPL", Later) ∷ (codes "REPLACE", Later) ∷ (codes "REMDR", Later) ∷ (codes "DATATYPE", Later)
-    ∷ (codes "CONVERT", Later) ∷ (codes "ARRAY", Later) ∷ (codes "TABLE", Later) ∷ (codes "PROTOTYPE", Later) ∷ (codes "DEFINE", Later) ∷ []
+    (codes "CONVERT", Later) ∷ (codes "ARRAY", Later) ∷ (codes "TABLE", Later) ∷ (codes "PROTOTYPE", Later) ∷ (codes "DEFINE", Later) ∷ []
 
 -- the first of two that there is
 abbrev pub first_found : {A : Type 0} → Option A → Option A → Option A
@@ -31,4 +42,5 @@ first_found (Some x) other = Some x
 first_found None other = other
 
 abbrev pub function_named : List ℕ → Option Builtin
-function_named name = first_found (found name pattern_functions) (found name later_functions)
+function_named name =
+    first_found (found name pattern_functions) (first_found (found name number_functions) (first_found (found name text_functions) (found name later_functions)))

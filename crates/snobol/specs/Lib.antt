@@ -5,6 +5,8 @@ pub mod Variables
 pub mod Builtins
 pub mod Keywords
 pub mod Forms
+pub mod Numbers
+pub mod Functions
 pub mod Evaluate
 pub mod State
 pub mod Pile

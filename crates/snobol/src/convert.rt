@@ -2,25 +2,33 @@
 ghost use Rattle.std.specs.Prelude.{◌≡◌, ◌≤◌, List, [], length, IfOk};
 ghost use Rattle.sno_pattern.specs.Table.{Node};
 ghost use Rattle.snobol.specs.Values.{shown, IsValueOf};
-ghost use Rattle.snobol.specs.Evaluate.{number_of, as_pattern, is_patternable, is_null};
+ghost use Rattle.snobol.specs.Evaluate.{as_pattern, is_patternable, is_null};
+ghost use Rattle.snobol.specs.Numbers.{number_of};
+ghost use Rattle.snobol.specs.Functions.{null_where};
 ghost use Rattle.snobol.specs.Variables.{text_of};
 ghost use Rattle.snobol.specs.Converted.{IsThere, has_text};
-ghost use Rattle.snobol.specs.State.{Does, tree_of, IsPatternOf};
+ghost use Rattle.snobol.specs.State.{State, Does, tree_of, IsPatternOf};
 
 use crate::machine::{DATA_TYPE, Exit, LATER, Machine, error};
 use sno_value::{PatId, Text, Value, int_text, to_int};
 use std::alloc::Global;
 
-/// The number of an integer, or of a string that writes one; else error 1.
-pub(crate) fn number_of(value: &Value) -> Result<i64, Exit>
-    ensures { (nodes : List Node) → IsThere (λ n. n) (number_of (shown nodes value.now)) result }
+/// The number of an integer, or of a string that writes one.
+pub(crate) fn number(value: &Value) -> Option<i64>
+    ensures { (nodes : List Node) → result ≡ number_of (shown nodes value.now) }
 {
-    let number = match value {
+    match value {
         Value::Int(number) => Some(*number),
         Value::Str(text) => to_int(text.as_slice()),
         _ => None,
-    };
-    match number {
+    }
+}
+
+/// The same, or error 1 where there is none.
+pub(crate) fn number_of(value: &Value) -> Result<i64, Exit>
+    ensures { (nodes : List Node) → IsThere (λ n. n) (number_of (shown nodes value.now)) result }
+{
+    match number(value) {
         Some(number) => Ok(number),
         None => Err(error(DATA_TYPE)),
     }
@@ -56,6 +64,17 @@ pub(crate) fn null(alloc: Global) -> Value
     ensures { result ≡ Value.Str [] }
 {
     Value::Str(Text::new(Vec::new(alloc)))
+}
+
+/// The null string where the condition holds, else failure.
+pub(crate) fn null_where(alloc: Global, holds: bool) -> Result<Value, Exit>
+    ensures { (s : State) → Does shown IsValueOf (null_where holds) s s result }
+{
+    if holds {
+        Ok(null(alloc))
+    } else {
+        Err(Exit::Failure)
+    }
 }
 
 /// Whether a value is the null string.

@@ -4,13 +4,18 @@ ghost use Rattle.std.specs.List.{AllByRecursion};
 ghost use Rattle.sno_value.specs.Kind.{takes_count};
 ghost use Rattle.sno_pattern.specs.Table.{Node};
 ghost use Rattle.snobol.specs.Values.{shown, IsValueOf};
-ghost use Rattle.snobol.specs.Evaluate.{argument, called, count_primitive, repetition, set_primitive, number_of};
+ghost use Rattle.snobol.specs.Evaluate.{argument, called, count_primitive, repetition, set_primitive};
+ghost use Rattle.snobol.specs.Numbers.{number_of};
+ghost use Rattle.snobol.specs.Functions.{plain};
 ghost use Rattle.snobol.specs.Variables.{text_of};
-ghost use Rattle.snobol.specs.State.{Does};
+ghost use Rattle.snobol.specs.State.{State, Does};
 
-use crate::builtins::Builtin;
+use crate::builtins::{Builtin, Plain};
 use crate::convert::{as_pattern, number_of, text_of};
 use crate::machine::{Exit, LATER, Machine, UNDEFINED_FUNCTION, error};
+use crate::numbers::{comparison, remainder};
+use crate::texts::{copies, is_after, replaced, size, trimmed};
+use crate::types::{datatype, differ, ident, integer};
 use sno_pattern::Arg;
 use sno_value::{Prim, Text, Value};
 use std::alloc::Global;
@@ -39,6 +44,32 @@ pub(crate) fn called(
             let operand = argument(machine.alloc(), operands, 0);
             repetition(machine, operand)
         }
+        Some(Builtin::Plain(function)) => {
+            let alloc = machine.alloc();
+            let x = argument(alloc, operands, 0);
+            let y = argument(alloc, operands, 1);
+            let z = argument(alloc, operands, 2);
+            plain(alloc, function, x, y, z)
+        }
+    }
+}
+
+/// A function that changes nothing, on its arguments.
+fn plain(alloc: Global, function: Plain, x: Value, y: Value, z: Value) -> Result<Value, Exit>
+    ensures { (s : State) → IsValueOf s.nodes x → Does shown IsValueOf (plain function (shown s.nodes x) (shown s.nodes y) (shown s.nodes z)) s s result }
+{
+    match function {
+        Plain::Compare(relation) => comparison(alloc, relation, &x, &y),
+        Plain::Remdr => remainder(&x, &y),
+        Plain::Ident => ident(alloc, &x, &y),
+        Plain::Differ => differ(alloc, &x, &y),
+        Plain::Lgt => is_after(alloc, x, y),
+        Plain::Integer => integer(alloc, &x),
+        Plain::Size => size(alloc, x),
+        Plain::Trim => trimmed(alloc, x),
+        Plain::Dupl => copies(alloc, x, &y),
+        Plain::Replace => replaced(alloc, x, y, z),
+        Plain::Datatype => datatype(alloc, &x),
     }
 }
 

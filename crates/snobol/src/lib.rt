@@ -13,9 +13,12 @@ mod lines;
 mod listing;
 mod machine;
 mod no_input;
+mod numbers;
 mod operators;
 mod pile;
 mod session;
+mod texts;
+mod types;
 mod unary;
 
 pub use enumeration::{WaysOutcome, ways};

@@ -2,7 +2,8 @@
 ghost use Rattle.std.specs.Prelude.{◌≡◌, ◌<◌, List, length, IsTrue};
 ghost use Rattle.sno_pattern.specs.Table.{Node};
 ghost use Rattle.snobol.specs.Values.{shown, IsValueOf};
-ghost use Rattle.snobol.specs.Evaluate.{makes_value, joined, joined_patterns, number_of, concatenation, alternation, result_of, operation, pattern_with_target};
+ghost use Rattle.snobol.specs.Evaluate.{makes_value, joined, joined_patterns, concatenation, alternation, operation, pattern_with_target};
+ghost use Rattle.snobol.specs.Numbers.{number_of, result_of};
 ghost use Rattle.snobol.specs.Variables.{text_of};
 ghost use Rattle.snobol.specs.Operations.{join_of, assignment_of, both, is_arithmetic, calculated};
 ghost use Rattle.snobol.specs.Converted.{IsThere, has_text};

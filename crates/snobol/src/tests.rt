@@ -3,6 +3,7 @@ mod assignments;
 mod choices;
 mod errors;
 mod forms;
+mod functions;
 mod input;
 mod keywords;
 mod names;

@@ -1,7 +1,8 @@
 //! The unary operators, and the names of forms.
 ghost use Rattle.std.specs.Prelude.{◌≡◌};
 ghost use Rattle.snobol.specs.Values.{shown, IsValueOf};
-ghost use Rattle.snobol.specs.Evaluate.{unary, unary_name, cursor_pattern, name_of, number_of};
+ghost use Rattle.snobol.specs.Evaluate.{unary, unary_name, cursor_pattern, name_of};
+ghost use Rattle.snobol.specs.Numbers.{number_of};
 ghost use Rattle.snobol.specs.Variables.{named_by};
 ghost use Rattle.snobol.specs.State.{State, Does, Reads, IsReady, feed, itself, any};
 

@@ -109,7 +109,7 @@ fn errors_of_patterns(rt: HostRuntime) -> Result<(), Fail> {
                 1,
             ),
             (
-                &["snobol4", "ways", "SIZE(1 / 0)", "A"],
+                &["snobol4", "ways", "CONVERT(1 / 0)", "A"],
                 "",
                 "snobol4: error 90\n",
                 1,
@@ -160,9 +160,9 @@ fn forms_that_are_still_to_come(rt: HostRuntime) -> Result<(), Fail> {
             ".A[1]",
             "LEN(1) . A<1>",
             "LEN(1) $ A<1 / 0>",
-            "EQ(1,1)",
-            "~SIZE('A')",
-            "$DATATYPE(1 / 0)",
+            "TABLE()",
+            "~ARRAY('1')",
+            "$PROTOTYPE(1 / 0)",
         ],
     )
 }

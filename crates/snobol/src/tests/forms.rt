@@ -173,7 +173,7 @@ fn patterns(rt: HostRuntime) -> Result<(), Fail> {
         Ok((7, Shape::Primitive))
     );
     assert_eq!(rt; pattern(alloc, b"FENCE(X)", b"A", b""), Err(error(4)));
-    assert_eq!(rt; pattern(alloc, b"SIZE(X)", b"A", b""), Err(error(90)));
+    assert_eq!(rt; pattern(alloc, b"TABLE(X)", b"A", b""), Err(error(90)));
     Ok(())
 }
 
