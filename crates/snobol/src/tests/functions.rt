@@ -4,10 +4,10 @@ ghost use Rattle.std.specs.List.{AllByRecursion};
 ghost use Rattle.sno_pattern.specs.Table.{Node};
 ghost use Rattle.snobol.specs.Values.{IsValueOf};
 
+use super::KEYWORDS;
 use crate::apply::apply;
 use crate::convert::null;
 use crate::forms::value_of;
-use super::KEYWORDS;
 use crate::machine::{Exit, Machine, error};
 use crate::no_input::NoInput;
 use crate::{WaysOutcome, ways};
