@@ -401,16 +401,6 @@ fn given(machine: &mut Machine, text: &[u8], operands: &mut [Value]) -> Result<V
     }
 }
 
-/// The same of two values, in a new machine.
-fn given_two(alloc: Global, text: &[u8], x: Value, y: Value) -> Result<Value, Exit>
-    requires text { length text.now ≤ 1000 }
-    requires x { (nodes : List Node) → IsValueOf nodes x }
-    requires y { (nodes : List Node) → IsValueOf nodes y }
-{
-    let mut machine = Machine::new(alloc, KEYWORDS)?;
-    given(&mut machine, text, &mut [x, y])
-}
-
 /// Values of the types that no row above has.
 fn other(k: u32) -> Value
     ensures { (nodes : List Node) → IsValueOf nodes result }
@@ -431,6 +421,15 @@ fn other(k: u32) -> Value
     }
 }
 
+/// What a call gives of two of these, in a new machine.
+fn given_two(alloc: Global, text: &[u8], j: u32, k: u32) -> Result<Value, Exit>
+    requires { length text.now ≤ 1000 }
+{
+    let mut machine = Machine::new(alloc, KEYWORDS)?;
+    let mut operands = [other(j), other(k)];
+    given(&mut machine, text, &mut operands)
+}
+
 #[test]
 fn other_values(rt: HostRuntime) -> Result<(), Fail> {
     let alloc = rt.alloc();
@@ -441,9 +440,9 @@ fn other_values(rt: HostRuntime) -> Result<(), Fail> {
                 true => (Ok(null(alloc)), Err(Exit::Failure)),
                 false => (Err(Exit::Failure), Ok(null(alloc))),
             };
-            let ident = given_two(alloc, b"IDENT(X,Y)", other(j), other(k));
+            let ident = given_two(alloc, b"IDENT(X,Y)", j, k);
             assert_eq!(rt; ident, expected.0, "{j} {k}");
-            let differ = given_two(alloc, b"DIFFER(X,Y)", other(j), other(k));
+            let differ = given_two(alloc, b"DIFFER(X,Y)", j, k);
             assert_eq!(rt; differ, expected.1, "{j} {k}");
         }
     }
@@ -462,14 +461,14 @@ fn names_of_other_types(rt: HostRuntime) -> Result<(), Fail> {
         (11, "EXPRESSION"),
     ];
     for (k, name) in rows {
-        let given = given_two(alloc, b"DATATYPE(X)", other(k), Value::Int(0))?;
+        let given = given_two(alloc, b"DATATYPE(X)", k, 10)?;
         let name = Value::Str(Text::new(name.as_bytes().to_vec(alloc)?));
         assert_eq!(rt; given, name, "{k}");
-        let size = given_two(alloc, b"SIZE(X)", other(k), Value::Int(0));
+        let size = given_two(alloc, b"SIZE(X)", k, 10);
         assert_eq!(rt; size, Err(error(1)), "{k}");
-        let integer = given_two(alloc, b"INTEGER(X)", other(k), Value::Int(0));
+        let integer = given_two(alloc, b"INTEGER(X)", k, 10);
         assert_eq!(rt; integer, Err(Exit::Failure), "{k}");
-        let less = given_two(alloc, b"LT(X,Y)", Value::Int(0), other(k));
+        let less = given_two(alloc, b"LT(X,Y)", 10, k);
         assert_eq!(rt; less, Err(error(1)), "{k}");
     }
     Ok(())
