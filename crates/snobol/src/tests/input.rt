@@ -6,29 +6,11 @@ use std::alloc::Global;
 use std::io::{self, ErrorKind, Read};
 use std::test::Fail;
 
+const INPUT: Name = Name::Var(SymId(7));
+
 /// What INPUT gives first, where lines are trimmed or aren't.
 fn first_line(alloc: Global, trim: i64, input: &[u8]) -> Result<Vec<u8>, Exit> {
-    let mut machine = machine(alloc, trim)?;
-    let mut reader = Device::new(input);
-    match machine.read(&mut reader, Name::Var(SymId(7)))? {
-        Value::Str(text) => Ok(text.into_vec()),
-        _ => Err(error(1)),
-    }
-}
-
-/// What it gives next.
-fn second_line(alloc: Global, trim: i64, input: &[u8]) -> Result<Vec<u8>, Exit> {
-    let mut machine = machine(alloc, trim)?;
-    let mut reader = Device::new(input);
-    let _first = machine.read(&mut reader, Name::Var(SymId(7)))?;
-    match machine.read(&mut reader, Name::Var(SymId(7)))? {
-        Value::Str(text) => Ok(text.into_vec()),
-        _ => Err(error(1)),
-    }
-}
-
-fn machine(alloc: Global, trim: i64) -> Result<Machine, Exit> {
-    let machine = Machine::new(
+    let mut machine = Machine::new(
         alloc,
         Keywords {
             anchor: 0,
@@ -38,40 +20,33 @@ fn machine(alloc: Global, trim: i64) -> Result<Machine, Exit> {
             statement: 0,
         },
     )?;
-    Ok(machine)
+    machine.forget_input();
+    match machine.read(&mut Device::new(input), INPUT)? {
+        Value::Str(text) => Ok(text.into_vec()),
+        _ => Err(error(1)),
+    }
 }
 
 #[test]
 fn lines_are_values(rt: HostRuntime) -> Result<(), Fail> {
     let alloc = rt.alloc();
-    assert_eq!(rt;
-        first_line(alloc, 0, b"a\nb\n")?.as_slice(),
-        b"a".as_slice()
-    );
-    assert_eq!(rt;
-        second_line(alloc, 0, b"a\nb\n")?.as_slice(),
-        b"b".as_slice()
-    );
-    assert_eq!(rt; second_line(alloc, 0, b"a\nb")?.as_slice(), b"b".as_slice());
-    assert_eq!(rt; first_line(alloc, 0, b"\nb")?.as_slice(), b"".as_slice());
-    assert_eq!(rt;
-        first_line(alloc, 0, b"a  \n")?.as_slice(),
-        b"a  ".as_slice()
-    );
-    assert_eq!(rt; first_line(alloc, 1, b"a  \n")?.as_slice(), b"a".as_slice());
-    assert_eq!(rt;
-        first_line(alloc, -1, b"a \t \n")?.as_slice(),
-        b"a \t".as_slice()
-    );
+    let rows: [(i64, &[u8], &[u8]); 6] = [
+        (0, b"a\nb\n", b"a"),
+        (0, b"a", b"a"),
+        (0, b"\nb", b""),
+        (0, b"a  \n", b"a  "),
+        (1, b"a  \n", b"a"),
+        (-1, b"a \t \n", b"a \t"),
+    ];
+    for (trim, input, line) in rows {
+        assert_eq!(rt; first_line(alloc, trim, input)?.as_slice(), line);
+    }
     Ok(())
 }
 
 #[test]
 fn input_ends_in_failure(rt: HostRuntime) {
-    let alloc = rt.alloc();
-    assert_eq!(rt; first_line(alloc, 0, b"").err(), Some(Exit::Failure));
-    assert_eq!(rt; second_line(alloc, 0, b"a").err(), Some(Exit::Failure));
-    assert_eq!(rt; second_line(alloc, 0, b"a\n").err(), Some(Exit::Failure));
+    assert_eq!(rt; first_line(rt.alloc(), 0, b"").err(), Some(Exit::Failure));
 }
 
 #[test]
@@ -94,13 +69,17 @@ impl Read for Broken {
     }
 }
 
+/// What a reader that fails gives.
+fn from_a_broken_reader(alloc: Global) -> Result<Value, Exit> {
+    let mut machine = Machine::new(alloc, super::KEYWORDS)?;
+    machine.forget_input();
+    machine.read(&mut Device::new(Broken), INPUT)
+}
+
 #[test]
-fn a_fault_of_the_reader(rt: HostRuntime) -> Result<(), Fail> {
-    let Ok(mut machine) = machine(rt.alloc(), 0) else {
-        return Err(Fail::from("no machine"))
-    };
-    let mut reader = Device::new(Broken);
-    let read = machine.read(&mut reader, Name::Var(SymId(7)));
-    assert_eq!(rt; read.err(), Some(Exit::Halt(Stop::ReadFault)));
-    Ok(())
+fn a_fault_of_the_reader(rt: HostRuntime) {
+    assert_eq!(rt;
+        from_a_broken_reader(rt.alloc()).err(),
+        Some(Exit::Halt(Stop::ReadFault))
+    );
 }
