@@ -9,7 +9,7 @@ use Rattle.sno_pattern.proofs.TableLaws.{tree-append}
 use Rattle.sno_pattern.specs.Built.{Appends}
 use Rattle.snobol.specs.Evaluate.{makes}
 use Rattle.snobol.specs.Values.{shown}
-use Rattle.snobol.specs.State.{State, Grows, Does, tree_of, IsPatternOf, IsKnown}
+use Rattle.snobol.specs.State.{State, untouched, Grows, Does, tree_of, IsPatternOf, IsKnown}
 use Rattle.snobol.proofs.Outcomes.{all_shown_stay}
 
 -- a pattern stays what it is
@@ -45,5 +45,5 @@ made node a b id known only h =
       grows = (node ∷ [], h.1);
       meets = λ more. rw (room, count, same, values, symbols, held, keywords) refl;
       answer = omega arith;
-      unread = ap (λ (c : State). c.reading) only;
+      unread = ap untouched only;
     }

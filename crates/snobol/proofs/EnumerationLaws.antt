@@ -1,5 +1,5 @@
 -- The listing of a pattern, from what its evaluation did.
-use Rattle.std.proofs.Common.{◌≡◌, ℕ, pos, ◌≤◌, ◌<◌, Bool, true, false, nat_lt, List, [], ◌∷◌, ◌++◌, length, codes, refl, ap, sym, ◌∙◌, subst, arith, Option, Some, None, Result, Ok, Err, if◌then◌else◌, inr}
+use Rattle.std.proofs.Common.{◌≡◌, ℕ, ◌≤◌, ◌<◌, Bool, true, false, nat_lt, List, [], ◌∷◌, ◌++◌, length, codes, refl, ap, sym, ◌∙◌, subst, arith, Option, Some, None, Result, Ok, Err, if◌then◌else◌, inr}
 use Rattle.std.proofs.lemmas.Bool.{le-ltb, lt-ltb}
 use Rattle.std.proofs.lemmas.List.{append-nil}
 use Rattle.std.specs.Io.KnownBytes.{Appends, Consumes}
@@ -34,11 +34,11 @@ abbrev pub built : Source → ExprId → Action Pattern
 built source e = and_then (expression source (value e)) as_pattern
 
 -- the world before a listing, and the state that shows it
-abbrev start : Bool → World
-start anchored = new_world [] (new_keywords anchored (pos 1_000_000))
+abbrev start : Bool → ℕ → World
+start anchored limit = new_world [] (new_keywords anchored 1_000_000 limit)
 
-abbrev pub begun : Bool → State
-begun anchored = new_state (new_keywords anchored (pos 1_000_000))
+abbrev pub begun : Bool → ℕ → State
+begun anchored limit = new_state (new_keywords anchored 1_000_000 limit)
 
 -- a reader that has nothing to give
 abbrev pub Nothing : Feed → Type 0
@@ -57,24 +57,24 @@ nothing_given f g given none consumed = by f.left g.left none consumed
         first_none (byte ∷ front) back e = absurd (cc e)
 
 -- what the pattern did where nothing is to be read
-did_meet : {X : Type 0} (see : List Node → X → Pattern) (fits : List Node → X → Type 0) (act : Action Pattern) (anchored : Bool) (b : State) (f g : Feed) (r : Result X Exit) → Nothing f → Reads see fits act (begun anchored) b f g r
-    → MeetsReading (see b.nodes) (act (start anchored)) (world b []) r
-did_meet see fits act anchored b f g r none did =
-    subst (λ (bytes : List ℕ). MeetsReading (see b.nodes) (act (new_world bytes (new_keywords anchored (pos 1_000_000)))) (world b []) r)
+did_meet : {X : Type 0} (see : List Node → X → Pattern) (fits : List Node → X → Type 0) (act : Action Pattern) (anchored : Bool) (limit : ℕ) (b : State) (f g : Feed) (r : Result X Exit) → Nothing f → Reads see fits act (begun anchored limit) b f g r
+    → MeetsReading (see b.nodes) (act (start anchored limit)) (world b []) r
+did_meet see fits act anchored limit b f g r none did =
+    subst (λ (bytes : List ℕ). MeetsReading (see b.nodes) (act (new_world bytes (new_keywords anchored 1_000_000 limit))) (world b []) r)
     (ap (λ (bytes : List ℕ). bytes ++ []) (nothing_given f g did.given none did.consumed)) (did.meets [] (λ told. refl))
 
 listing_is : (source : Source) (e : ExprId) (subject : List ℕ) (anchored : Bool) (limit : ℕ) → length subject ≤ 1_000_000
-    → listing source e subject anchored limit ≡ settles (built source e) (lists_ways subject anchored limit) (start anchored)
+    → listing source e subject anchored limit ≡ settles (built source e) (lists_ways subject anchored limit) (start anchored limit)
 listing_is source e subject anchored limit short =
     let fits : nat_lt 1_000_000 (length subject) ≡ false = le-ltb _ _ short in
-    ap (λ (b : Bool). (if b then stops (Error 8) else settles (built source e) (lists_ways subject anchored limit)) (start anchored)) fits
+    ap (λ (b : Bool). (if b then stops (Error 8) else settles (built source e) (lists_ways subject anchored limit)) (start anchored limit)) fits
 
 -- it is listed
-pub listed : (source : Source) (e : ExprId) (subject : List ℕ) (anchored : Bool) (limit : ℕ) (b : State) (f g : Feed) (id : PatId) → length subject ≤ 1_000_000 → Nothing f → Reads tree_of IsPatternOf (built source e) (begun anchored) b f g (Ok id)
+pub listed : (source : Source) (e : ExprId) (subject : List ℕ) (anchored : Bool) (limit : ℕ) (b : State) (f g : Feed) (id : PatId) → length subject ≤ 1_000_000 → Nothing f → Reads tree_of IsPatternOf (built source e) (begun anchored limit) b f g (Ok id)
     → listing source e subject anchored limit ≡ listed_all subject (trace (tree b.nodes id.0) subject anchored limit []) (world b [])
 unfolding settles
 listed source e subject anchored limit b f g id short none did =
-    listing_is source e subject anchored limit short ∙ ap (λ (o : Outcome Pattern). settled o.ending o.world o.wrote (lists_ways subject anchored limit)) (did_meet tree_of IsPatternOf (built source e) anchored b f g _ none did)
+    listing_is source e subject anchored limit short ∙ ap (λ (o : Outcome Pattern). settled o.ending o.world o.wrote (lists_ways subject anchored limit)) (did_meet tree_of IsPatternOf (built source e) anchored limit b f g _ none did)
 
 tells_of : (o : Outcome Unit) (after : World) (wrote : List ℕ) (r : Result Unit Stop) → Ends o after wrote r → Tells o wrote r
 tells_of o after wrote (Ok done) h = (ap (λ (p : Outcome Unit). p.ending) h, ap (λ (p : Outcome Unit). p.wrote) h)
@@ -88,34 +88,34 @@ pub told : (act : Action Unit) (o : Outcome Unit) (a b : State) (x y : Option (L
 told act o a b x y r is did = (did.wrote, did.appends, rw is (tells_of (act (world a [])) (world b []) did.wrote r (did.ends [])))
 
 -- it failed while it was built
-pub listed_failure : (source : Source) (e : ExprId) (subject : List ℕ) (anchored : Bool) (limit : ℕ) (b : State) (f g : Feed) → length subject ≤ 1_000_000 → Nothing f → Reads {X = PatId} tree_of IsPatternOf (built source e) (begun anchored) b f g (Err Failure)
+pub listed_failure : (source : Source) (e : ExprId) (subject : List ℕ) (anchored : Bool) (limit : ℕ) (b : State) (f g : Feed) → length subject ≤ 1_000_000 → Nothing f → Reads {X = PatId} tree_of IsPatternOf (built source e) (begun anchored limit) b f g (Err Failure)
     → listing source e subject anchored limit ≡ record { ending = Got tt; world = world b []; wrote = codes "exhausted\n" }
 unfolding settles
 listed_failure source e subject anchored limit b f g short none did =
-    listing_is source e subject anchored limit short ∙ ap (λ (o : Outcome Pattern). settled o.ending o.world o.wrote (lists_ways subject anchored limit)) (did_meet tree_of IsPatternOf (built source e) anchored b f g _ none did)
+    listing_is source e subject anchored limit short ∙ ap (λ (o : Outcome Pattern). settled o.ending o.world o.wrote (lists_ways subject anchored limit)) (did_meet tree_of IsPatternOf (built source e) anchored limit b f g _ none did)
 
 settled_stop : (subject : List ℕ) (anchored : Bool) (limit code : ℕ) (end : Ending Pattern) (w : World) (wrote : List ℕ) → end ≡ Stops (Error code) → wrote ≡ []
     → ((settled end w wrote (lists_ways subject anchored limit)).ending ≡ Stops (Error code)) × ((settled end w wrote (lists_ways subject anchored limit)).wrote ≡ [])
 settled_stop subject anchored limit code end w wrote e n = rw (e, n) (refl, refl)
 
 -- it ended the listing, which has written nothing
-pub listed_stop : (source : Source) (e : ExprId) (subject : List ℕ) (anchored : Bool) (limit : ℕ) (b : State) (f g : Feed) (why : Stop) → length subject ≤ 1_000_000 → Nothing f → g.broken ≡ false → Reads {X = PatId} tree_of IsPatternOf (built source e) (begun anchored) b f g (Err (Halt why))
+pub listed_stop : (source : Source) (e : ExprId) (subject : List ℕ) (anchored : Bool) (limit : ℕ) (b : State) (f g : Feed) (why : Stop) → length subject ≤ 1_000_000 → Nothing f → g.broken ≡ false → Reads {X = PatId} tree_of IsPatternOf (built source e) (begun anchored limit) b f g (Err (Halt why))
     → Tells (listing source e subject anchored limit) [] (Err why)
 unfolding settles
 listed_stop source e subject anchored limit b f g (HasError code) short none sound did =
-    let o = built source e (start anchored) in
-    let met = did_meet {X = PatId} tree_of IsPatternOf (built source e) anchored b f g (Err (Halt (HasError code))) none did in
+    let o = built source e (start anchored limit) in
+    let met = did_meet {X = PatId} tree_of IsPatternOf (built source e) anchored limit b f g (Err (Halt (HasError code))) none did in
     rw (listing_is source e subject anchored limit short) (settled_stop subject anchored limit code o.ending o.world o.wrote met.0 met.1)
 listed_stop source e subject anchored limit b f g NoMemory short none sound did = ((listing source e subject anchored limit).wrote, refl)
 listed_stop source e subject anchored limit b f g ReadFault short none sound did = absurd (cc (sym did.cause ∙ sound))
-listed_stop source e subject anchored limit b f g WriteFault short none sound did = absurd (did_meet {X = PatId} tree_of IsPatternOf (built source e) anchored b f g (Err (Halt WriteFault)) none did)
+listed_stop source e subject anchored limit b f g WriteFault short none sound did = absurd (did_meet {X = PatId} tree_of IsPatternOf (built source e) anchored limit b f g (Err (Halt WriteFault)) none did)
 
 -- evaluating a pattern writes nothing
-pub stop_unwritten : (act : Action Pattern) (anchored : Bool) (b : State) (f g : Feed) (why : Stop) → Nothing f → Reads {X = PatId} tree_of IsPatternOf act (begun anchored) b f g (Err (Halt why)) → why ≡ WriteFault → ⊥
-stop_unwritten act anchored b f g (HasError code) none did e = cc e
-stop_unwritten act anchored b f g NoMemory none did e = cc e
-stop_unwritten act anchored b f g ReadFault none did e = cc e
-stop_unwritten act anchored b f g WriteFault none did e = did_meet {X = PatId} tree_of IsPatternOf act anchored b f g (Err (Halt WriteFault)) none did
+pub stop_unwritten : (act : Action Pattern) (anchored : Bool) (limit : ℕ) (b : State) (f g : Feed) (why : Stop) → Nothing f → Reads {X = PatId} tree_of IsPatternOf act (begun anchored limit) b f g (Err (Halt why)) → why ≡ WriteFault → ⊥
+stop_unwritten act anchored limit b f g (HasError code) none did e = cc e
+stop_unwritten act anchored limit b f g NoMemory none did e = cc e
+stop_unwritten act anchored limit b f g ReadFault none did e = cc e
+stop_unwritten act anchored limit b f g WriteFault none did e = did_meet {X = PatId} tree_of IsPatternOf act anchored limit b f g (Err (Halt WriteFault)) none did
 
 -- a beginning of the line of a pattern that has no way
 pub told_in_part : (o : Outcome Unit) (lines part : List ℕ) → o.wrote ≡ lines → Begins part lines → Tells o part (Err WriteFault)

@@ -13,7 +13,7 @@ use Rattle.snobol.specs.declared.machine.Stop.TheVariants.{Error as HasError, No
 use Rattle.snobol.specs.World.{World}
 use Rattle.snobol.specs.Values.{Pat, shown, IsValueOf}
 use Rattle.snobol.specs.Action.{Error, Got, Outcome, Action, settled, settles, either, and_then, gives, fails, stops}
-use Rattle.snobol.specs.State.{State, world, Meets, Grows, Does}
+use Rattle.snobol.specs.State.{State, world, untouched, Meets, Grows, Does}
 
 -- tables that grow
 
@@ -68,7 +68,7 @@ pub stops_does : {X A : Type 0} (see : List Node → X → A) (fits : List Node 
 stops_does see fits s code = record { grows = grows_none s.nodes; meets = λ more. (refl, refl); answer = tt; unread = refl }
 
 -- want of memory may end any of them
-pub no_memory_does : {X A : Type 0} (see : List Node → X → A) (fits : List Node → X → Type 0) (act : Action A) (a b : State) → Grows a.nodes b.nodes → b.reading ≡ a.reading → Does see fits act a b (Err (Halt NoMemory))
+pub no_memory_does : {X A : Type 0} (see : List Node → X → A) (fits : List Node → X → Type 0) (act : Action A) (a b : State) → Grows a.nodes b.nodes → untouched b ≡ untouched a → Does see fits act a b (Err (Halt NoMemory))
 no_memory_does see fits act a b g u = record { grows = g; meets = λ more. tt; answer = tt; unread = u }
 
 -- an action that ended in one way, and what follows that

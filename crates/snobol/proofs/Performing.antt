@@ -10,7 +10,7 @@ use Rattle.snobol.specs.declared.machine.Stop.TheVariants.{Error as HasError, No
 use Rattle.snobol.specs.World.{World}
 use Rattle.snobol.specs.Values.{Value}
 use Rattle.snobol.specs.Action.{End, Error, Ending, Got, Fails, Stops, Outcome, Action, settled, settles, and_then, either, gives, fails}
-use Rattle.snobol.specs.State.{State, world}
+use Rattle.snobol.specs.State.{State, world, untouched}
 use Rattle.sno_match.specs.Search.{Event}
 use Rattle.sno_match.specs.Events.{in_trace}
 use Rattle.sno_match.specs.Within.{IsWithin}
@@ -35,7 +35,7 @@ pub nothing_done : (s : State) (taken : Option (List ℕ)) → Performs (gives t
 nothing_done s taken = record { wrote = []; appends = appends_nothing taken; ends = λ more. refl; unread = refl }
 
 -- want of memory before anything was written
-pub no_memory : (act : Action Unit) (a b : State) (taken : Option (List ℕ)) → b.reading ≡ a.reading → Performs act a b taken taken (Err NoMemory)
+pub no_memory : (act : Action Unit) (a b : State) (taken : Option (List ℕ)) → untouched b ≡ untouched a → Performs act a b taken taken (Err NoMemory)
 no_memory act a b taken u = record { wrote = []; appends = appends_nothing taken; ends = λ more. ((act (world a more)).wrote, refl); unread = u }
 
 ends_then : (o : Outcome Unit) (next : Unit → Action Unit) (b c : World) (first second : List ℕ) (r : Result Unit Stop)
@@ -106,7 +106,7 @@ output_written name value a b x y line out is has put =
       unread = refl;
     })
 
-pub output_cut : (name : Target) (value : Stored) (a b : State) (x y : Option (List ℕ)) (line : Vec ℕ Global) (part : List ℕ) → is_output name ≡ true → b.reading ≡ a.reading
+pub output_cut : (name : Target) (value : Stored) (a b : State) (x y : Option (List ℕ)) (line : Vec ℕ Global) (part : List ℕ) → is_output name ≡ true → untouched b ≡ untouched a
     → IsLineOf (text_of (shown a.nodes value)) (Ok line) → Begins part line.items → Appends x y part → Performs (assigns name (shown a.nodes value)) a b x y (Err WriteFault)
 output_cut name value a b x y line part out u has begins put =
     let t = text_there (text_of (shown a.nodes value)) line has in

@@ -18,7 +18,7 @@ use Rattle.snobol.specs.declared.machine.Exit.TheVariants.{Halt}
 use Rattle.snobol.specs.declared.machine.Stop.TheVariants.{Error as HasError}
 use Rattle.snobol.specs.Action.{Error, Stops, Action, stops}
 use Rattle.snobol.specs.Evaluate.{makes}
-use Rattle.snobol.specs.State.{State, world, IsKnown, Does, tree_of, IsPatternOf, exit_of}
+use Rattle.snobol.specs.State.{State, world, untouched, IsKnown, Does, tree_of, IsPatternOf, exit_of}
 use Rattle.snobol.specs.Primitives.{with_bytes, makes_primitive}
 use Rattle.snobol.proofs.Outcomes.{no_memory_does}
 use Rattle.snobol.proofs.Builders.{made}
@@ -35,35 +35,35 @@ primitive_made kind (Set bytes) a b id known same good h = set_made kind bytes.n
     set_made kind (byte ∷ bytes) a b id known same good h = made _ a b id known same h
 
 -- a part that stops with an error
-pub stopped : (act : Action Pattern) (code : ℕ) (a b : State) → b.nodes ≡ a.nodes → b.reading ≡ a.reading → ((more : List ℕ) → ((act (world a more)).ending ≡ Stops (Error code)) × ((act (world a more)).wrote ≡ []))
+pub stopped : (act : Action Pattern) (code : ℕ) (a b : State) → b.nodes ≡ a.nodes → untouched b ≡ untouched a → ((more : List ℕ) → ((act (world a more)).ending ≡ Stops (Error code)) × ((act (world a more)).wrote ≡ []))
     → Does {X = PatId} tree_of IsPatternOf act a b (Err (Halt (HasError code)))
 stopped act code a b same u ends = record { grows = ([], same ∙ sym (append-nil a.nodes)); meets = ends; answer = tt; unread = u }
 
 -- a builder finds no room
-pub full_makes : (p : Pattern) (a b : State) → b.nodes ≡ a.nodes → b.reading ≡ a.reading → length a.nodes ≡ 4000000 → Does {X = PatId} tree_of IsPatternOf (makes p) a b (Err (Halt (HasError 9)))
+pub full_makes : (p : Pattern) (a b : State) → b.nodes ≡ a.nodes → untouched b ≡ untouched a → length a.nodes ≡ 4000000 → Does {X = PatId} tree_of IsPatternOf (makes p) a b (Err (Halt (HasError 9)))
 full_makes p a b same u full =
     let room : nat_lt (length a.nodes) 4_000_000 ≡ false = le-ltb (length a.nodes) 4_000_000 (omega arith) in
     stopped (makes p) 9 a b same u (λ more. (rw room refl, rw room refl))
 
-null_set : (kind : PrimitiveKind) (arg : Arg) (a b : State) → b.nodes ≡ a.nodes → b.reading ≡ a.reading → IsNullSet arg → Does {X = PatId} tree_of IsPatternOf (makes_primitive kind arg) a b (Err (Halt (HasError 6)))
+null_set : (kind : PrimitiveKind) (arg : Arg) (a b : State) → b.nodes ≡ a.nodes → untouched b ≡ untouched a → IsNullSet arg → Does {X = PatId} tree_of IsPatternOf (makes_primitive kind arg) a b (Err (Halt (HasError 6)))
 null_set kind (Count n) a b same u null = absurd null
 null_set kind (Set bytes) a b same u null = rw null (stopped (stops (Error 6)) 6 a b same u (λ more. (refl, refl)))
 
-bad_count : (kind : PrimitiveKind) (arg : Arg) (a b : State) → b.nodes ≡ a.nodes → b.reading ≡ a.reading → IsBadCount arg → Does {X = PatId} tree_of IsPatternOf (makes_primitive kind arg) a b (Err (Halt (HasError 7)))
+bad_count : (kind : PrimitiveKind) (arg : Arg) (a b : State) → b.nodes ≡ a.nodes → untouched b ≡ untouched a → IsBadCount arg → Does {X = PatId} tree_of IsPatternOf (makes_primitive kind arg) a b (Err (Halt (HasError 7)))
 bad_count kind (Count (pos n)) a b same u bad = absurd (omega (arith, ints))
 bad_count kind (Count (negsuc n)) a b same u bad = stopped (stops (Error 7)) 7 a b same u (λ more. (refl, refl))
 bad_count kind (Set bytes) a b same u bad = absurd bad
 
-no_room : (kind : PrimitiveKind) (arg : Arg) (a b : State) → b.nodes ≡ a.nodes → b.reading ≡ a.reading → IsGoodArg arg → length a.nodes ≡ 4000000 → Does {X = PatId} tree_of IsPatternOf (makes_primitive kind arg) a b (Err (Halt (HasError 9)))
+no_room : (kind : PrimitiveKind) (arg : Arg) (a b : State) → b.nodes ≡ a.nodes → untouched b ≡ untouched a → IsGoodArg arg → length a.nodes ≡ 4000000 → Does {X = PatId} tree_of IsPatternOf (makes_primitive kind arg) a b (Err (Halt (HasError 9)))
 no_room kind (Count (pos n)) a b same u good full = full_makes (Leaf (with_count kind n)) a b same u full
 no_room kind (Count (negsuc n)) a b same u good full = absurd (omega (arith, ints))
 no_room kind (Set bytes) a b same u good full = no_room_for kind bytes.now a b same u good full
   where
-    no_room_for : (kind : PrimitiveKind) (bytes : List ℕ) (a b : State) → b.nodes ≡ a.nodes → b.reading ≡ a.reading → 0 < length bytes → length a.nodes ≡ 4000000 → Does {X = PatId} tree_of IsPatternOf (with_bytes kind bytes) a b (Err (Halt (HasError 9)))
+    no_room_for : (kind : PrimitiveKind) (bytes : List ℕ) (a b : State) → b.nodes ≡ a.nodes → untouched b ≡ untouched a → 0 < length bytes → length a.nodes ≡ 4000000 → Does {X = PatId} tree_of IsPatternOf (with_bytes kind bytes) a b (Err (Halt (HasError 9)))
     no_room_for kind [] a b same u good full = absurd (omega arith)
     no_room_for kind (byte ∷ bytes) a b same u good full = full_makes (Leaf (with_set kind (set_of (byte ∷ bytes)))) a b same u full
 
-pub primitive_refused : (kind : PrimitiveKind) (arg : Arg) (a b : State) (r : Result PatId BuildError) (e : BuildError) → r ≡ Err e → b.nodes ≡ a.nodes → b.reading ≡ a.reading
+pub primitive_refused : (kind : PrimitiveKind) (arg : Arg) (a b : State) (r : Result PatId BuildError) (e : BuildError) → r ≡ Err e → b.nodes ≡ a.nodes → untouched b ≡ untouched a
     → (IsErrOf r refusal.NullSet ↔ IsNullSet arg) → (IsErrOf r refusal.BadCount ↔ IsBadCount arg) → (IsErrOf r refusal.Full ↔ (IsGoodArg arg × (length a.nodes ≡ 4000000)))
     → Does tree_of IsPatternOf (makes_primitive kind arg) a b (Err (exit_of e))
 primitive_refused kind arg a b r refusal.NullSet is same u null bad full = null_set kind arg a b same u (null.0 is)

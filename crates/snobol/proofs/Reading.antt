@@ -8,12 +8,13 @@ use Rattle.snobol.specs.declared.machine.Exit.{Exit}
 use Rattle.snobol.specs.declared.machine.Exit.TheVariants.{Failure, Halt}
 use Rattle.snobol.specs.declared.machine.Stop.{Stop}
 use Rattle.snobol.specs.declared.machine.Stop.TheVariants.{Error as HasError, NoMemory, ReadFault, WriteFault}
-use Rattle.snobol.specs.World.{World}
+use Rattle.sno_io.specs.Lines.{Reading}
+use Rattle.snobol.specs.World.{World, Keywords}
 use Rattle.snobol.specs.Action.{Error, Got, Outcome, Action, settled, settles, either, and_then, fails}
-use Rattle.snobol.specs.State.{State, world, Meets, MeetsReading, Does, Reads, Feed, IsReady, OnGoing, HasCause}
+use Rattle.snobol.specs.State.{State, world, untouched, Meets, MeetsReading, Does, Reads, Feed, IsReady, OnGoing, HasCause}
 use Rattle.snobol.proofs.Outcomes.{grows_twice, fails_does}
 
-consumes_nothing : (left : Option (List ℕ)) → Consumes left left []
+pub consumes_nothing : (left : Option (List ℕ)) → Consumes left left []
 consumes_nothing None = tt
 consumes_nothing (Some bytes) = refl
 
@@ -38,18 +39,26 @@ unfaulted see o w (Err (Halt NoMemory)) f h = tt
 unfaulted see o w (Err (Halt ReadFault)) f h = absurd h
 unfaulted see o w (Err (Halt WriteFault)) f h = tt
 
-pub ready_unread : (a b : State) (f : Feed) → b.reading ≡ a.reading → IsReady a f → IsReady b f
-ready_unread a b f u ready = record { going = rw u ready.going; same = λ told. ready.same (rw u at told); sound = ready.sound }
+pub same_reading : (a b : State) → untouched b ≡ untouched a → b.reading ≡ a.reading
+same_reading a b u = ap (λ (p : Reading × Keywords). p.0) u
+
+pub same_keywords : (a b : State) → untouched b ≡ untouched a → b.keywords ≡ a.keywords
+same_keywords a b u = ap (λ (p : Reading × Keywords). p.1) u
+
+pub ready_unread : (a b : State) (f : Feed) → untouched b ≡ untouched a → IsReady a f → IsReady b f
+ready_unread a b f u ready = let s = same_reading a b u in record { going = rw s ready.going; same = λ told. ready.same (rw s at told); sound = ready.sound }
 
 -- what reads nothing
 pub reads_nothing : {X A : Type 0} (see : List Node → X → A) (fits : List Node → X → Type 0) (act : Action A) (a b : State) (f : Feed) (r : Result X Exit) → IsReady a f → Does see fits act a b r → Reads see fits act a b f f r
 reads_nothing see fits act a b f r ready did = record {
   given = [];
   consumed = consumes_nothing f.left;
-  ended = λ told. (refl, rw did.unread told);
+  ended = λ told. (refl, rw (same_reading a b did.unread) told);
   grows = did.grows;
   meets = λ more none. reading_meets (see b.nodes) (act (world a more)) (world b more) r (did.meets more);
   answer = did.answer;
+  kept = same_keywords a b did.unread;
+  tells = (ready_unread a b f did.unread ready).same;
   ready = going_on r (IsReady b f) (ready_unread a b f did.unread ready);
   cause = unfaulted (see b.nodes) (act (world a [])) (world b []) r f (did.meets []);
 }
@@ -59,7 +68,7 @@ reads_nothing see fits act a b f r ready did = record {
 settled_reading : {Y A B : Type 0} (look : Y → B) (k : Option A → Action B) (o p : Outcome A) (w : World) (r : Result Y Exit) → o ≡ p → MeetsReading {X = Y} look (settled p.ending p.world p.wrote k) w r → MeetsReading look (settled o.ending o.world o.wrote k) w r
 settled_reading look k o p w r is h = subst (λ (q : Outcome _). MeetsReading look (settled q.ending q.world q.wrote k) w r) (sym is) h
 
-none_given : (first second : List ℕ) → first ≡ [] → second ≡ [] → first ++ second ≡ []
+pub none_given : (first second : List ℕ) → first ≡ [] → second ≡ [] → first ++ second ≡ []
 none_given first second h k = rw (h, k) refl
 
 pub reads_got : {X Y A B : Type 0} (see : List Node → X → A) (fits : List Node → X → Type 0) (look : List Node → Y → B) (suits : List Node → Y → Type 0) (act : Action A) (k : Option A → Action B) (a b c : State) (f g h : Feed) (x : X) (r : Result Y Exit)
@@ -74,6 +83,8 @@ reads_got {A = A} see fits look suits act k a b c f g h x r p q = record {
       subst (λ (bytes : List ℕ). MeetsReading (look c.nodes) (settled (act (world a bytes)).ending (act (world a bytes)).world (act (world a bytes)).wrote k) (world c more) r) (sym (append_assoc p.given q.given more))
       (settled_reading (look c.nodes) k (act (world a (p.given ++ (q.given ++ more)))) _ (world c more) r (p.meets (q.given ++ more) (λ told. let n = q.ended told in none_given q.given more n.0 (none n.1))) (q.meets more none));
   answer = q.answer;
+  kept = q.kept ∙ p.kept;
+  tells = q.tells;
   ready = q.ready;
   cause = q.cause;
 }
@@ -90,6 +101,8 @@ reads_failed {A = A} see fits look suits act k a b c f g h r p q = record {
       subst (λ (bytes : List ℕ). MeetsReading (look c.nodes) (settled (act (world a bytes)).ending (act (world a bytes)).world (act (world a bytes)).wrote k) (world c more) r) (sym (append_assoc p.given q.given more))
       (settled_reading (look c.nodes) k (act (world a (p.given ++ (q.given ++ more)))) _ (world c more) r (p.meets (q.given ++ more) (λ told. let n = q.ended told in none_given q.given more n.0 (none n.1))) (q.meets more none));
   answer = q.answer;
+  kept = q.kept ∙ p.kept;
+  tells = q.tells;
   ready = q.ready;
   cause = q.cause;
 }
@@ -116,6 +129,8 @@ reads_halt {X = X} {Y = Y} see fits look suits act k a b f g why p = record {
   grows = p.grows;
   meets = λ more none. settled_halt (see b.nodes) (look b.nodes) k (act (world a (p.given ++ more))) (world b more) why (p.meets more none);
   answer = tt;
+  kept = p.kept;
+  tells = p.tells;
   ready = tt;
   cause = same_cause X Y why g p.cause;
 }

@@ -6,6 +6,10 @@ use Rattle.snobol.specs.World.{World}
 -- why a run is over
 pub data End : Type 0 where
   Error : (code : ℕ) → End
+  -- an error with the number of the statement that it names
+  ErrorIn : (code statement : ℕ) → End
+  -- the program came to its END
+  Ended : End
 
 -- a value, failure, or the end of the run
 pub data Ending (A : Type 0) : Type 0 where
@@ -47,3 +51,14 @@ either none some (Some x) = some x
 -- m, and then next with its value; where m fails all fails
 abbrev pub and_then : {A B : Type 0} → Action A → (A → Action B) → Action B
 and_then m next = settles m (either fails next)
+
+-- An error names the statement that is performed. What fails behind a statement is where it goes on, and that is error 11.
+abbrev pub named_end : {A : Type 0} → ℕ → Ending A → Ending A
+named_end statement (Got a) = Got a
+named_end statement Fails = Stops (ErrorIn 11 statement)
+named_end statement (Stops (Error code)) = Stops (ErrorIn code statement)
+named_end statement (Stops (ErrorIn code inner)) = Stops (ErrorIn code inner)
+named_end statement (Stops Ended) = Stops Ended
+
+abbrev pub in_statement : {A : Type 0} → ℕ → Action A → Action A
+in_statement statement m w = record { ending = named_end statement (m w).ending; world = (m w).world; wrote = (m w).wrote }

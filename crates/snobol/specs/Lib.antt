@@ -14,6 +14,10 @@ pub mod Reading
 pub mod Lines
 pub mod Session
 pub mod Performs
+pub mod Matches
+pub mod Statements
+pub mod Meaning
+pub mod Running
 pub mod Primitives
 pub mod Converted
 pub mod Operations

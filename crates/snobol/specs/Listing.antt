@@ -29,7 +29,7 @@ lists source e subject anchored limit =
 
 -- how the listing of a pattern that is read ends, and its lines
 abbrev pub listing : Source → ExprId → List ℕ → Bool → ℕ → Outcome Unit
-listing source e subject anchored limit = lists source e subject anchored limit (new_world [] (new_keywords anchored (pos 1_000_000)))
+listing source e subject anchored limit = lists source e subject anchored limit (new_world [] (new_keywords anchored 1_000_000 limit))
 
 -- What was written and how it ended is what the outcome says; where it was broken off, a beginning was written.
 abbrev pub Tells : Outcome Unit → List ℕ → Result Unit Stop → Type 0

@@ -8,7 +8,7 @@ use Rattle.snobol.specs.declared.machine.Stop.{Stop}
 use Rattle.snobol.specs.declared.machine.Stop.TheVariants.{Error as HasError, NoMemory, ReadFault, WriteFault}
 use Rattle.snobol.specs.World.{World}
 use Rattle.snobol.specs.Action.{Error, Got, Stops, Outcome, Action}
-use Rattle.snobol.specs.State.{State, world}
+use Rattle.snobol.specs.State.{State, world, untouched}
 
 -- what was written and how it ended is what the outcome says; where it was broken off, a beginning was written
 abbrev pub Ends : Outcome Unit → World → List ℕ → Result Unit Stop → Type 0
@@ -23,7 +23,7 @@ pub record Performs (act : Action Unit) (before after : State) (taken now : Opti
   pub wrote : List ℕ
   pub appends : Appends taken now wrote
   pub ends : (more : List ℕ) → Ends (act (world before more)) (world after more) wrote result
-  pub unread : after.reading ≡ before.reading
+  pub unread : untouched after ≡ untouched before
 
 -- a value's text with a line feed; a value without one is error 1
 abbrev pub IsLineOf : Option (List ℕ) → Result (Vec ℕ Global) Stop → Type 0

@@ -24,7 +24,6 @@ use Rattle.snobol.specs.declared.machine.Stop.TheVariants.{Error as HasError, No
 use Rattle.std.specs.Io.KnownBytes.{Consumes}
 use Rattle.sno_io.specs.Lines.{Reading}
 use Rattle.snobol.specs.World.{World, Keywords}
-use Rattle.snobol.specs.declared.machine.Keywords.{Keywords as Kept}
 use Rattle.snobol.specs.Action.{Error, Got, Fails, Stops, Outcome, Action}
 
 pub record State : Type 0 where
@@ -33,9 +32,6 @@ pub record State : Type 0 where
   -- the input that was read and is still held
   pub reading : Reading
   pub keywords : Keywords
-
-abbrev pub keywords_of : Kept → Keywords
-keywords_of k = record { anchor = k.anchor; trim = k.trim; limit = k.limit; begun = k.begun; statement = k.statement }
 
 abbrev pub new_state : Keywords → State
 new_state keywords = record { nodes = first_patterns; store = new_contents; reading = record { held = []; told_end = false; stopped = None }; keywords = keywords }
@@ -74,13 +70,17 @@ MeetsReading see o after (Err (Halt NoMemory)) = Unit {0}
 MeetsReading see o after (Err (Halt ReadFault)) = Unit {0}
 MeetsReading see o after (Err (Halt WriteFault)) = ⊥
 
+-- what evaluation leaves as it is: the input, where nothing is read, and the keywords
+abbrev pub untouched : State → Reading × Keywords
+untouched s = (s.reading, s.keywords)
+
 -- The code did what the action does, and read nothing. `see` says which value an answer stands for, and `fits` what holds
 -- of it, in the table after.
 pub record Does {X A : Type 0} (see : List Node → X → A) (fits : List Node → X → Type 0) (act : Action A) (before after : State) (result : Result X Exit) : Type 0 where
   pub grows : Grows before.nodes after.nodes
   pub meets : (more : List ℕ) → Meets (see after.nodes) (act (world before more)) (world after more) result
   pub answer : OnAnswer (fits after.nodes) result
-  pub unread : after.reading ≡ before.reading
+  pub unread : untouched after ≡ untouched before
 
 -- a reader, as far as it tells
 pub record Feed : Type 0 where
@@ -121,6 +121,8 @@ pub record Reads {X A : Type 0} (see : List Node → X → A) (fits : List Node 
   pub grows : Grows before.nodes after.nodes
   pub meets : (more : List ℕ) → (after.reading.told_end ≡ true → more ≡ []) → MeetsReading (see after.nodes) (act (world before (given ++ more))) (world after more) result
   pub answer : OnAnswer (fits after.nodes) result
+  pub kept : after.keywords ≡ before.keywords
+  pub tells : after.reading.told_end ≡ true → new.at_end ≡ true
   pub ready : OnGoing result (IsReady after new)
   pub cause : HasCause result new
 

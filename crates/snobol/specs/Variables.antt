@@ -46,7 +46,8 @@ joins name w = record { ending = Got (Var (symbol (length w.symbols))); world = 
 abbrev pub variable_named : List ℕ → Action Target
 variable_named [] w = stops (Error 6) w
 variable_named (byte ∷ bytes) w =
-    if is_symbol (byte ∷ bytes) w.symbols then gives (Var (symbol (place (byte ∷ bytes) w.symbols))) w
+    if nat_lt 1_000_000 (length (byte ∷ bytes)) then stops (Error 8) w
+    else if is_symbol (byte ∷ bytes) w.symbols then gives (Var (symbol (place (byte ∷ bytes) w.symbols))) w
     else if length w.symbols == 1_000_000 then stops (Error 9) w else joins (byte ∷ bytes) w
 
 -- the variable that a value names

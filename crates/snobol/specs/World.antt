@@ -9,11 +9,14 @@ pub record Keywords : Type 0 where
   pub anchor : ℤ
   pub trim : ℤ
   -- &STLIMIT: the most statements that may begin
-  pub limit : ℤ
+  pub limit : ℕ
   -- &STCOUNT: how many have begun
-  pub begun : ℤ
+  pub begun : ℕ
   -- &STNO: the number of the one that is performed
   pub statement : ℕ
+  -- the most that &STLIMIT may be, and the most steps of a match, which no program changes
+  pub cap : ℕ
+  pub steps : ℕ
 
 pub record World : Type 0 where
   -- how many pattern nodes there are
@@ -26,8 +29,8 @@ pub record World : Type 0 where
   pub keywords : Keywords
 
 -- before a program's first statement
-abbrev pub new_keywords : Bool → ℤ → Keywords
-new_keywords anchored limit = record { anchor = if anchored then pos 1 else pos 0; trim = pos 0; limit = limit; begun = pos 0; statement = 0 }
+abbrev pub new_keywords : Bool → ℕ → ℕ → Keywords
+new_keywords anchored cap steps = record { anchor = if anchored then pos 1 else pos 0; trim = pos 0; limit = cap; begun = 0; statement = 0; cap = cap; steps = steps }
 
 -- A new store has the variables that begin with a pattern, and INPUT and OUTPUT, which begin with null.
 abbrev pub new_world : List ℕ → Keywords → World

@@ -8,22 +8,29 @@ mod enumeration;
 mod evaluate;
 mod forms;
 mod functions;
+mod gotos;
 mod job;
+mod keywords;
 mod lines;
 mod listing;
 mod machine;
+mod matching;
 mod no_input;
 mod numbers;
 mod operators;
 mod pile;
+mod replacement;
+mod run;
 mod session;
+mod statements;
 mod texts;
 mod types;
 mod unary;
 
 pub use enumeration::{WaysOutcome, ways};
 pub use job::perform;
-pub use sno_io::{Device, DeviceFault, Job, Sink, command, put, status_of};
+pub use run::{Outcome, run};
+pub use sno_io::{Device, DeviceFault, Job, Limits, Sink, Source, command, put, status_of};
 pub use sno_text::ReadError;
 
 #[cfg(test)]

@@ -11,21 +11,18 @@ mod primitives;
 mod programs;
 mod session;
 mod sizes;
+mod statements;
 mod writers;
 
-use crate::machine::Keywords;
+use crate::keywords::Keywords;
 use crate::{Device, command, perform};
 use std::process::Abort;
 use std::test::Fail;
 
 /// Keywords as they are before a first statement.
-const KEYWORDS: Keywords = Keywords {
-    anchor: 0,
-    trim: 0,
-    limit: 1_000_000,
-    begun: 0,
-    statement: 0,
-};
+fn new_keywords() -> Keywords {
+    Keywords::new(false, 1_000_000, 1_000_000)
+}
 
 /// The words, what is written to standard output and to standard error, and the status.
 type Row<'a> = (&'a [&'a str], &'a str, &'a str, u8);

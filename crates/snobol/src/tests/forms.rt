@@ -4,7 +4,7 @@ ghost use Rattle.std.specs.List.{AllByRecursion};
 ghost use Rattle.sno_pattern.specs.Table.{Node};
 ghost use Rattle.snobol.specs.Values.{IsValueOf};
 
-use super::KEYWORDS;
+use super::new_keywords;
 use crate::apply::apply;
 use crate::forms::{Part, value_of};
 use crate::machine::{Exit, Machine, error};
@@ -39,7 +39,7 @@ fn given(machine: &mut Machine, text: &[u8], operands: &mut [Value]) -> Result<V
 fn number(alloc: Global, text: &[u8], x: i64, y: i64) -> Result<i64, Exit>
     requires { length text.now ≤ 1000 }
 {
-    let mut machine = Machine::new(alloc, KEYWORDS)?;
+    let mut machine = Machine::new(alloc, new_keywords())?;
     match given(&mut machine, text, &mut [Value::Int(x), Value::Int(y)])? {
         Value::Int(number) => Ok(number),
         _ => Err(Exit::Failure),
@@ -52,7 +52,7 @@ fn string(alloc: Global, text: &[u8], x: &[u8], y: &[u8]) -> Result<Vec<u8>, Exi
     requires x { length x.now ≤ 1_000_000 }
     requires y { length y.now ≤ 1_000_000 }
 {
-    let mut machine = Machine::new(alloc, KEYWORDS)?;
+    let mut machine = Machine::new(alloc, new_keywords())?;
     let mut operands = [string_value(alloc, x)?, string_value(alloc, y)?];
     match given(&mut machine, text, &mut operands)? {
         Value::Str(text) => Ok(text.into_vec()),
@@ -66,7 +66,7 @@ fn pattern(alloc: Global, text: &[u8], x: &[u8], y: &[u8]) -> Result<(u32, Shape
     requires x { length x.now ≤ 1_000_000 }
     requires y { length y.now ≤ 1_000_000 }
 {
-    let mut machine = Machine::new(alloc, KEYWORDS)?;
+    let mut machine = Machine::new(alloc, new_keywords())?;
     let mut operands = [string_value(alloc, x)?, string_value(alloc, y)?];
     match given(&mut machine, text, &mut operands)? {
         Value::Pat(id) if id.0 < machine.patterns().len() => Ok((
@@ -180,7 +180,7 @@ fn patterns(rt: HostRuntime) -> Result<(), Fail> {
 #[test]
 fn mixed_operands(rt: HostRuntime) -> Result<(), Fail> {
     let alloc = rt.alloc();
-    let mut machine = Machine::new(alloc, KEYWORDS)?;
+    let mut machine = Machine::new(alloc, new_keywords())?;
     let two = given(&mut machine, b"X Y", &mut [Value::Int(1), Value::Int(-2)])?;
     assert_eq!(rt; two, string_value(alloc, b"1-2")?);
     let null = string_value(alloc, b"")?;
@@ -274,7 +274,7 @@ fn named(machine: &mut Machine, text: &[u8], x: Value) -> Result<Value, Exit>
 #[test]
 fn names(rt: HostRuntime) -> Result<(), Fail> {
     let alloc = rt.alloc();
-    let mut machine = Machine::new(alloc, KEYWORDS)?;
+    let mut machine = Machine::new(alloc, new_keywords())?;
     let y = string_value(alloc, b"Y")?;
     assert_eq!(rt;
         named(&mut machine, b"X", Value::Int(0)),
@@ -306,7 +306,7 @@ fn names(rt: HostRuntime) -> Result<(), Fail> {
 #[test]
 fn names_by_values(rt: HostRuntime) -> Result<(), Fail> {
     let alloc = rt.alloc();
-    let mut machine = Machine::new(alloc, KEYWORDS)?;
+    let mut machine = Machine::new(alloc, new_keywords())?;
     let null = string_value(alloc, b"")?;
     assert_eq!(rt;
         named(&mut machine, b"$X", Value::Name(Name::Elem(ObjId(0), 1))),
@@ -326,7 +326,7 @@ fn names_by_values(rt: HostRuntime) -> Result<(), Fail> {
 
 #[test]
 fn forms_without_a_name(rt: HostRuntime) -> Result<(), Fail> {
-    let mut machine = Machine::new(rt.alloc(), KEYWORDS)?;
+    let mut machine = Machine::new(rt.alloc(), new_keywords())?;
     assert_eq!(rt; named(&mut machine, b"'A'", Value::Int(0)), Err(error(15)));
     assert_eq!(rt; named(&mut machine, b"-X", Value::Int(0)), Err(error(15)));
     assert_eq!(rt; named(&mut machine, b"X Y", Value::Int(0)), Err(error(15)));
@@ -339,7 +339,7 @@ fn forms_without_a_name(rt: HostRuntime) -> Result<(), Fail> {
 #[test]
 fn names_as_values(rt: HostRuntime) -> Result<(), Fail> {
     let alloc = rt.alloc();
-    let mut machine = Machine::new(alloc, KEYWORDS)?;
+    let mut machine = Machine::new(alloc, new_keywords())?;
     let text = string_value(alloc, b"FENCE")?;
     let same = Value::Name(Name::Entry(ObjId(2), 1));
     assert_eq!(rt;
@@ -359,7 +359,7 @@ fn names_as_values(rt: HostRuntime) -> Result<(), Fail> {
 
 #[test]
 fn values_by_names(rt: HostRuntime) -> Result<(), Fail> {
-    let mut machine = Machine::new(rt.alloc(), KEYWORDS)?;
+    let mut machine = Machine::new(rt.alloc(), new_keywords())?;
     assert_eq!(rt;
         given_one(&mut machine, b"$X", Value::Name(variable(4))),
         Ok(Value::Pat(PatId(4)))
@@ -379,7 +379,7 @@ fn values_by_names(rt: HostRuntime) -> Result<(), Fail> {
 fn assigning(alloc: Global, text: &[u8]) -> Result<(u32, Shape), Exit>
     requires { length text.now ≤ 1000 }
 {
-    let mut machine = Machine::new(alloc, KEYWORDS)?;
+    let mut machine = Machine::new(alloc, new_keywords())?;
     match given_two(
         &mut machine,
         text,
@@ -396,7 +396,7 @@ fn assigning(alloc: Global, text: &[u8]) -> Result<(u32, Shape), Exit>
 
 /// The shape of the pattern that @X makes of OUTPUT.
 fn cursor(alloc: Global) -> Result<(u32, Shape), Exit> {
-    let mut machine = Machine::new(alloc, KEYWORDS)?;
+    let mut machine = Machine::new(alloc, new_keywords())?;
     match given_one(&mut machine, b"@X", Value::Name(variable(8)))? {
         Value::Pat(id) if id.0 < machine.patterns().len() => Ok((
             id.0,
@@ -425,7 +425,7 @@ fn patterns_that_assign(rt: HostRuntime) -> Result<(), Fail> {
 /// The types are judged before a node is made.
 #[test]
 fn types_of_assignments(rt: HostRuntime) -> Result<(), Fail> {
-    let mut machine = Machine::new(rt.alloc(), KEYWORDS)?;
+    let mut machine = Machine::new(rt.alloc(), new_keywords())?;
     assert_eq!(rt;
         given_one(&mut machine, b"@X", Value::Int(1)),
         Err(error(1))

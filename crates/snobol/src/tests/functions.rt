@@ -4,7 +4,7 @@ ghost use Rattle.std.specs.List.{AllByRecursion};
 ghost use Rattle.sno_pattern.specs.Table.{Node};
 ghost use Rattle.snobol.specs.Values.{IsValueOf};
 
-use super::KEYWORDS;
+use super::new_keywords;
 use crate::apply::apply;
 use crate::convert::null;
 use crate::forms::value_of;
@@ -425,7 +425,7 @@ fn other(k: u32) -> Value
 fn given_two(alloc: Global, text: &[u8], j: u32, k: u32) -> Result<Value, Exit>
     requires { length text.now ≤ 1000 }
 {
-    let mut machine = Machine::new(alloc, KEYWORDS)?;
+    let mut machine = Machine::new(alloc, new_keywords())?;
     let mut operands = [other(j), other(k)];
     given(&mut machine, text, &mut operands)
 }

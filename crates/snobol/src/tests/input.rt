@@ -1,5 +1,5 @@
 //! Lines of input as values.
-use crate::machine::{Exit, Keywords, Machine, Stop, error};
+use crate::machine::{Exit, Machine, Stop, error};
 use sno_io::Device;
 use sno_value::{Name, SymId, Value};
 use std::alloc::Global;
@@ -10,16 +10,8 @@ const INPUT: Name = Name::Var(SymId(7));
 
 /// What INPUT gives first, where lines are trimmed or aren't.
 fn first_line(alloc: Global, trim: i64, input: &[u8]) -> Result<Vec<u8>, Exit> {
-    let mut machine = Machine::new(
-        alloc,
-        Keywords {
-            anchor: 0,
-            trim,
-            limit: 1_000_000,
-            begun: 0,
-            statement: 0,
-        },
-    )?;
+    let mut machine = Machine::new(alloc, super::new_keywords())?;
+    machine.set_keyword(b"TRIM", trim)?;
     machine.forget_input();
     match machine.read(&mut Device::new(input), INPUT)? {
         Value::Str(text) => Ok(text.into_vec()),
@@ -71,7 +63,7 @@ impl Read for Broken {
 
 /// What a reader that fails gives.
 fn from_a_broken_reader(alloc: Global) -> Result<Value, Exit> {
-    let mut machine = Machine::new(alloc, super::KEYWORDS)?;
+    let mut machine = Machine::new(alloc, super::new_keywords())?;
     machine.forget_input();
     machine.read(&mut Device::new(Broken), INPUT)
 }

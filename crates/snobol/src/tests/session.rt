@@ -3,7 +3,7 @@ ghost use Rattle.std.specs.Prelude.{◌≤◌, List, length, IfOk};
 ghost use Rattle.sno_pattern.specs.Table.{Node};
 ghost use Rattle.snobol.specs.Values.{IsValueOf};
 
-use super::KEYWORDS;
+use super::new_keywords;
 use crate::machine::{Exit, Machine, Stop};
 use crate::no_input::NoInput;
 use crate::session::assign;
@@ -54,7 +54,7 @@ fn check_output<R: Abort + AllocGlobal>(
 #[test]
 fn values_given_to_output(rt: HostRuntime) -> Result<(), Fail> {
     let alloc = rt.alloc();
-    let mut machine = Machine::new(alloc, KEYWORDS)?;
+    let mut machine = Machine::new(alloc, new_keywords())?;
     let (text, same) = (string(alloc, b"AB")?, string(alloc, b"AB")?);
     check_output(&rt, &mut machine, text, b"AB\n", Ok(()), same)?;
     let (null, same) = (string(alloc, b"")?, string(alloc, b"")?);
@@ -72,7 +72,7 @@ fn values_given_to_output(rt: HostRuntime) -> Result<(), Fail> {
 /// A value without a text is error 1, and isn't kept.
 #[test]
 fn values_that_output_refuses(rt: HostRuntime) -> Result<(), Fail> {
-    let mut machine = Machine::new(rt.alloc(), KEYWORDS)?;
+    let mut machine = Machine::new(rt.alloc(), new_keywords())?;
     let wrong_type = Err(Stop::Error(1));
     check_output(
         &rt,
@@ -112,7 +112,7 @@ fn values_that_output_refuses(rt: HostRuntime) -> Result<(), Fail> {
 #[test]
 fn values_given_to_variables(rt: HostRuntime) -> Result<(), Fail> {
     let alloc = rt.alloc();
-    let mut machine = Machine::new(alloc, KEYWORDS)?;
+    let mut machine = Machine::new(alloc, new_keywords())?;
     match machine.variable(b"X") {
         Ok(x) => {
             let mut output = Device::new(Vec::new(alloc));

@@ -1,0 +1,136 @@
+-- What functions did that read and write.
+use Rattle.std.specs.Prelude.{◌≡◌, ℕ, ◌<◌, ◌≤◌, Bool, true, false, List, [], ◌++◌, Option, Result, Ok, Err}
+use Rattle.std.specs.Io.KnownBytes.{Consumes, Appends}
+use Rattle.sno_io.specs.Devices.{Begins}
+use Rattle.sno_pattern.specs.Table.{Node}
+use Rattle.snobol.specs.declared.machine.Exit.{Exit}
+use Rattle.snobol.specs.declared.machine.Exit.TheVariants.{Failure, Halt}
+use Rattle.snobol.specs.declared.machine.Stop.{Stop}
+use Rattle.snobol.specs.declared.machine.Stop.TheVariants.{Error as HasError, NoMemory, ReadFault, WriteFault}
+use Rattle.sno_io.specs.declared.jobs.Limits.{Limits}
+use Rattle.snobol.specs.declared.run.Outcome.{Outcome as RunOutcome}
+use Rattle.snobol.specs.declared.run.Outcome.TheVariants as ran
+use Rattle.snobol.specs.World.{World, Keywords}
+use Rattle.snobol.specs.Action.{Error, ErrorIn, Ended, Got, Fails, Stops, Outcome, Action}
+use Rattle.snobol.specs.State.{State, world, Feed, feed, IsReady, Grows, OnAnswer, OnGoing, itself, any}
+
+-- a reader and a writer, as far as they tell
+pub record Devices : Type 0 where
+  pub reader : Feed
+  -- the bytes that the writer has taken, and whether it has failed
+  pub taken : Option (List ℕ)
+  pub stuck : Bool
+
+abbrev pub devices : Option (List ℕ) → Bool → Bool → Option (List ℕ) → Bool → Devices
+devices left at_end broken taken stuck = record { reader = feed left at_end broken; taken = taken; stuck = stuck }
+
+-- neither has failed, and the reader is that of the call before
+pub record CanRun (s : State) (d : Devices) : Type 0 where
+  pub reads : IsReady s d.reader
+  pub writes : d.stuck ≡ false
+
+-- how what the code answers meets the outcome of an action; where it was broken off, a beginning was written
+abbrev pub MeetsRunning : {X A : Type 0} → (X → A) → Outcome A → World → List ℕ → Result X Exit → Type 0
+MeetsRunning see o after wrote (Ok x) = o ≡ record { ending = Got (see x); world = after; wrote = wrote }
+MeetsRunning see o after wrote (Err Failure) = o ≡ record { ending = Fails; world = after; wrote = wrote }
+MeetsRunning see o after wrote (Err (Halt (HasError code))) = (o.ending ≡ Stops (Error code)) × (o.wrote ≡ wrote)
+MeetsRunning see o after wrote (Err (Halt NoMemory)) = Begins wrote o.wrote
+MeetsRunning see o after wrote (Err (Halt ReadFault)) = Begins wrote o.wrote
+MeetsRunning see o after wrote (Err (Halt WriteFault)) = Begins wrote o.wrote
+
+-- a fault has its cause
+abbrev pub HasFault : {X : Type 0} → Result X Exit → Devices → Type 0
+HasFault (Ok x) d = Unit {0}
+HasFault (Err Failure) d = Unit {0}
+HasFault (Err (Halt (HasError code))) d = Unit {0}
+HasFault (Err (Halt NoMemory)) d = Unit {0}
+HasFault (Err (Halt ReadFault)) d = d.reader.broken ≡ true
+HasFault (Err (Halt WriteFault)) d = d.stuck ≡ true
+
+-- what no statement changes, and what only grows
+pub record Goes (before after : Keywords) : Type 0 where
+  pub cap : after.cap ≡ before.cap
+  pub begun : before.begun ≤ after.begun
+
+-- The code did what the action does, and wrote what it writes, for whatever input may still come behind what the reader
+-- gave; nothing comes once the end was told.
+pub record Runs {X A : Type 0} (see : List Node → X → A) (fits : List Node → X → Type 0) (act : Action A) (before after : State) (old new : Devices) (result : Result X Exit) : Type 0 where
+  pub given : List ℕ
+  pub wrote : List ℕ
+  pub consumed : Consumes old.reader.left new.reader.left given
+  pub appends : Appends old.taken new.taken wrote
+  pub ended : before.reading.told_end ≡ true → (given ≡ []) × (after.reading.told_end ≡ true)
+  pub tells : after.reading.told_end ≡ true → new.reader.at_end ≡ true
+  pub grows : Grows before.nodes after.nodes
+  pub goes : Goes before.keywords after.keywords
+  pub meets : (more : List ℕ) → (after.reading.told_end ≡ true → more ≡ []) → MeetsRunning (see after.nodes) (act (world before (given ++ more))) (world after more) wrote result
+  pub answer : OnAnswer (fits after.nodes) result
+  pub ready : OnGoing result (CanRun after new)
+  pub cause : HasFault result new
+
+-- a part of a text of n bytes
+abbrev pub IsSpanOf : ℕ → List Node → ℕ × ℕ → Type 0
+IsSpanOf n nodes span = (span.0 ≤ span.1) × (span.1 ≤ n)
+
+-- how a run that is over meets the outcome of its program
+abbrev pub MeetsOutcome : {A : Type 0} → Outcome A → List ℕ → RunOutcome → Type 0
+MeetsOutcome o wrote ran.Ended = (o.ending ≡ Stops Ended) × (o.wrote ≡ wrote)
+MeetsOutcome o wrote (ran.Error code statement) = (o.ending ≡ Stops (ErrorIn code statement)) × (o.wrote ≡ wrote)
+MeetsOutcome o wrote ran.NoMemory = Begins wrote o.wrote
+MeetsOutcome o wrote ran.ReadFault = Begins wrote o.wrote
+MeetsOutcome o wrote ran.WriteFault = Begins wrote o.wrote
+
+-- a fault has its cause
+abbrev pub HasCauseOf : RunOutcome → Devices → Type 0
+HasCauseOf ran.Ended d = Unit {0}
+HasCauseOf (ran.Error code statement) d = Unit {0}
+HasCauseOf ran.NoMemory d = Unit {0}
+HasCauseOf ran.ReadFault d = d.reader.broken ≡ true
+HasCauseOf ran.WriteFault d = d.stuck ≡ true
+
+-- The code did what a part of the program does that ends the run.
+pub record Stopped {A : Type 0} (act : Action A) (before after : State) (old new : Devices) (outcome : RunOutcome) : Type 0 where
+  pub given : List ℕ
+  pub wrote : List ℕ
+  pub consumed : Consumes old.reader.left new.reader.left given
+  pub appends : Appends old.taken new.taken wrote
+  pub ended : before.reading.told_end ≡ true → (given ≡ []) × (after.reading.told_end ≡ true)
+  pub tells : after.reading.told_end ≡ true → new.reader.at_end ≡ true
+  pub meets : (more : List ℕ) → (after.reading.told_end ≡ true → more ≡ []) → MeetsOutcome (act (world before (given ++ more))) wrote outcome
+  pub cause : HasCauseOf outcome new
+
+-- what ends a statement ends the run, in that statement
+abbrev pub ran_in : ℕ → Exit → RunOutcome
+ran_in statement Failure = ran.Error 11 statement
+ran_in statement (Halt (HasError code)) = ran.Error code statement
+ran_in statement (Halt NoMemory) = ran.NoMemory
+ran_in statement (Halt ReadFault) = ran.ReadFault
+ran_in statement (Halt WriteFault) = ran.WriteFault
+
+-- A statement was performed behind which the run goes on, and one more has begun; or it ended the run.
+abbrev pub Steps : Action ℕ → State → State → Devices → Devices → Result ℕ RunOutcome → Type 0
+Steps act before after old new (Ok next) = Runs {X = ℕ} itself any act before after old new (Ok next) × (before.keywords.begun < after.keywords.begun)
+Steps act before after old new (Err outcome) = Stopped act before after old new outcome
+
+-- the limits lie in their ranges
+pub record IsLimits (limits : Limits) : Type 0 where
+  pub some : 1 ≤ limits.statements
+  pub statements : limits.statements ≤ 1_000_000_000_000
+  pub match_steps : limits.match_steps ≤ 1_000_000_000
+
+-- whether an attempt succeeded
+abbrev pub attempted : Result Unit Exit → Result Bool Exit
+attempted (Ok done) = Ok true
+attempted (Err Failure) = Ok false
+attempted (Err (Halt why)) = Err (Halt why)
+
+-- The input that may be: it begins with what the reader gave and, if the reader told its end, is just that.
+abbrev pub IsPossible : List ℕ → Bool → List ℕ → Type 0
+IsPossible given at_end input = (more : List ℕ) × (input ≡ given ++ more) × (at_end ≡ true → more ≡ [])
+
+-- For every possible input the run ended as its meaning says and wrote what that says, or was broken off and wrote a
+-- beginning of it.
+abbrev pub RunsAs : (List ℕ → Outcome Unit) → Devices → Devices → RunOutcome → Type 0
+RunsAs meaning old new outcome =
+    (given : List ℕ) × (wrote : List ℕ) × Consumes old.reader.left new.reader.left given × Appends old.taken new.taken wrote
+    × ((input : List ℕ) → IsPossible given new.reader.at_end input → MeetsOutcome (meaning input) wrote outcome)
