@@ -9,8 +9,9 @@ use Rattle.clap.specs.declared.parser.matches.ArgMatches.{ArgMatches}
 use Rattle.clap.specs.declared.parser.matches.ArgMatches.TheViews.{out-ArgMatches, out-SubCommand}
 use Rattle.clap.specs.declared.parser.matches.SubCommand.{SubCommand}
 use Rattle.sno_io.specs.declared.jobs.Job.{Job}
-use Rattle.sno_io.specs.declared.jobs.Job.TheVariants.{Check, Ways}
-use Rattle.sno_io.specs.Commands.{HoldsJob, IsCheck, IsJobOf, IsWays, snobol4}
+use Rattle.sno_io.specs.declared.jobs.Job.TheVariants.{Check, Run, Ways}
+use Rattle.sno_io.specs.declared.jobs.Limits.{Limits}
+use Rattle.sno_io.specs.Commands.{HoldsJob, IsCheck, IsJobOf, IsRun, IsWays, snobol4}
 
 -- the command that a parse found, of that name and with these rows
 pub found_is : (m : ArgMatches) (name : Text) (rows : List Row) → Some name ≡ subcommand_name_of m → Some rows ≡ option_map (λ f. f.1) (subcommand_rows_of m) → subcommand_rows_of m ≡ Some (name, rows)
@@ -20,12 +21,24 @@ found_is m name rows = go (out-ArgMatches m).subcommand
     go None e h = absurd (cc)
     go (Some b) e h = cc
 
+-- where the rows hold no words of `run`, they hold no job of that name
+pub no_run : (rows : List Row) (o : Option Job) → IfNone o ((file : Text) (limits : Limits) → IsRun rows file limits → ⊥)
+    → IfNone o ((job : Job) → HoldsJob (Some (codes "run", rows)) job → ⊥)
+no_run rows (Some job) refuted = tt
+no_run rows None refuted = go
+  where
+    go : (job : Job) → HoldsJob (Some (codes "run", rows)) job → ⊥
+    go (Run file limits) h = refuted file.now limits h.1
+    go (Check file) h = let is = h.0 in absurd (cc)
+    go (Ways anchored steps pattern subject) h = let is = h.0 in absurd (cc)
+
 -- where the rows hold no words of `check`, they hold no job of that name
 pub no_check : (rows : List Row) (o : Option Job) → IfNone o ((file : Text) → IsCheck rows file → ⊥) → IfNone o ((job : Job) → HoldsJob (Some (codes "check", rows)) job → ⊥)
 no_check rows (Some job) refuted = tt
 no_check rows None refuted = go
   where
     go : (job : Job) → HoldsJob (Some (codes "check", rows)) job → ⊥
+    go (Run file limits) h = let is = h.0 in absurd (cc)
     go (Check file) h = refuted file.now h.1
     go (Ways anchored steps pattern subject) h = let is = h.0 in absurd (cc)
 
@@ -36,6 +49,7 @@ no_ways rows (Some job) refuted = tt
 no_ways rows None refuted = go
   where
     go : (job : Job) → HoldsJob (Some (codes "ways", rows)) job → ⊥
+    go (Run file limits) h = let is = h.0 in absurd (cc)
     go (Check file) h = let is = h.0 in absurd (cc)
     go (Ways anchored steps pattern subject) h = refuted anchored steps pattern.now subject.now h.1
 

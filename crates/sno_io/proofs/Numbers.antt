@@ -69,8 +69,11 @@ module _ (least most default : ℕ) (id : Text) (rows : List Row) where
       most_holds = high;
     }
 
-    pub no_numeral : (IsNumeral 10 (without_leading_plus text) × (digits_value 10 (without_leading_plus text) < 2 ^ 32) → ⊥) → most < 2 ^ 32 → (n : ℕ) → IsNumber least most default id rows n → ⊥
+    pub no_numeral : (IsNumeral 10 (without_leading_plus text) × (digits_value 10 (without_leading_plus text) < 2 ^ 64) → ⊥) → most < 2 ^ 64 → (n : ℕ) → IsNumber least most default id rows n → ⊥
     no_numeral refuted small n h = let g = h.given text there in let is = g.1 in let high = h.most_holds in refuted (g.0, omega (arith, is, high))
 
     pub too_large : (v : ℕ) → v ≡ digits_value 10 (without_leading_plus text) → most < v → (n : ℕ) → IsNumber least most default id rows n → ⊥
     too_large v is large n h = let same = (h.given text there).1 in let high = h.most_holds in absurd (omega (arith, same, high))
+
+    pub too_small : (v : ℕ) → v ≡ digits_value 10 (without_leading_plus text) → v < least → (n : ℕ) → IsNumber least most default id rows n → ⊥
+    too_small v is small n h = let same = (h.given text there).1 in let low = h.least_holds in absurd (omega (arith, same, low))

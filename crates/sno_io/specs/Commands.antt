@@ -10,7 +10,8 @@ use Rattle.clap.specs.declared.error.Error.{Error}
 use Rattle.clap.specs.declared.error.kind.ErrorKind.{ErrorKind}
 use Rattle.clap.specs.declared.error.kind.ErrorKind.TheVariants.{DisplayHelp, DisplayVersion, OutOfMemory}
 use Rattle.sno_io.specs.declared.jobs.Job.{Job}
-use Rattle.sno_io.specs.declared.jobs.Job.TheVariants.{Check, Ways}
+use Rattle.sno_io.specs.declared.jobs.Job.TheVariants.{Check, Run, Ways}
+use Rattle.sno_io.specs.declared.jobs.Limits.{Limits}
 
 -- ---- the commands
 
@@ -25,6 +26,14 @@ number_rule id parser = record (new_rule id) { long = Some id; action = Some Set
 -- a flag `--id`
 abbrev pub flag_rule : Text → Rule
 flag_rule id = record (new_rule id) { long = Some id; action = Some SetTrue }
+
+-- run FILE [--statements N] [--match-steps N]
+abbrev pub run_app : App
+run_app =
+    with_rule (with_rule (with_rule (new_app (codes "run"))
+    (number_rule (codes "statements") (parsers.Unsigned 1 1000000000000)))
+    (number_rule (codes "match-steps") (parsers.Unsigned 0 1000000000)))
+    (word_rule (codes "FILE"))
 
 -- check FILE
 abbrev pub check_app : App
@@ -45,7 +54,7 @@ bare_app = on_top (λ s. record s { arg_required_else_help = true; subcommand_re
 
 -- the program with its commands
 abbrev pub snobol4 : App
-snobol4 = with_subcommand (with_subcommand bare_app check_app.top) ways_app.top
+snobol4 = with_subcommand (with_subcommand (with_subcommand bare_app run_app.top) check_app.top) ways_app.top
 
 -- ---- what the words hold, by the rows that `clap` finds in them
 
@@ -62,6 +71,12 @@ pub record IsFlag (id : Text) (rows : List Row) (flag : Bool) : Type 0 where
   pub given : one_of id rows ≡ Some (codes "true") → flag ≡ true
   pub not_given : one_of id rows ≡ Some (codes "false") → flag ≡ false
 
+-- What the words of `run` hold.
+pub record IsRun (rows : List Row) (file : Text) (limits : Limits) : Type 0 where
+  pub file_is : first_of (codes "FILE") rows ≡ Some file
+  pub statements_are : IsNumber 1 1000000000000 1000000 (codes "statements") rows limits.statements
+  pub match_steps_are : IsNumber 0 1000000000 1000000 (codes "match-steps") rows limits.match_steps
+
 -- What the words of `check` hold.
 pub record IsCheck (rows : List Row) (file : Text) : Type 0 where
   pub file_is : first_of (codes "FILE") rows ≡ Some file
@@ -75,6 +90,7 @@ pub record IsWays (rows : List Row) (anchored : Bool) (steps : ℕ) (pattern sub
 
 -- the job of the command of that name, whose words gave these rows
 abbrev pub IsJob : Text → List Row → Job → Type 0
+IsJob name rows (Run file limits) = (name ≡ codes "run") × IsRun rows file.now limits
 IsJob name rows (Check file) = (name ≡ codes "check") × IsCheck rows file.now
 IsJob name rows (Ways anchored steps pattern subject) = (name ≡ codes "ways") × IsWays rows anchored steps pattern.now subject.now
 

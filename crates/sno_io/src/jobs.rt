@@ -12,6 +12,13 @@ pub struct Limits {
 /// What the program is to do.
 #[derive(Clone, Copy, Debug, PartialEq, Eq)]
 pub enum Job<'a> {
+    /// Run a program.
+    Run {
+        /// The file that holds the program.
+        file: &'a str,
+        /// What the run may use; where the words say nothing, 1,000,000 statements and 1,000,000 steps of each match.
+        limits: Limits,
+    },
     /// Read a program, and say what is wrong with it.
     Check {
         /// The file that holds the program.

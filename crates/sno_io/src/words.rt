@@ -1,21 +1,33 @@
 //! The words of the command line, which `clap` reads.
-ghost use Rattle.std.specs.Prelude.{◌≡◌, ℕ, Bool, codes, false, map, IfErr, IfNone, IfOk, IfSome, List};
+ghost use Rattle.std.specs.Prelude.{◌≡◌, ◌≤◌, ℕ, Bool, codes, false, map, IfErr, IfNone, IfOk, IfSome, List};
 ghost use Rattle.clap.specs.Words.{app_of, found_of, kind_of, rows_of, rule_of, subcommand_rows_of};
 ghost use Rattle.clap.specs.declared.builder.value_parser.ValueParser.TheVariants as parsers;
 ghost use Rattle.sno_io.specs.declared.jobs.Job.{Job};
-ghost use Rattle.sno_io.specs.Commands.{flag_rule, number_rule, snobol4, status, word_rule, HoldsJob, IsCheck, IsJob, IsJobOf, IsNumber, IsRefusalOf, IsWays};
+ghost use Rattle.sno_io.specs.declared.jobs.Limits.{Limits};
+ghost use Rattle.sno_io.specs.Commands.{flag_rule, number_rule, snobol4, status, word_rule, HoldsJob, IsCheck, IsJob, IsJobOf, IsNumber, IsRefusalOf, IsRun, IsWays};
 
-use crate::jobs::Job;
+use crate::jobs::{Job, Limits};
 use clap::builder::ValueParser;
 use clap::error::ErrorKind;
 use clap::{Arg, ArgAction, ArgMatches, Command, Error};
 use std::alloc::{AllocError, Global};
 
+/// The most statements of a run that the words may ask for.
+const MOST_STATEMENTS: u64 = 1_000_000_000_000;
+
+/// The statements of a run, where the words say nothing.
+const DEFAULT_STATEMENTS: u64 = 1_000_000;
+
 /// The most steps of a match that the words may ask for.
-const MOST_STEPS: u32 = 1_000_000_000;
+const MOST_STEPS: u64 = 1_000_000_000;
 
 /// The steps of a match, where the words say nothing.
-const DEFAULT_STEPS: u32 = 1_000_000;
+const DEFAULT_STEPS: u64 = 1_000_000;
+
+const STATEMENTS_HELP: &str =
+    "The most statements of the run: 1 to 1000000000000 [default: 1000000]";
+
+const MATCH_STEPS_HELP: &str = "The most steps of each match: 0 to 1000000000 [default: 1000000]";
 
 const STEPS_HELP: &str = "The most steps of the match: 0 to 1000000000 [default: 1000000]";
 
@@ -50,19 +62,25 @@ pub fn status_of(error: &Error) -> u8
 fn program<'a>(alloc: Global) -> Result<Command<'a>, AllocError>
     ensures { IfOk result (λ c. app_of c ≡ snobol4) }
 {
+    let run = Command::new(alloc, "run")
+        .about("Run a program")
+        .arg(number(alloc, "statements", STATEMENTS_HELP, 1, MOST_STATEMENTS))?
+        .arg(number(alloc, "match-steps", MATCH_STEPS_HELP, 0, MOST_STEPS))?
+        .arg(word(alloc, "FILE", "The file that holds the program"))?;
     let check = Command::new(alloc, "check")
         .about("Check a program: nothing is written where it is accepted")
         .arg(word(alloc, "FILE", "The file that holds the program"))?;
     let ways = Command::new(alloc, "ways")
         .about("List the ways in which a pattern matches a subject")
         .arg(flag(alloc, "anchor", "Start at the subject's first byte alone"))?
-        .arg(number(alloc, "steps", STEPS_HELP, 0, MOST_STEPS as u64))?
+        .arg(number(alloc, "steps", STEPS_HELP, 0, MOST_STEPS))?
         .arg(word(alloc, "PATTERN", "A pattern, written as in a program"))?
         .arg(word(alloc, "SUBJECT", "The text in which it is matched"))?;
     let root = Command::new(alloc, "snobol4")
         .about("A SNOBOL4 interpreter with a resumable pattern matcher")
         .subcommand_required(true)
         .arg_required_else_help(true)
+        .subcommand(run)?
         .subcommand(check)?
         .subcommand(ways)?;
     Ok(root)
@@ -110,10 +128,28 @@ fn job_of<'a>(matches: &ArgMatches<'a>) -> Option<Job<'a>>
 {
     let (name, found) = matches.subcommand()?;
     match name {
+        "run" => run_of(found),
         "check" => check_of(found),
         "ways" => ways_of(found),
         _ => None,
     }
+}
+
+/// The job of the matches of the command `run`, None where they hold none.
+fn run_of<'a>(found: &ArgMatches<'a>) -> Option<Job<'a>>
+    ensures some { IfSome result (IsJob (codes "run") (rows_of (found_of found.now))) }
+    ensures none { IfNone result ((file : List ℕ) (limits : Limits) → IsRun (rows_of (found_of found.now)) file limits → ⊥) }
+{
+    let statements = number_of(found, "statements", 1, MOST_STATEMENTS, DEFAULT_STATEMENTS)?;
+    let match_steps = steps_of(found, "match-steps")?;
+    let name = found.get_str("FILE")?;
+    Some(Job::Run {
+        file: name,
+        limits: Limits {
+            statements,
+            match_steps,
+        },
+    })
 }
 
 /// The job of the matches of the command `check`, None where they hold none.
@@ -147,12 +183,24 @@ fn steps_of(found: &ArgMatches<'_>, id: &str) -> Option<u32>
     ensures some { IfSome result (IsNumber 0 1000000000 1000000 id.now (rows_of (found_of found.now))) }
     ensures none { IfNone result ((n : ℕ) → IsNumber 0 1000000000 1000000 id.now (rows_of (found_of found.now)) n → ⊥) }
 {
+    let steps = number_of(found, id, 0, MOST_STEPS, DEFAULT_STEPS)?;
+    Some(steps as u32)
+}
+
+/// The number that an option asks for, or the default where the words don't have it; None where it is no number or out
+/// of its range. The range is tested here too, since the clauses of a parse don't say that it was.
+fn number_of(found: &ArgMatches<'_>, id: &str, least: u64, most: u64, default: u64) -> Option<u64>
+    requires low { least ≤ default }
+    requires high { default ≤ most }
+    ensures some { IfSome result (IsNumber least most default id.now (rows_of (found_of found.now))) }
+    ensures none { IfNone result ((n : ℕ) → IsNumber least most default id.now (rows_of (found_of found.now)) n → ⊥) }
+{
     if found.get_str(id).is_none() {
-        return Some(DEFAULT_STEPS);
+        return Some(default);
     }
-    let steps = found.get_one::<u32>(id)?;
-    if steps <= MOST_STEPS {
-        Some(steps)
+    let number = found.get_one::<u64>(id)?;
+    if least <= number && number <= most {
+        Some(number)
     } else {
         None
     }
@@ -176,6 +224,78 @@ mod tests {
         for (words, file) in rows {
             let job = command(rt.alloc(), words)?;
             assert!(rt; job == Job::Check { file }, "at {words:?}");
+        }
+        Ok(())
+    }
+
+    #[test]
+    fn accepts_run(rt: HostRuntime) -> Result<(), Fail> {
+        let plain = Limits {
+            statements: 1_000_000,
+            match_steps: 1_000_000,
+        };
+        let small = Limits {
+            statements: 7,
+            match_steps: 9,
+        };
+        let rows: [(&[&str], &str, Limits); 8] = [
+            (&["snobol4", "run", "F"], "F", plain),
+            (&["other name", "run", "dir/f"], "dir/f", plain),
+            (&["snobol4", "run", "--", "-f"], "-f", plain),
+            (
+                &["snobol4", "run", "--", "--statements"],
+                "--statements",
+                plain,
+            ),
+            (&["snobol4", "run", "-"], "-", plain),
+            (&["snobol4", "run", ""], "", plain),
+            (
+                &[
+                    "snobol4",
+                    "run",
+                    "--statements",
+                    "7",
+                    "--match-steps",
+                    "9",
+                    "F",
+                ],
+                "F",
+                small,
+            ),
+            (
+                &["snobol4", "run", "--match-steps=9", "F", "--statements=7"],
+                "F",
+                small,
+            ),
+        ];
+        for (words, file, limits) in rows {
+            let job = command(rt.alloc(), words)?;
+            assert!(rt; job == Job::Run { file, limits }, "at {words:?}");
+        }
+        Ok(())
+    }
+
+    #[test]
+    fn accepts_numbers_of_run(rt: HostRuntime) -> Result<(), Fail> {
+        let rows: [(&str, u64, u32); 9] = [
+            ("--statements=1", 1, 1_000_000),
+            ("--statements=5", 5, 1_000_000),
+            ("--statements=+005", 5, 1_000_000),
+            ("--statements=4294967297", 4_294_967_297, 1_000_000),
+            ("--statements=1000000000000", 1_000_000_000_000, 1_000_000),
+            ("--match-steps=0", 1_000_000, 0),
+            ("--match-steps=1", 1_000_000, 1),
+            ("--match-steps=1000000", 1_000_000, 1_000_000),
+            ("--match-steps=1000000000", 1_000_000, 1_000_000_000),
+        ];
+        for (option, statements, match_steps) in rows {
+            let limits = Limits {
+                statements,
+                match_steps,
+            };
+            let words = ["snobol4", "run", option, "F"];
+            let job = command(rt.alloc(), &words)?;
+            assert!(rt; job == Job::Run { file: "F", limits }, "at {option}");
         }
         Ok(())
     }
@@ -249,7 +369,7 @@ mod tests {
 
     #[test]
     fn refuses(rt: HostRuntime) {
-        let rows: [&[&str]; 30] = [
+        let rows: [&[&str]; 29] = [
             &["snobol4"],
             &["snobol4", "ways"],
             &["snobol4", "ways", "'A'"],
@@ -263,7 +383,6 @@ mod tests {
             &["snobol4", "check", "f", "--", "-g"],
             &["snobol4", "checks", "f"],
             &["snobol4", "--", "check", "f"],
-            &["snobol4", "run", "FILE"],
             &["snobol4", "--anchor", "ways", "'A'", "AB"],
             &["snobol4", "ways", "--anchor", "--anchor", "'A'", "AB"],
             &["snobol4", "ways", "--anchor=x", "'A'", "AB"],
@@ -288,7 +407,7 @@ mod tests {
             &["snobol4", "ways", "-X", "AB"],
             &["snobol4", "ways", "'A'", "-1"],
             &["snobol4", "ways", "--version", "'A'", "AB"],
-            &["snobol4", "help", "run"],
+            &["snobol4", "help", "runs"],
         ];
         for words in rows {
             assert_eq!(rt; refusal(rt.alloc(), words), Some(64), "at {words:?}");
@@ -297,13 +416,55 @@ mod tests {
     }
 
     #[test]
+    fn refuses_run(rt: HostRuntime) {
+        let rows: [&[&str]; 10] = [
+            &["snobol4", "run"],
+            &["snobol4", "run", "--"],
+            &["snobol4", "run", "--statements", "5"],
+            &["snobol4", "run", "a", "b"],
+            &["snobol4", "run", "-f"],
+            &["snobol4", "runs", "f"],
+            &["snobol4", "--statements=5", "run", "f"],
+            &["snobol4", "run", "f", "--match-steps"],
+            &["snobol4", "run", "--statements", "-1", "f"],
+            &["snobol4", "run", "--statements=5", "--statements=5", "f"],
+        ];
+        for words in rows {
+            assert_eq!(rt; refusal(rt.alloc(), words), Some(64), "at {words:?}");
+        }
+    }
+
+    #[test]
+    fn refuses_options_of_run(rt: HostRuntime) {
+        let rows: [&str; 10] = [
+            "--anchor",
+            "--steps=5",
+            "--statement=5",
+            "--statements=",
+            "--statements=many",
+            "--statements=0",
+            "--statements=1000000000001",
+            "--statements=99999999999999999999",
+            "--match-steps=1000000001",
+            "--match-steps=4294967296",
+        ];
+        for option in rows {
+            let words = ["snobol4", "run", option, "F"];
+            assert_eq!(rt; refusal(rt.alloc(), &words), Some(64), "at {option}");
+        }
+    }
+
+    #[test]
     fn helps(rt: HostRuntime) {
-        let rows: [&[&str]; 9] = [
+        let rows: [&[&str]; 12] = [
             &["snobol4", "--help"],
             &["snobol4", "-h"],
             &["snobol4", "help"],
+            &["snobol4", "help", "run"],
             &["snobol4", "help", "check"],
             &["snobol4", "help", "ways"],
+            &["snobol4", "run", "--help"],
+            &["snobol4", "run", "-h", "--statements", "0"],
             &["snobol4", "check", "--help"],
             &["snobol4", "check", "-h"],
             &["snobol4", "ways", "--help"],
@@ -328,6 +489,19 @@ Options:
   -h, --help       Print help
 ";
 
+    const RUN_HELP: &str = "Run a program
+
+Usage: snobol4 run [OPTIONS] <FILE>
+
+Arguments:
+  <FILE>  The file that holds the program
+
+Options:
+      --statements <N>   The most statements of the run: 1 to 1000000000000 [default: 1000000]
+      --match-steps <N>  The most steps of each match: 0 to 1000000000 [default: 1000000]
+  -h, --help             Print help
+";
+
     const CHECK_HELP: &str = "Check a program: nothing is written where it is accepted
 
 Usage: snobol4 check <FILE>
@@ -344,6 +518,7 @@ Options:
 Usage: snobol4 <COMMAND>
 
 Commands:
+  run    Run a program
   check  Check a program: nothing is written where it is accepted
   ways   List the ways in which a pattern matches a subject
   help   Print this message or the help of the given subcommand(s)
@@ -354,8 +529,9 @@ Options:
 
     #[test]
     fn shows_help(rt: HostRuntime) -> Result<(), Fail> {
-        let rows: [(&[&str], &str); 3] = [
+        let rows: [(&[&str], &str); 4] = [
             (&["snobol4", "--help"], HELP),
+            (&["snobol4", "run", "--help"], RUN_HELP),
             (&["snobol4", "check", "--help"], CHECK_HELP),
             (&["snobol4", "ways", "--help"], WAYS_HELP),
         ];

@@ -187,9 +187,10 @@ tabled_program s ts at nodes sts es p x e f = record {
   each = λ k st span t a b c. rw e (x.stands k st span t (rw f at a) b c);
 }
 
-pub tabled_whole : (s text : List ℕ) (ts : List StatementTree) (at : ℕ) (nodes : List Node) (sts : List Statement) (es : Entries) → IsTabled s ts at nodes sts es → text ≡ s → at ≤ 4000000 → IsWhole text nodes sts es
-tabled_whole s text ts at nodes sts es x e small = rw e (record {
+pub tabled_whole : (s text : List ℕ) (ts : List StatementTree) (at : ℕ) (nodes : List Node) (sts : List Statement) (es : Entries) → IsProgram s ts → IsTabled s ts at nodes sts es → text ≡ s → at ≤ 4000000 → IsWhole text nodes sts es
+tabled_whole s text ts at nodes sts es p x e small = rw e (record {
   count = let f = x.room in omega arith;
+  few = let f = p.accepted.few in let g = ap length p.all in let m = length_more p.before p.last in let n = x.count in omega arith;
   table = whole_table (length s) nodes x.extends;
   sound = x.sound;
   index = x.index;
@@ -269,6 +270,7 @@ carried (Err x) e P h p = subst P (sym h) p
 pub expression_whole : (s text : List ℕ) (nodes : List Node) (sts : List Statement) (es : Entries) → text ≡ s → Extends (length s) [] nodes → length nodes < 2 ^ 32 → sts ≡ [] → es ≡ [] → IsWhole text nodes sts es
 expression_whole s text nodes sts es e x h a b = rw (e, a, b) (record {
   count = h;
+  few = omega arith;
   table = whole_table (length s) nodes x;
   sound = λ k st g. absurd (get_none k st g);
   index = (tabled_first s 0).index;
@@ -278,6 +280,10 @@ expression_whole s text nodes sts es e x h a b = rw (e, a, b) (record {
 pub label_found : (s : List ℕ) (sts : List Statement) (es : Entries) (name : List ℕ) (o : Option ℕ) → o ≡ number_of es name → IsIndex s sts es → IfSome o (λ n. IsLabelled s sts name n)
 label_found s sts es name None e x = tt
 label_found s sts es name (Some n) e x = x.sound name n (sym e)
+
+pub label_only : (s : List ℕ) (sts : List Statement) (es : Entries) (name : List ℕ) (o : Option ℕ) → o ≡ number_of es name → IsIndex s sts es → IfSome o (λ n. (m : ℕ) → IsLabelled s sts name m → m ≡ n)
+label_only s sts es name None e x = tt
+label_only s sts es name (Some n) e x = λ m l. let same : Some n ≡ Some m = e ∙ x.complete name m l in sym (some_equal same)
 
 pub label_missing : (s : List ℕ) (sts : List Statement) (es : Entries) (name : List ℕ) (o : Option ℕ) → o ≡ number_of es name → IsIndex s sts es → IfNone o ((n : ℕ) → IsLabelled s sts name n → ⊥)
 label_missing s sts es name None e x = λ n l. let bad : None ≡ Some n = e ∙ x.complete name n l in cc

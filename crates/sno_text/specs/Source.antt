@@ -105,6 +105,7 @@ pub record IsIndex (text : List ℕ) (statements : List Statement) (entries : Li
 -- What is true of the parts of every program.
 pub record IsWhole (text : List ℕ) (nodes : List Node) (statements : List Statement) (entries : List (Vec ℕ Global × ℕ)) : Type 0 where
   pub count : length nodes < 2 ^ 32
+  pub few : length statements ≤ 100000
   pub table : IsTable (length text) nodes
   pub sound : (k : ℕ) (st : Statement) → slice_get statements k ≡ Some st → IsStatementOf (length text) (length nodes) st
   pub index : IsIndex text statements entries

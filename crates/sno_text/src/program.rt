@@ -76,20 +76,24 @@ impl Program {
         &self.text.as_slice()[span.start..span.end]
     }
 
-    /// The statement with this number, from 1; None where there are fewer, and at 0.
+    /// The statement with this number, from 1; None where there are fewer, and at 0. A program has at most 100,000.
     pub fn statement(&self, number: u32) -> Option<&Statement>
         ensures statement { option_copied result ≡ (if number == 0 then None else slice_get self.now.statements (number - 1)) }
         ensures sound { IfSome result (λ st. IsStatementOf (length self.now.text) (length self.now.nodes) st.now) }
+        ensures count { length self.now.statements ≤ 100000 }
     {
+        let statements = self.statements.as_slice();
         if number == 0 {
             return None;
         }
-        self.statements.get(number as usize - 1)
+        statements.get(number as usize - 1)
     }
 
-    /// The number of the statement with this label, END among them; None where no statement has it.
+    /// The number of the statement with this label, END among them; None where no statement has it. No two statements have
+    /// the same label.
     pub fn label(&self, name: &[u8]) -> Option<u32>
         ensures found { IfSome result (λ n. IsLabelled self.now.text self.now.statements name.now n) }
+        ensures only { IfSome result (λ n. (m : ℕ) → IsLabelled self.now.text self.now.statements name.now m → m ≡ n) }
         ensures none { IfNone result ((n : ℕ) → IsLabelled self.now.text self.now.statements name.now n → ⊥) }
     {
         self.labels.get(name).copied()

@@ -63,7 +63,7 @@ new-requires c =
     let done = reading_ends _ _ _ _ span _ _ _ _ _ _ c.in_ok-phrase.phrase running.reading accepted here c.in_ok-phrase.ensures.room c.in_ok-phrase.ensures.extends line c.in_ok-push_statement.ensures.pushed
     c.in_ok-push_statement.ensures.index c.loop-extent.invariant.4 (c.is_end.ensures.end c.if-is_end.true) in
     let same : c.in_ok-text.text.items ≡ c.args.text.now = search rules in
-    tabled_whole _ _ done.0 span.end _ _ _ done.2 same (let w = within.1 in let m = c.loop-extent.invariant.4 in omega arith)
+    tabled_whole _ _ done.0 span.end _ _ _ done.1 done.2 same (let w = within.1 in let m = c.loop-extent.invariant.4 in omega arith)
 
 pub returns-then-is_end-clause-accepted : goal.returns-then-is_end-clause-accepted
 returns-then-is_end-clause-accepted c =
