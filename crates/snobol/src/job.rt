@@ -1,10 +1,12 @@
 //! What the program does for a job.
 ghost use Rattle.std.specs.Prelude.{◌≡◌, ℕ, List, false};
-ghost use Rattle.std.specs.Io.KnownBytes.{Appends};
-ghost use Rattle.snobol.specs.Jobs.{IsChecked, IsDone, IsStatus, status_of};
+ghost use Rattle.std.specs.Io.KnownBytes.{Consumes, Appends};
+ghost use Rattle.snobol.specs.Running.{IsLimits};
+ghost use Rattle.snobol.specs.Jobs.{IsChecked, IsDone, IsRunFile, IsStatus, IsInRange, error_status, status_of, status_of_run};
 
 use crate::enumeration::{WaysOutcome, ways};
-use sno_io::{Job, Sink, put};
+use crate::run::{Outcome, run};
+use sno_io::{Job, Limits, Sink, Source, put};
 use sno_text::{ReadError, read_program};
 use std::alloc::{AllocError, Global};
 
@@ -17,23 +19,35 @@ const NO_FILE: u8 = 3;
 /// The status where memory is refused.
 const NO_MEMORY: u8 = 6;
 
-/// Does what a job asks. `file` is what its FILE holds, None where that can't be read and for a job without one. It
-/// writes what the job lists to `writer` and, where something went wrong, one line that says what to `errors`. It
-/// answers the program's status: 0 listed or accepted, 1 an error, 2 the program or pattern is refused, 3 FILE can't be
-/// read, 4 and 5 errors 20 and 21, 6 memory refused (also where there is none for the line), 7 the writer failed. That
-/// `errors` fails changes nothing. The caller owes devices that have not failed.
-pub fn perform<W: Sink, E: Sink>(
+/// The status where a device failed.
+const FAULT: u8 = 7;
+
+/// Does what a job asks. `file` is what its FILE holds, None where that can't be read and for a job without one. A
+/// program reads its input from `reader`. What the job writes or lists goes to `writer` and, where something went wrong,
+/// one line that says what to `errors`. It answers the program's status: 0 ended, listed or accepted, 1 an error, 2 the
+/// program or pattern is refused, 3 FILE can't be read, 4 and 5 errors 20 and 21, 6 memory refused (also where there is
+/// none for the line), 7 the reader or the writer failed. That `errors` fails changes nothing. The caller owes devices
+/// that have not failed, and limits in their ranges.
+pub fn perform<R: Source, W: Sink, E: Sink>(
     alloc: Global,
     job: &Job<'_>,
     file: Option<&[u8]>,
+    reader: &mut R,
     writer: &mut W,
     errors: &mut E,
 ) -> u8
+    requires reader { R.broken reader.old ≡ false }
     requires writer { W.broken writer.old ≡ false }
     requires errors { E.broken errors.old ≡ false }
-    ensures { (wrote : List ℕ) × Appends (W.taken writer.old) (W.taken writer.new) wrote × IsDone job.now file.entry result wrote }
+    requires limits { IsInRange job.now }
+    ensures { (given : List ℕ) × (wrote : List ℕ) × Consumes (R.left reader.old) (R.left reader.new) given × Appends (W.taken writer.old) (W.taken writer.new) wrote
+        × IsDone job.now file.entry result given (R.at_end reader.new) wrote }
 {
     match job {
+        Job::Run { file: name, limits } => match file {
+            Some(text) => run_file(alloc, text, *limits, reader, writer, errors),
+            None => report(errors, no_file_line(alloc, name), NO_FILE),
+        },
         Job::Ways {
             anchored,
             steps,
@@ -55,6 +69,35 @@ pub fn perform<W: Sink, E: Sink>(
             None => report(errors, no_file_line(alloc, name), NO_FILE),
         },
     }
+}
+
+/// Reads a program and runs it, or tells why it is refused.
+fn run_file<R: Source, W: Sink, E: Sink>(
+    alloc: Global,
+    text: &[u8],
+    limits: Limits,
+    reader: &mut R,
+    writer: &mut W,
+    errors: &mut E,
+) -> u8
+    requires reader { R.broken reader.old ≡ false }
+    requires writer { W.broken writer.old ≡ false }
+    requires errors { E.broken errors.old ≡ false }
+    requires limits { IsLimits limits }
+    ensures { (given : List ℕ) × (wrote : List ℕ) × Consumes (R.left reader.old) (R.left reader.new) given × Appends (W.taken writer.old) (W.taken writer.new) wrote
+        × IsRunFile text.now limits result given (R.at_end reader.new) wrote }
+{
+    let program = match read_program(alloc, text) {
+        Ok(program) => program,
+        Err(ReadError::NoMemory) => return report(errors, Err(AllocError), NO_MEMORY),
+        Err(error) => return report(errors, refusal_line(alloc, error), REFUSED),
+    };
+    let outcome = run(alloc, &program, reader, writer, limits);
+    report(
+        errors,
+        stop_line(alloc, &outcome),
+        status_of_run(&outcome),
+    )
 }
 
 /// Reads a program, and tells why it is refused where it is.
@@ -102,6 +145,19 @@ fn fault_line(alloc: Global, outcome: &WaysOutcome) -> Result<String, AllocError
     }
 }
 
+/// The same of a run.
+fn stop_line(alloc: Global, outcome: &Outcome) -> Result<String, AllocError> {
+    match outcome {
+        Outcome::Ended => Ok(String::new(alloc)),
+        Outcome::Error { code, statement } => {
+            format!(in alloc; "snobol4: error {code} in statement {statement}\n")
+        }
+        Outcome::NoMemory => Err(AllocError),
+        Outcome::ReadFault => format!(in alloc; "snobol4: read fault\n"),
+        Outcome::WriteFault => format!(in alloc; "snobol4: write fault\n"),
+    }
+}
+
 fn refusal_line(alloc: Global, error: ReadError) -> Result<String, AllocError> {
     format!(in alloc; "{error}\n")
 }
@@ -110,17 +166,38 @@ fn no_file_line(alloc: Global, name: &str) -> Result<String, AllocError> {
     format!(in alloc; "snobol4: cannot read {name}\n")
 }
 
-/// The status of the program.
+/// The status of the program after a listing.
 fn status_of(outcome: &WaysOutcome) -> u8
     ensures { result ≡ status_of outcome.now }
 {
     match outcome {
         WaysOutcome::Done => 0,
         WaysOutcome::Refused(_) => REFUSED,
-        WaysOutcome::Error { code: 20 } => 4,
-        WaysOutcome::Error { code: 21 } => 5,
-        WaysOutcome::Error { code: _ } => 1,
+        WaysOutcome::Error { code } => error_status(*code),
         WaysOutcome::NoMemory => NO_MEMORY,
-        WaysOutcome::WriteFault => 7,
+        WaysOutcome::WriteFault => FAULT,
+    }
+}
+
+/// The same after a run.
+fn status_of_run(outcome: &Outcome) -> u8
+    ensures { result ≡ status_of_run outcome.now }
+{
+    match outcome {
+        Outcome::Ended => 0,
+        Outcome::Error { code, .. } => error_status(*code),
+        Outcome::NoMemory => NO_MEMORY,
+        Outcome::ReadFault | Outcome::WriteFault => FAULT,
+    }
+}
+
+/// The status of an error: the two limits have one of their own.
+fn error_status(code: u8) -> u8
+    ensures { result ≡ error_status code }
+{
+    match code {
+        20 => 4,
+        21 => 5,
+        _ => 1,
     }
 }

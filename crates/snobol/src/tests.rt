@@ -33,7 +33,8 @@ fn check_row<R: Abort + AllocGlobal>(rt: &R, row: &Row) -> Result<(), Fail> {
     let job = command(alloc, row.0)?;
     let mut output = Device::new(Vec::new(alloc));
     let mut errors = Device::new(Vec::new(alloc));
-    let status = perform(alloc, &job, None, &mut output, &mut errors);
+    let mut input = Device::new(b"".as_slice());
+    let status = perform(alloc, &job, None, &mut input, &mut output, &mut errors);
     assert_eq!(rt;
         output.into_inner().as_slice(),
         row.1.as_bytes(),

@@ -1,6 +1,8 @@
 //! The program `snobol4`: the words of the command line, the devices, and the status.
 #![tactic(auto)]
 
+ghost use Rattle.snobol.specs.Jobs.{IsInRange};
+
 use snobol::{Device, Job, Sink, command, perform, status_of};
 use std::alloc::Global;
 use std::env;
@@ -58,9 +60,11 @@ fn obey(rt: &HostRuntime, args: &[String]) -> u8 {
 }
 
 /// Reads the file that a job names, if it names one, and does the job.
-fn work(rt: &HostRuntime, job: &Job) -> u8 {
+fn work(rt: &HostRuntime, job: &Job) -> u8
+    requires { IsInRange job.now }
+{
     match job {
-        Job::Check { file } => match read(rt, file) {
+        Job::Run { file, .. } | Job::Check { file } => match read(rt, file) {
             Ok(text) => write_out(rt, job, Some(text.as_slice())),
             Err(error) if error.kind() == ErrorKind::OutOfMemory => no_memory(rt),
             Err(_) => write_out(rt, job, None),
@@ -79,7 +83,9 @@ fn read(rt: &HostRuntime, file: &str) -> io::Result<Vec<u8>> {
 }
 
 /// Does a job on standard output, which is written through a buffer: by lines where it is a terminal.
-fn write_out(rt: &HostRuntime, job: &Job, file: Option<&[u8]>) -> u8 {
+fn write_out(rt: &HostRuntime, job: &Job, file: Option<&[u8]>) -> u8
+    requires { IsInRange job.now }
+{
     let alloc = rt.alloc();
     let stdout = rt.stdout();
     if stdout.is_terminal() {
@@ -96,11 +102,14 @@ fn write_out(rt: &HostRuntime, job: &Job, file: Option<&[u8]>) -> u8 {
 }
 
 /// Does a job, and writes out what the buffer holds before a fault is told.
-fn finish<W: Write + Drop>(rt: &HostRuntime, job: &Job, file: Option<&[u8]>, writer: W) -> u8 {
+fn finish<W: Write + Drop>(rt: &HostRuntime, job: &Job, file: Option<&[u8]>, writer: W) -> u8
+    requires { IsInRange job.now }
+{
     let alloc = rt.alloc();
+    let mut input = Device::new(rt.stdin());
     let mut output = Device::new(writer);
     let mut errors = Device::new(Vec::new(alloc));
-    let status = perform(alloc, job, file, &mut output, &mut errors);
+    let status = perform(alloc, job, file, &mut input, &mut output, &mut errors);
     if output.flush().is_err() {
         let _ = eprintln!(rt; "snobol4: write fault");
         return FAULT;

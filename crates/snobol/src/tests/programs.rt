@@ -13,7 +13,8 @@ fn check_row<R: Abort + AllocGlobal>(rt: &R, row: Checked) -> Result<(), Fail> {
     let job = Job::Check { file: "f.sno" };
     let mut output = Device::new(Vec::new(alloc));
     let mut errors = Device::new(Vec::new(alloc));
-    let status = perform(alloc, &job, row.0, &mut output, &mut errors);
+    let mut input = Device::new(b"".as_slice());
+    let status = perform(alloc, &job, row.0, &mut input, &mut output, &mut errors);
     assert_eq!(rt; errors.into_inner().as_slice(), row.1.as_bytes());
     assert_eq!(rt; status, row.2);
     assert!(rt; output.into_inner().is_empty());
