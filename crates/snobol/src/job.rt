@@ -93,11 +93,7 @@ fn run_file<R: Source, W: Sink, E: Sink>(
         Err(error) => return report(errors, refusal_line(alloc, error), REFUSED),
     };
     let outcome = run(alloc, &program, reader, writer, limits);
-    report(
-        errors,
-        stop_line(alloc, &outcome),
-        status_of_run(&outcome),
-    )
+    report(errors, stop_line(alloc, &outcome), status_of_run(&outcome))
 }
 
 /// Reads a program, and tells why it is refused where it is.
