@@ -5,7 +5,7 @@ ghost use Rattle.snobol.specs.Running.{IsLimits};
 ghost use Rattle.snobol.specs.Jobs.{IsChecked, IsDone, IsRunFile, IsStatus, IsInRange, error_status, status_of, status_of_run};
 
 use crate::enumeration::{WaysOutcome, ways};
-use crate::run::{Outcome, run};
+use crate::execution::{Outcome, run};
 use sno_io::{Job, Limits, Sink, Source, put};
 use sno_text::{ReadError, read_program};
 use std::alloc::{AllocError, Global};
