@@ -11,6 +11,7 @@ pub mod Stores
 pub mod Reading
 pub mod InputLaws
 pub mod Performing
+pub mod RunningLaws
 pub mod LineLaws
 pub mod Names
 pub mod Primitives

@@ -1,6 +1,7 @@
 -- What the store's calls do to the world.
 use Rattle.std.proofs.Common.{◌≡◌, ℕ, zero, suc, ◌==◌, ◌<◌, ◌≤◌, Bool, true, false, List, [], ◌∷◌, ◌++◌, if◌then◌else◌, length, map, set, get_or, slice_index_or, slice_set, refl, ap, sym, ◌∙◌, arith, Result, Ok, Err}
 use Rattle.std.specs.List.{AllByRecursion}
+use Rattle.std.proofs.lemmas.Bool.{le-ltb, lt-ltb}
 use Rattle.std.proofs.lemmas.List.{map-append, map-set}
 use Rattle.std.proofs.Math.ListN.{get_or-map}
 use Rattle.sno_value.specs.declared.ids.SymId.{SymId}
@@ -12,6 +13,8 @@ use Rattle.sno_pattern.specs.Table.{Node}
 use Rattle.sno_store.specs.Contents.{Contents, place, is_symbol, joining, with_symbol, IsJoined, value_of, with_value as with_stored}
 use Rattle.sno_store.specs.declared.error.StoreError.{StoreError}
 use Rattle.sno_store.specs.declared.error.StoreError.TheVariants.{NullName, Full, NoMemory}
+use Rattle.snobol.specs.declared.machine.Exit.TheVariants.{Halt}
+use Rattle.snobol.specs.declared.machine.Stop.TheVariants.{Error as HasError}
 use Rattle.snobol.specs.World.{World}
 use Rattle.snobol.specs.Values.{Value, Str, shown, IsValueOf}
 use Rattle.snobol.specs.Action.{Error, Got, Outcome, gives, stops}
@@ -74,11 +77,11 @@ joined_by false false name a new id k more is same =
     (λ i. record { ending = Got (Var (symbol (e i))); world = record (world a more) { symbols = a.store.symbols ++ name ∷ []; values = sym (map-append (shown a.nodes) a.store.values (stored.Str [] ∷ [])) i }; wrote = [] })
     ∙ ap (λ c. record { ending = Got (Var id); world = at_store a c more; wrote = [] }) (sym same)
 
-pub named : (a : State) (new : Contents) (name : List ℕ) (id : SymId) → IsJoined name a.store new (Ok id) → Does itself any (variable_named name) a (record a { store = new }) (Ok (Var id))
-named a new [] id h = absurd (cc h.0)
-named a new (byte ∷ bytes) id h = record {
+pub named : (a : State) (new : Contents) (name : List ℕ) (id : SymId) → length name ≤ 1_000_000 → IsJoined name a.store new (Ok id) → Does itself any (variable_named name) a (record a { store = new }) (Ok (Var id))
+named a new [] id short h = absurd (cc h.0)
+named a new (byte ∷ bytes) id short h = record {
   grows = grows_none a.nodes;
-  meets = λ more. joined_by (is_symbol (byte ∷ bytes) a.store.symbols) (length a.store.symbols == 1_000_000) (byte ∷ bytes) a new id (place (byte ∷ bytes) a.store.symbols) more h.0 h.1;
+  meets = λ more. rw (le-ltb 1_000_000 (length (byte ∷ bytes)) short) (joined_by (is_symbol (byte ∷ bytes) a.store.symbols) (length a.store.symbols == 1_000_000) (byte ∷ bytes) a new id (place (byte ∷ bytes) a.store.symbols) more h.0 h.1);
   answer = tt;
   unread = refl;
 }
@@ -89,21 +92,26 @@ full_by true full name w k n e is = absurd (cc is)
 full_by false true name w k n e is = let same : Full ≡ e = cc is in (sym same, refl)
 full_by false false name w k n e is = absurd (cc is)
 
-refused_full : (a : State) (new : Contents) (name : List ℕ) → joining name a.store.symbols ≡ Err Full → Does {X = Target} itself any (variable_named name) a (record a { store = new }) (Err (exit_of_store Full))
-refused_full a new [] is = absurd (cc is)
-refused_full a new (byte ∷ bytes) is =
+refused_full : (a : State) (new : Contents) (name : List ℕ) → length name ≤ 1_000_000 → joining name a.store.symbols ≡ Err Full → Does {X = Target} itself any (variable_named name) a (record a { store = new }) (Err (exit_of_store Full))
+refused_full a new [] short is = absurd (cc is)
+refused_full a new (byte ∷ bytes) short is =
     let is_full : (more : List ℕ) → _ = λ more. full_by (is_symbol (byte ∷ bytes) a.store.symbols) (length a.store.symbols == 1_000_000) (byte ∷ bytes) (world a more) (place (byte ∷ bytes) a.store.symbols) (length a.store.symbols) Full is in
-    record { grows = grows_none a.nodes; meets = λ more. (ap (λ (o : Outcome Target). o.ending) (is_full more).1, ap (λ (o : Outcome Target). o.wrote) (is_full more).1); answer = tt; unread = refl }
+    record { grows = grows_none a.nodes; meets = λ more. rw (le-ltb 1_000_000 (length (byte ∷ bytes)) short) (ap (λ (o : Outcome Target). o.ending) (is_full more).1, ap (λ (o : Outcome Target). o.wrote) (is_full more).1); answer = tt; unread = refl }
 
 refused_null : (a : State) (new : Contents) (name : List ℕ) → joining name a.store.symbols ≡ Err NullName → Does {X = Target} itself any (variable_named name) a (record a { store = new }) (Err (exit_of_store NullName))
 refused_null a new [] is = record { grows = grows_none a.nodes; meets = λ more. (refl, refl); answer = tt; unread = refl }
 refused_null a new (byte ∷ bytes) is =
     let none = full_by (is_symbol (byte ∷ bytes) a.store.symbols) (length a.store.symbols == 1_000_000) (byte ∷ bytes) (world a []) (place (byte ∷ bytes) a.store.symbols) (length a.store.symbols) NullName is in absurd (cc none.0)
 
-pub not_named : (a : State) (new : Contents) (name : List ℕ) (e : StoreError) → IsJoined name a.store new (Err e) → Does {X = Target} itself any (variable_named name) a (record a { store = new }) (Err (exit_of_store e))
-not_named a new name NullName h = refused_null a new name h.0
-not_named a new name Full h = refused_full a new name h.0
-not_named a new name NoMemory h = no_memory_does itself any (variable_named name) a (record a { store = new }) (grows_none a.nodes) refl
+pub not_named : (a : State) (new : Contents) (name : List ℕ) (e : StoreError) → length name ≤ 1_000_000 → IsJoined name a.store new (Err e) → Does {X = Target} itself any (variable_named name) a (record a { store = new }) (Err (exit_of_store e))
+not_named a new name NullName short h = refused_null a new name h.0
+not_named a new name Full short h = refused_full a new name short h.0
+not_named a new name NoMemory short h = no_memory_does itself any (variable_named name) a (record a { store = new }) (grows_none a.nodes) refl
+
+-- a name that is too long
+pub name_too_long : (a : State) (name : List ℕ) → 1_000_000 < length name → Does {X = Target} itself any (variable_named name) a a (Err (Halt (HasError 8)))
+name_too_long a [] long = absurd (omega arith)
+name_too_long a (byte ∷ bytes) long = rw (lt-ltb 1_000_000 (length (byte ∷ bytes)) long) (stops_does itself any a 8)
 
 -- a variable that is read
 

@@ -12,8 +12,8 @@ use Rattle.snobol.specs.declared.enumeration.WaysOutcome.TheVariants.{Done, Refu
 use Rattle.sno_text.specs.Source.{Source}
 use Rattle.sno_text.specs.Phrases.{StandsProgram}
 use Rattle.snobol.specs.Listing.{IsListing}
-use Rattle.snobol.specs.declared.run.Outcome.{Outcome as RunOutcome}
-use Rattle.snobol.specs.declared.run.Outcome.TheVariants as ran
+use Rattle.snobol.specs.declared.execution.Outcome.{Outcome as RunOutcome}
+use Rattle.snobol.specs.declared.execution.Outcome.TheVariants as ran
 use Rattle.snobol.specs.Meaning.{meaning}
 use Rattle.snobol.specs.Running.{IsLimits, IsPossible, MeetsOutcome}
 

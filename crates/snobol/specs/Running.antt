@@ -8,8 +8,8 @@ use Rattle.snobol.specs.declared.machine.Exit.TheVariants.{Failure, Halt}
 use Rattle.snobol.specs.declared.machine.Stop.{Stop}
 use Rattle.snobol.specs.declared.machine.Stop.TheVariants.{Error as HasError, NoMemory, ReadFault, WriteFault}
 use Rattle.sno_io.specs.declared.jobs.Limits.{Limits}
-use Rattle.snobol.specs.declared.run.Outcome.{Outcome as RunOutcome}
-use Rattle.snobol.specs.declared.run.Outcome.TheVariants as ran
+use Rattle.snobol.specs.declared.execution.Outcome.{Outcome as RunOutcome}
+use Rattle.snobol.specs.declared.execution.Outcome.TheVariants as ran
 use Rattle.snobol.specs.World.{World, Keywords}
 use Rattle.snobol.specs.Action.{Error, ErrorIn, Ended, Got, Fails, Stops, Outcome, Action}
 use Rattle.snobol.specs.State.{State, world, Feed, feed, IsReady, Grows, OnAnswer, OnGoing, itself, any}

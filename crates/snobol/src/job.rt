@@ -5,7 +5,7 @@ ghost use Rattle.snobol.specs.Running.{IsLimits};
 ghost use Rattle.snobol.specs.Jobs.{IsChecked, IsDone, IsRunFile, IsStatus, IsInRange, error_status, status_of, status_of_run};
 
 use crate::enumeration::{WaysOutcome, ways};
-use crate::run::{Outcome, run};
+use crate::execution::{Outcome, run};
 use sno_io::{Job, Limits, Sink, Source, put};
 use sno_text::{ReadError, read_program};
 use std::alloc::{AllocError, Global};
@@ -93,11 +93,7 @@ fn run_file<R: Source, W: Sink, E: Sink>(
         Err(error) => return report(errors, refusal_line(alloc, error), REFUSED),
     };
     let outcome = run(alloc, &program, reader, writer, limits);
-    report(
-        errors,
-        stop_line(alloc, &outcome),
-        status_of_run(&outcome),
-    )
+    report(errors, stop_line(alloc, &outcome), status_of_run(&outcome))
 }
 
 /// Reads a program, and tells why it is refused where it is.

@@ -6,6 +6,7 @@ mod builtins;
 mod convert;
 mod enumeration;
 mod evaluate;
+mod execution;
 mod forms;
 mod functions;
 mod gotos;
@@ -20,7 +21,7 @@ mod numbers;
 mod operators;
 mod pile;
 mod replacement;
-mod run;
+
 mod session;
 mod statements;
 mod texts;
@@ -29,7 +30,7 @@ mod unary;
 
 pub use enumeration::{WaysOutcome, ways};
 pub use job::perform;
-pub use run::{Outcome, run};
+pub use execution::{Outcome, run};
 pub use sno_io::{Device, DeviceFault, Job, Limits, Sink, Source, command, put, status_of};
 pub use sno_text::ReadError;
 

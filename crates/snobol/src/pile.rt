@@ -159,7 +159,7 @@ impl Pile {
         part: Part,
         count: usize,
     ) -> Result<Value, Exit>
-            requires count { holds self.old.waiting + count ≤ length self.old.values }
+        requires count { holds self.old.waiting + count ≤ length self.old.values }
         requires values { AllByRecursion (IsValueOf machine.old.nodes) self.old.values }
         requires ready { IsReady machine.old (feed (R.left reader.old) (R.at_end reader.old) (R.broken reader.old)) }
         ensures does { Reads shown IsValueOf (apply_at program.now part (Some (map (shown machine.old.nodes) (drop (length self.old.values - count) self.old.values)))) machine.old machine.new (feed (R.left reader.old) (R.at_end reader.old) (R.broken reader.old)) (feed (R.left reader.new) (R.at_end reader.new) (R.broken reader.new)) result }

@@ -18,7 +18,12 @@ fn check_run<R: Abort + AllocGlobal>(rt: &R, row: &Row) -> Result<(), Fail> {
     let mut input = Device::new(row.1.as_bytes());
     let mut output = Device::new(Vec::new(alloc));
     let outcome = run(alloc, &program, &mut input, &mut output, LIMITS);
-    assert_eq!(rt; output.into_inner().as_slice(), row.2.as_bytes(), "{}", row.0);
+    assert_eq!(rt;
+        output.into_inner().as_slice(),
+        row.2.as_bytes(),
+        "{}",
+        row.0
+    );
     assert_eq!(rt; outcome, row.3, "{}", row.0);
     Ok(())
 }

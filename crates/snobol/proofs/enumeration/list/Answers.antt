@@ -11,14 +11,14 @@ pub returns-in_err-list_ways-in-Ok-pattern_of-clause-listing : goal.returns-in_e
 returns-in_err-list_ways-in-Ok-pattern_of-clause-listing g c =
     let p = err_from_is_err_and c.from_residual.result c.from_residual.ensures.1 in
     let start = rw c.in-Ok.is at c.new.ensures in
-    let did = rw (c.in-Ok-pattern_of.is, start, c.keywords_of.ensures) at c.pattern_of.ensures in
+    let did = rw (c.in-Ok-pattern_of.is, start, c.new-keywords.ensures) at c.pattern_of.ensures in
     let is = listed c.args.program.now c.args.expression c.args.subject.now c.args.anchored c.args.limit c.pattern_of.new.machine _ _ c.in-Ok-pattern_of.pattern c.requires.subject refl did in
     rw (p.1, p.2) (told _ _ _ _ _ _ _ is c.in_err-list_ways-in-Ok-pattern_of.ensures.does)
 
 pub returns-in-Ok-pattern_of-clause-listing : goal.returns-in-Ok-pattern_of-clause-listing
 returns-in-Ok-pattern_of-clause-listing g c =
     let start = rw c.in-Ok.is at c.new.ensures in
-    let did = rw (c.in-Ok-pattern_of.is, start, c.keywords_of.ensures) at c.pattern_of.ensures in
+    let did = rw (c.in-Ok-pattern_of.is, start, c.new-keywords.ensures) at c.pattern_of.ensures in
     let is = listed c.args.program.now c.args.expression c.args.subject.now c.args.anchored c.args.limit c.pattern_of.new.machine _ _ c.in-Ok-pattern_of.pattern c.requires.subject refl did in
     told _ _ _ _ _ _ _ is c.in_ok-list_ways-in-Ok-pattern_of.ensures.does
 
@@ -26,7 +26,7 @@ pub returns-in_err-put-in-Err-Failure-clause-listing : goal.returns-in_err-put-i
 returns-in_err-put-in-Err-Failure-clause-listing g c =
     let p = err_from_is_err_and c.from_residual-in_err-put-in-Err-Failure.result c.from_residual-in_err-put-in-Err-Failure.ensures.1 in
     let start = rw c.in-Ok.is at c.new.ensures in
-    let did = rw (c.in-Err-Failure.is, c.in-Err-Failure.field-0-is, start, c.keywords_of.ensures) at c.pattern_of.ensures in
+    let did = rw (c.in-Err-Failure.is, c.in-Err-Failure.field-0-is, start, c.new-keywords.ensures) at c.pattern_of.ensures in
     let is = listed_failure c.args.program.now c.args.expression c.args.subject.now c.args.anchored c.args.limit c.pattern_of.new.machine _ _ c.requires.subject refl did in
     let cut = c.in_err-put-in-Err-Failure.ensures.bytes in
     (cut.0, cut.2, rw (p.1, p.2) (told_in_part (listing c.args.program.now c.args.expression c.args.subject.now c.args.anchored c.args.limit) _ cut.0 (ap (λ (o : Outcome Unit). o.wrote) is) cut.1))
@@ -34,18 +34,18 @@ returns-in_err-put-in-Err-Failure-clause-listing g c =
 pub returns-in-Err-Failure-clause-listing : goal.returns-in-Err-Failure-clause-listing
 returns-in-Err-Failure-clause-listing g c =
     let start = rw c.in-Ok.is at c.new.ensures in
-    let did = rw (c.in-Err-Failure.is, c.in-Err-Failure.field-0-is, start, c.keywords_of.ensures) at c.pattern_of.ensures in
+    let did = rw (c.in-Err-Failure.is, c.in-Err-Failure.field-0-is, start, c.new-keywords.ensures) at c.pattern_of.ensures in
     let is = listed_failure c.args.program.now c.args.expression c.args.subject.now c.args.anchored c.args.limit c.pattern_of.new.machine _ _ c.requires.subject refl did in
     (_, c.in_ok-put-in-Err-Failure.ensures.bytes, (ap (λ (o : Outcome Unit). o.ending) is, ap (λ (o : Outcome Unit). o.wrote) is))
 
 pub returns-clause-listing : goal.returns-clause-listing
 returns-clause-listing g c =
     let start = rw c.in-Ok.is at c.new.ensures in
-    let did = rw (c.in-Err-Halt.is, c.in-Err-Halt.field-0-is, start, c.keywords_of.ensures) at c.pattern_of.ensures in
+    let did = rw (c.in-Err-Halt.is, c.in-Err-Halt.field-0-is, start, c.new-keywords.ensures) at c.pattern_of.ensures in
     ([], appends_nothing (g.W.Sink.taken c.args.writer.now), rw c.in-Err-Halt.field-0-is (listed_stop c.args.program.now c.args.expression c.args.subject.now c.args.anchored c.args.limit c.pattern_of.new.machine _ _ c.in-Err-Halt.stop c.requires.subject refl refl did))
 
 pub returns-clause-fault : goal.returns-clause-fault
 returns-clause-fault g c =
     let start = rw c.in-Ok.is at c.new.ensures in
-    let did = rw (c.in-Err-Halt.is, c.in-Err-Halt.field-0-is, start, c.keywords_of.ensures) at c.pattern_of.ensures in
-    λ e. let is : c.in-Err-Halt.stop ≡ WriteFault = cc e in absurd (stop_unwritten _ c.args.anchored _ _ _ c.in-Err-Halt.stop refl did is)
+    let did = rw (c.in-Err-Halt.is, c.in-Err-Halt.field-0-is, start, c.new-keywords.ensures) at c.pattern_of.ensures in
+    λ e. let is : c.in-Err-Halt.stop ≡ WriteFault = cc e in absurd (stop_unwritten _ c.args.anchored c.args.limit _ _ _ c.in-Err-Halt.stop refl did is)
