@@ -18,3 +18,5 @@ pub mod Primitives
 pub mod Conversions
 pub mod Arguments
 pub mod FunctionLaws
+pub mod RunningLaws
+pub mod MatchLaws
