@@ -5,6 +5,7 @@ mod errors;
 mod forms;
 mod functions;
 mod input;
+mod interpreter;
 mod keywords;
 mod names;
 mod primitives;
