@@ -20,3 +20,5 @@ pub mod Arguments
 pub mod FunctionLaws
 pub mod GotoLaws
 pub mod RunLaws
+pub mod RunningLaws
+pub mod MatchLaws
