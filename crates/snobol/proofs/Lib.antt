@@ -18,5 +18,7 @@ pub mod Primitives
 pub mod Conversions
 pub mod Arguments
 pub mod FunctionLaws
+pub mod GotoLaws
+pub mod RunLaws
 pub mod RunningLaws
 pub mod MatchLaws
