@@ -22,3 +22,4 @@ pub mod GotoLaws
 pub mod RunLaws
 pub mod RunningLaws
 pub mod MatchLaws
+pub mod AskingLaws
