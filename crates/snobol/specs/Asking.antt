@@ -11,7 +11,7 @@ use Rattle.snobol.specs.World.{new_world, new_keywords}
 use Rattle.snobol.specs.Action.{Error, Got, Stops, Outcome, Action}
 use Rattle.snobol.specs.Meaning.{joins_names}
 use Rattle.snobol.specs.State.{State, world}
-use Rattle.snobol.specs.Running.{Devices, CanRun, Runs, ran_in}
+use Rattle.snobol.specs.Running.{Devices, Runs, ran_in}
 
 -- what contracts see of such a machine: the program that its expressions are of, what they can change, and the stop that
 -- it has answered
@@ -36,11 +36,6 @@ stopped_by (Err (Halt why)) = Some (ran_in 0 (Halt why))
 abbrev pub Asks : {X A : Type 0} → (List Node → X → A) → (List Node → X → Type 0) → Action A → Asked → Asked → Devices → Devices → Result (Option X) RunOutcome → Type 0
 Asks {X} see fits act before after old new result =
     (r : Result X Exit) × (result ≡ answered r) × (after.stopped ≡ stopped_by r) × (after.source ≡ before.source) × Runs see fits act before.state after.state old new r
-
--- What the next call may rest on: a machine goes on behind an answer, and has stopped behind an error.
-abbrev pub CanAsk : {X : Type 0} → Asked → Devices → Result X RunOutcome → Type 0
-CanAsk m d (Ok x) = (m.stopped ≡ None) × CanRun m.state d
-CanAsk m d (Err why) = m.stopped ≡ Some why
 
 -- the names of the program join the symbols, before the first statement
 abbrev pub joined : Source → Limits → List ℕ → Outcome Unit

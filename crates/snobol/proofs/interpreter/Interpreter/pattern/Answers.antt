@@ -10,9 +10,13 @@ pattern_of-requires-clause-ordered g c = c.self.invariant
 
 pub returns-clause-does : goal.returns-clause-does
 returns-clause-does g c = rw (← c.self.view_is) (λ going.
-    let can = (rw (← c.self.view_is) at c.requires.ready) going in
-    (c.pattern_of.result, c.answered-answer.ensures, c.err-self-inside.ensures.value ∙ (ap result_err c.answered-answer.ensures ∙ stop_told c.pattern_of.result), refl,
-    reads_runs tree_of IsPatternOf _ _ _ _ _ _ _ _ can.writes c.pattern_of.ensures))
+    let can = (rw (← c.self.view_is) at c.requires.ready) going in (
+      c.pattern_of.result,
+      c.answered-answer.ensures,
+      c.err-self-inside.ensures.value ∙ (ap result_err c.answered-answer.ensures ∙ stop_told c.pattern_of.result),
+      refl,
+      reads_runs tree_of IsPatternOf _ _ _ _ _ _ _ _ can.writes c.pattern_of.ensures,
+    ))
 
 pub returns-clause-write_fault : goal.returns-clause-write_fault
 returns-clause-write_fault g c = λ going told.
