@@ -18,3 +18,4 @@ pub mod Primitives
 pub mod Conversions
 pub mod Arguments
 pub mod FunctionLaws
+pub mod StatementLaws
