@@ -19,3 +19,4 @@ pub mod Conversions
 pub mod Arguments
 pub mod FunctionLaws
 pub mod StatementLaws
+pub mod MatchLaws

@@ -111,7 +111,7 @@ not_named a new name NoMemory short h = no_memory_does itself any (variable_name
 -- a name that is too long
 pub name_too_long : (a : State) (name : List ℕ) → 1_000_000 < length name → Does {X = Target} itself any (variable_named name) a a (Err (Halt (HasError 8)))
 name_too_long a [] long = absurd (omega arith)
-name_too_long a (byte ∷ bytes) long = rw (lt-ltb 1_000_000 (length (byte ∷ bytes)) long) (stops_does itself any a 8)
+name_too_long a (byte ∷ bytes) long = record { grows = grows_none a.nodes; meets = λ more. rw (lt-ltb 1_000_000 (length (byte ∷ bytes)) long) (refl, refl); answer = tt; unread = refl }
 
 -- a variable that is read
 

@@ -21,7 +21,6 @@ mod numbers;
 mod operators;
 mod pile;
 mod replacement;
-
 mod session;
 mod statements;
 mod texts;
@@ -29,8 +28,8 @@ mod types;
 mod unary;
 
 pub use enumeration::{WaysOutcome, ways};
-pub use job::perform;
 pub use execution::{Outcome, run};
+pub use job::perform;
 pub use sno_io::{Device, DeviceFault, Job, Limits, Sink, Source, command, put, status_of};
 pub use sno_text::ReadError;
 

@@ -127,7 +127,6 @@ fn words_that_are_refused(rt: HostRuntime) -> Result<(), Fail> {
         &["snobol4", "ways", "'A'"],
         &["snobol4", "ways"],
         &["snobol4", "check"],
-        &["snobol4", "run", "FILE"],
         &["snobol4"],
     ];
     for words in refused {

@@ -1,6 +1,6 @@
 use Rattle.std.proofs.Common.{ap, sym, ◌∙◌}
 use Rattle.std.proofs.lemmas.Result.{err_from_is_err_and}
-use Rattle.snobol.specs.State.{State}
+use Rattle.snobol.specs.State.{untouched}
 use Rattle.snobol.proofs.Performing.{stored, output_written, output_cut, output_refused}
 use Rattle.snobol.proofs.session.assign.Goals as goal
 
@@ -11,7 +11,7 @@ pub returns-in_err-put-clause-does : goal.returns-in_err-put-clause-does
 returns-in_err-put-clause-does g c =
     let p = err_from_is_err_and c.from_residual-in_err-put.result c.from_residual-in_err-put.ensures.1 in
     let b = c.in_err-put.ensures.bytes in
-    rw (p.1, p.2) (output_cut c.args.target c.args.value _ _ _ _ c.in_ok-line.line b.0 (sym c.is_output.ensures ∙ c.if-not-is_output.false) (ap (λ (s : State). s.reading) c.set-2.ensures) c.in_ok-line.ensures (rw c.deref.ensures.value at b.1) b.2)
+    rw (p.1, p.2) (output_cut c.args.target c.args.value _ _ _ _ c.in_ok-line.line b.0 (sym c.is_output.ensures ∙ c.if-not-is_output.false) (ap untouched c.set-2.ensures) c.in_ok-line.ensures (rw c.deref.ensures.value at b.1) b.2)
 
 pub returns-clause-does : goal.returns-clause-does
 returns-clause-does g c =
