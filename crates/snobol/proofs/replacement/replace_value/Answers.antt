@@ -31,3 +31,9 @@ returns g c =
     text_runs itself any _ _ _ _ _ _ c.in_ok-text.text _ (c.in_ok-text.ensures.text c.args.machine.now.nodes)
       (read_then tree_of IsPatternOf itself any _ _ _ _ _ _ _ _ _ _ _ _ c.requires.ready.writes c.in_ok-pattern.ensures
         (then_runs itself (IsSpanOf _) itself any _ _ _ _ _ _ _ _ _ _ did put))
+
+pub match_first-requires-clause-subject : goal.match_first-requires-clause-subject
+match_first-requires-clause-subject g c = rw c.deref.ensures.value (c.in_ok-text.ensures.short c.args.machine.now.nodes c.requires.value)
+
+pub put_object-requires-clause-short : goal.put_object-requires-clause-short
+put_object-requires-clause-short g c = rw c.deref-2.ensures.value (c.in_ok-text.ensures.short c.args.machine.now.nodes c.requires.value)
