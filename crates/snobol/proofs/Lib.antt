@@ -19,6 +19,5 @@ pub mod Primitives
 pub mod Conversions
 pub mod Arguments
 pub mod FunctionLaws
-pub mod RunningLaws
-pub mod JobLaws
+pub mod StatementLaws
 pub mod MatchLaws
