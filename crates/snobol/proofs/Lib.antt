@@ -20,4 +20,6 @@ pub mod Conversions
 pub mod Arguments
 pub mod FunctionLaws
 pub mod StatementLaws
+pub mod GotoLaws
+pub mod RunLaws
 pub mod MatchLaws
