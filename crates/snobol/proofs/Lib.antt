@@ -12,6 +12,7 @@ pub mod Reading
 pub mod InputLaws
 pub mod Performing
 pub mod RunningLaws
+pub mod JobLaws
 pub mod LineLaws
 pub mod Names
 pub mod Primitives
@@ -19,4 +20,6 @@ pub mod Conversions
 pub mod Arguments
 pub mod FunctionLaws
 pub mod StatementLaws
+pub mod GotoLaws
+pub mod RunLaws
 pub mod MatchLaws

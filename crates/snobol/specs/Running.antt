@@ -107,9 +107,10 @@ ran_in statement (Halt NoMemory) = ran.NoMemory
 ran_in statement (Halt ReadFault) = ran.ReadFault
 ran_in statement (Halt WriteFault) = ran.WriteFault
 
--- A statement was performed behind which the run goes on, and one more has begun; or it ended the run.
+-- A statement was performed behind which the run goes on, and one more has begun where fewer had than may; or it ended
+-- the run.
 abbrev pub Steps : Action ℕ → State → State → Devices → Devices → Result ℕ RunOutcome → Type 0
-Steps act before after old new (Ok next) = Runs {X = ℕ} itself any act before after old new (Ok next) × (before.keywords.begun < after.keywords.begun)
+Steps act before after old new (Ok next) = Runs {X = ℕ} itself any act before after old new (Ok next) × (before.keywords.begun < after.keywords.begun) × (before.keywords.begun < before.keywords.cap)
 Steps act before after old new (Err outcome) = Stopped act before after old new outcome
 
 -- the limits lie in their ranges

@@ -131,6 +131,7 @@ impl Keywords {
     pub(crate) fn begin(&mut self, statement: u32) -> bool
         ensures begun { result ≡ true → with_begun statement self.old ≡ Some self.new }
         ensures over { result ≡ false → (with_begun statement self.old ≡ None) × (self.new ≡ self.old) }
+        ensures room { result ≡ true → self.old.begun < self.old.cap }
     {
         if self.begun >= self.limit {
             return false;
