@@ -23,3 +23,4 @@ pub mod StatementLaws
 pub mod GotoLaws
 pub mod RunLaws
 pub mod MatchLaws
+pub mod AskingLaws

@@ -18,6 +18,7 @@ pub mod Matches
 pub mod Statements
 pub mod Meaning
 pub mod Running
+pub mod Asking
 pub mod Primitives
 pub mod Converted
 pub mod Operations

@@ -10,6 +10,7 @@ mod execution;
 mod forms;
 mod functions;
 mod gotos;
+mod interpreter;
 mod job;
 mod keywords;
 mod lines;
@@ -29,6 +30,7 @@ mod unary;
 
 pub use enumeration::{WaysOutcome, ways};
 pub use execution::{Outcome, run};
+pub use interpreter::Interpreter as Machine;
 pub use job::perform;
 pub use sno_io::{Device, DeviceFault, Job, Limits, Sink, Source, command, put, status_of};
 pub use sno_text::ReadError;

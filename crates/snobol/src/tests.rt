@@ -6,6 +6,7 @@ mod faults;
 mod forms;
 mod functions;
 mod input;
+mod interpreter;
 mod keywords;
 mod names;
 mod primitives;

@@ -1,0 +1,76 @@
+-- A machine that is asked: what its calls answer, and why there is none.
+use Rattle.std.proofs.Common.{◌≡◌, ℕ, ◌==◌, nat_lt, Bool, true, false, List, [], ◌∷◌, length, if◌then◌else◌, refl, ap, Option, None, Some, Result, Ok, Err}
+use Rattle.std.specs.Result.{result_err}
+use Rattle.sno_io.specs.declared.jobs.Limits.{Limits}
+use Rattle.sno_store.specs.Contents.{place, is_symbol}
+use Rattle.sno_text.specs.declared.node.Node.{Node}
+use Rattle.sno_text.specs.Source.{Source}
+use Rattle.snobol.specs.declared.machine.Exit.{Exit}
+use Rattle.snobol.specs.declared.machine.Exit.TheVariants.{Failure, Halt}
+use Rattle.snobol.specs.declared.machine.Stop.TheVariants.{Error as HasError, NoMemory, ReadFault, WriteFault}
+use Rattle.snobol.specs.declared.execution.Outcome.TheVariants as ran
+use Rattle.snobol.specs.World.{World, new_keywords}
+use Rattle.snobol.specs.Action.{Error, Ending, Got, Fails, Stops, Outcome, Action, settled, settles, either, and_then, gives, fails, stops}
+use Rattle.snobol.specs.Variables.{symbol, joins, variable_named}
+use Rattle.snobol.specs.Meaning.{name_in, joins_name, joins_names}
+use Rattle.snobol.specs.State.{State, new_state, Does, itself, any}
+use Rattle.snobol.specs.Running.{Devices, HasFault, ran_in}
+use Rattle.snobol.specs.Asking.{Asked, answered, stopped_by, IsNew, IsRefusal}
+use Rattle.snobol.proofs.Reading.{same_reading}
+
+-- what a call answers
+
+pub stop_told : {X : Type 0} (r : Result X Exit) → result_err (answered r) ≡ stopped_by r
+stop_told (Ok x) = refl
+stop_told (Err Failure) = refl
+stop_told (Err (Halt why)) = refl
+
+pub write_fault_told : {X : Type 0} (r : Result X Exit) (d : Devices) → HasFault r d → answered r ≡ Err ran.WriteFault → d.stuck ≡ true
+write_fault_told (Ok x) d h e = absurd (cc e)
+write_fault_told (Err Failure) d h e = absurd (cc e)
+write_fault_told (Err (Halt (HasError code))) d h e = absurd (cc e)
+write_fault_told (Err (Halt NoMemory)) d h e = absurd (cc e)
+write_fault_told (Err (Halt ReadFault)) d h e = absurd (cc e)
+write_fault_told (Err (Halt WriteFault)) d h e = h
+
+-- that names join the symbols never fails
+
+abbrev FailsNot : {A : Type 0} → Outcome A → Type 0
+FailsNot o = o.ending ≡ Fails → ⊥
+
+if_fails_not : {A : Type 0} (b : Bool) (o p : Outcome A) → FailsNot o → FailsNot p → FailsNot (if b then o else p)
+if_fails_not true o p h k = h
+if_fails_not false o p h k = k
+
+then_fails_not : {A B : Type 0} (act : Action A) (next : A → Action B) (w : World) → FailsNot (act w) → ((x : A) (v : World) → FailsNot (next x v)) → FailsNot (and_then act next w)
+unfolding settles
+then_fails_not {A} act next w h k = by (act w).ending (act w).world (act w).wrote h
+  where
+    by : (end : Ending A) (v : World) (wrote : List ℕ) → (end ≡ Fails → ⊥) → FailsNot (settled end v wrote (either fails next))
+    by (Got x) v wrote g = k x v
+    by Fails v wrote g = λ e. g refl
+    by (Stops why) v wrote g = λ e. absurd (cc e)
+
+variable_fails_not : (bytes : List ℕ) (w : World) → FailsNot (variable_named bytes w)
+variable_fails_not [] w = λ e. absurd (cc e)
+variable_fails_not (byte ∷ bytes) w =
+    if_fails_not (nat_lt 1_000_000 (length (byte ∷ bytes))) _ _ (λ e. absurd (cc e))
+    (if_fails_not (is_symbol (byte ∷ bytes) w.symbols) _ _ (λ e. absurd (cc e))
+    (if_fails_not (length w.symbols == 1_000_000) _ _ (λ e. absurd (cc e)) (λ e. absurd (cc e))))
+
+name_fails_not : (name : Option (List ℕ)) (w : World) → FailsNot (joins_name name w)
+name_fails_not None w = λ e. absurd (cc e)
+name_fails_not (Some bytes) w = then_fails_not (variable_named bytes) (λ target. gives (tt {0})) w (variable_fails_not bytes w) (λ x v e. absurd (cc e))
+
+names_fail_not : (text : List ℕ) (nodes : List Node) (w : World) → FailsNot (joins_names text nodes w)
+names_fail_not text [] w = λ e. absurd (cc e)
+names_fail_not text (node ∷ nodes) w = then_fails_not (joins_name (name_in text node)) (λ done. joins_names text nodes) w (name_fails_not (name_in text node) w) (λ done v. names_fail_not text nodes v)
+
+-- why there is no machine
+
+pub machine_refused : (source : Source) (limits : Limits) (s : State) (x : Exit) → Does {X = Unit} itself any (joins_names source.text source.nodes) (new_state (new_keywords false limits.statements limits.match_steps)) s (Err x) → IsRefusal source limits (ran_in 0 x)
+machine_refused source limits s Failure did = absurd (names_fail_not source.text source.nodes _ (ap (λ (o : Outcome Unit). o.ending) (did.meets [])))
+machine_refused source limits s (Halt (HasError code)) did = (refl, λ input. (did.meets input).0)
+machine_refused source limits s (Halt NoMemory) did = tt
+machine_refused source limits s (Halt ReadFault) did = absurd (did.meets [])
+machine_refused source limits s (Halt WriteFault) did = absurd (did.meets [])

@@ -1,0 +1,62 @@
+-- A machine that performs single expressions and matches for its caller, call after call.
+use Rattle.std.specs.Prelude.{◌≡◌, ℕ, false, List, [], Option, None, Some, Result, Ok, Err}
+use Rattle.sno_pattern.specs.Table.{Node}
+use Rattle.sno_text.specs.Source.{Source}
+use Rattle.sno_io.specs.declared.jobs.Limits.{Limits}
+use Rattle.snobol.specs.declared.machine.Exit.{Exit}
+use Rattle.snobol.specs.declared.machine.Exit.TheVariants.{Failure, Halt}
+use Rattle.snobol.specs.declared.execution.Outcome.{Outcome as RunOutcome}
+use Rattle.snobol.specs.declared.execution.Outcome.TheVariants as ran
+use Rattle.snobol.specs.World.{new_world, new_keywords}
+use Rattle.snobol.specs.Action.{Error, Got, Stops, Outcome, Action}
+use Rattle.snobol.specs.Meaning.{joins_names}
+use Rattle.snobol.specs.State.{State, world}
+use Rattle.snobol.specs.Running.{Devices, CanRun, Runs, ran_in}
+
+-- what contracts see of such a machine: the program that its expressions are of, what they can change, and the stop that
+-- it has answered
+pub record Asked : Type 0 where
+  pub source : Source
+  pub state : State
+  pub stopped : Option RunOutcome
+
+-- what a call answers: what fails gives none, and an error names statement 0
+abbrev pub answered : {X : Type 0} → Result X Exit → Result (Option X) RunOutcome
+answered (Ok x) = Ok (Some x)
+answered (Err Failure) = Ok None
+answered (Err (Halt why)) = Err (ran_in 0 (Halt why))
+
+-- the stop that it answers from then on
+abbrev pub stopped_by : {X : Type 0} → Result X Exit → Option RunOutcome
+stopped_by (Ok x) = None
+stopped_by (Err Failure) = None
+stopped_by (Err (Halt why)) = Some (ran_in 0 (Halt why))
+
+-- A call did what the action does, and answered it.
+abbrev pub Asks : {X A : Type 0} → (List Node → X → A) → (List Node → X → Type 0) → Action A → Asked → Asked → Devices → Devices → Result (Option X) RunOutcome → Type 0
+Asks {X} see fits act before after old new result =
+    (r : Result X Exit) × (result ≡ answered r) × (after.stopped ≡ stopped_by r) × (after.source ≡ before.source) × Runs see fits act before.state after.state old new r
+
+-- What the next call may rest on: a machine goes on behind an answer, and has stopped behind an error.
+abbrev pub CanAsk : {X : Type 0} → Asked → Devices → Result X RunOutcome → Type 0
+CanAsk m d (Ok x) = (m.stopped ≡ None) × CanRun m.state d
+CanAsk m d (Err why) = m.stopped ≡ Some why
+
+-- the names of the program join the symbols, before the first statement
+abbrev pub joined : Source → Limits → List ℕ → Outcome Unit
+joined source limits input = joins_names source.text source.nodes (new_world input (new_keywords false limits.statements limits.match_steps))
+
+-- a machine of which nothing was asked yet, whatever the input
+pub record IsNew (source : Source) (limits : Limits) (m : Asked) : Type 0 where
+  pub program : m.source ≡ source
+  pub going : m.stopped ≡ None
+  pub unread : m.state.reading ≡ record { held = []; told_end = false; stopped = None }
+  pub names : (input : List ℕ) → joined source limits input ≡ record { ending = Got tt; world = world m.state input; wrote = [] }
+
+-- why there is no machine
+abbrev pub IsRefusal : Source → Limits → RunOutcome → Type 0
+IsRefusal source limits ran.Ended = ⊥
+IsRefusal source limits (ran.Error code statement) = (statement ≡ 0) × ((input : List ℕ) → (joined source limits input).ending ≡ Stops (Error code))
+IsRefusal source limits ran.NoMemory = Unit {0}
+IsRefusal source limits ran.ReadFault = ⊥
+IsRefusal source limits ran.WriteFault = ⊥
