@@ -12,14 +12,15 @@ pub mod Reading
 pub mod InputLaws
 pub mod Performing
 pub mod RunningLaws
+pub mod JobLaws
 pub mod LineLaws
 pub mod Names
 pub mod Primitives
 pub mod Conversions
 pub mod Arguments
 pub mod FunctionLaws
+pub mod StatementLaws
 pub mod GotoLaws
 pub mod RunLaws
-pub mod RunningLaws
 pub mod MatchLaws
 pub mod AskingLaws

@@ -5,6 +5,7 @@ use Rattle.sno_io.specs.declared.jobs.Job.{Job}
 use Rattle.sno_io.specs.declared.jobs.Job.TheVariants.{Run, Ways, Check}
 use Rattle.sno_io.specs.declared.jobs.Limits.{Limits}
 use Rattle.sno_text.specs.declared.error.ReadError.{ReadError}
+use Rattle.sno_text.specs.declared.error.ReadError.TheVariants.{NoMemory as NoMemoryToRead}
 use Rattle.sno_text.specs.Statements.{StatementTree}
 use Rattle.sno_text.specs.Programs.{IsProgram, IsRefusedProgram}
 use Rattle.snobol.specs.declared.enumeration.WaysOutcome.{WaysOutcome}
@@ -43,6 +44,11 @@ status_of_run ran.WriteFault = 7
 -- the status, or, where a line is to be written, that of refused memory
 abbrev pub IsStatus : ℕ → ℕ → Type 0
 IsStatus expected status = (status ≡ expected) ⊎ ((expected ≢ 0) × (status ≡ 6))
+
+-- the status where a program is refused, or memory is
+abbrev pub IsRefusedStatus : ReadError → ℕ → Type 0
+IsRefusedStatus NoMemoryToRead status = status ≡ 6
+IsRefusedStatus error status = IsStatus 2 status
 
 -- accepted: 0, refused: 2, memory refused: 6
 pub data IsChecked (text : List ℕ) (status : ℕ) : Type 0 where

@@ -2,7 +2,7 @@
 ghost use Rattle.std.specs.Prelude.{◌≡◌, ℕ, List, false};
 ghost use Rattle.std.specs.Io.KnownBytes.{Consumes, Appends};
 ghost use Rattle.snobol.specs.Running.{IsLimits};
-ghost use Rattle.snobol.specs.Jobs.{IsChecked, IsDone, IsRunFile, IsStatus, IsInRange, error_status, status_of, status_of_run};
+ghost use Rattle.snobol.specs.Jobs.{IsChecked, IsDone, IsRunFile, IsRefusedStatus, IsStatus, IsInRange, error_status, status_of, status_of_run};
 
 use crate::enumeration::{WaysOutcome, ways};
 use crate::execution::{Outcome, run};
@@ -87,13 +87,13 @@ fn run_file<R: Source, W: Sink, E: Sink>(
     ensures { (given : List ℕ) × (wrote : List ℕ) × Consumes (R.left reader.old) (R.left reader.new) given × Appends (W.taken writer.old) (W.taken writer.new) wrote
         × IsRunFile text.now limits result given (R.at_end reader.new) wrote }
 {
-    let program = match read_program(alloc, text) {
-        Ok(program) => program,
-        Err(ReadError::NoMemory) => return report(errors, Err(AllocError), NO_MEMORY),
-        Err(error) => return report(errors, refusal_line(alloc, error), REFUSED),
-    };
-    let outcome = run(alloc, &program, reader, writer, limits);
-    report(errors, stop_line(alloc, &outcome), status_of_run(&outcome))
+    match read_program(alloc, text) {
+        Ok(program) => {
+            let outcome = run(alloc, &program, reader, writer, limits);
+            report(errors, stop_line(alloc, &outcome), status_of_run(&outcome))
+        }
+        Err(error) => refuse(alloc, error, errors),
+    }
 }
 
 /// Reads a program, and tells why it is refused where it is.
@@ -101,13 +101,21 @@ fn check<E: Sink>(alloc: Global, text: &[u8], errors: &mut E) -> u8
     requires { E.broken errors.old ≡ false }
     ensures { IsChecked text.now result }
 {
-    let Err(error) = read_program(alloc, text) else {
-        return 0;
-    };
-    if let ReadError::NoMemory = error {
-        return report(errors, Err(AllocError), NO_MEMORY);
+    match read_program(alloc, text) {
+        Ok(_program) => 0,
+        Err(error) => refuse(alloc, error, errors),
     }
-    report(errors, refusal_line(alloc, error), REFUSED)
+}
+
+/// Tells why a program is refused, or that there is no memory to read it.
+fn refuse<E: Sink>(alloc: Global, error: ReadError, errors: &mut E) -> u8
+    requires { E.broken errors.old ≡ false }
+    ensures { IsRefusedStatus error result }
+{
+    match error {
+        ReadError::NoMemory => report(errors, Err(AllocError), NO_MEMORY),
+        other => report(errors, refusal_line(alloc, other), REFUSED),
+    }
 }
 
 /// Writes the line that says what went wrong, if anything did, and answers the status.

@@ -2,6 +2,7 @@
 mod assignments;
 mod choices;
 mod errors;
+mod faults;
 mod forms;
 mod functions;
 mod input;

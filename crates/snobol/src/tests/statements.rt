@@ -24,7 +24,12 @@ fn check_within<R: Abort + AllocGlobal>(rt: &R, limits: Limits, row: &Row) -> Re
     let mut input = Device::new(row.1.as_bytes());
     let mut output = Device::new(Vec::new(alloc));
     let outcome = run(alloc, &program, &mut input, &mut output, limits);
-    assert_eq!(rt; output.into_inner().as_slice(), row.2.as_bytes(), "{}", row.0);
+    assert_eq!(rt;
+        output.into_inner().as_slice(),
+        row.2.as_bytes(),
+        "{}",
+        row.0
+    );
     assert_eq!(rt; outcome, row.3, "{}", row.0);
     Ok(())
 }
@@ -39,7 +44,8 @@ fn check_runs<R: Abort + AllocGlobal>(rt: &R, rows: &[Row]) -> Result<(), Fail> 
 #[test]
 fn input_and_output(rt: HostRuntime) -> Result<(), Fail> {
     let copy = "L OUTPUT = INPUT :S(L)F(END)\nEND\n";
-    let trims = " &TRIM = 1\nL X = INPUT :F(END)\n X 'A' = 'B' :S(P)\n X = 'none'\nP OUTPUT = X :(L)\nEND\n";
+    let trims =
+        " &TRIM = 1\nL X = INPUT :F(END)\n X 'A' = 'B' :S(P)\n X = 'none'\nP OUTPUT = X :(L)\nEND\n";
     check_runs(
         &rt,
         &[
@@ -47,13 +53,43 @@ fn input_and_output(rt: HostRuntime) -> Result<(), Fail> {
             (copy, "a\r\n", "a\r\n", Outcome::Ended),
             (copy, "", "", Outcome::Ended),
             (trims, "CAT  \nDOG\n", "CBT\nnone\n", Outcome::Ended),
-            (" OUTPUT = INPUT INPUT\nEND\n", "a\nb\nc", "ab\n", Outcome::Ended),
-            (" INPUT\n OUTPUT = INPUT\nEND\n", "a\nb\n", "b\n", Outcome::Ended),
-            (" INPUT = 'x'\n OUTPUT = INPUT\nEND\n", "a\n", "a\n", Outcome::Ended),
-            (" X = 'INPUT'\n OUTPUT = $X\nEND\n", "a\n", "a\n", Outcome::Ended),
-            (" OUTPUT = 'a'\n OUTPUT = OUTPUT 'b'\nEND\n", "", "a\nab\n", Outcome::Ended),
+            (
+                " OUTPUT = INPUT INPUT\nEND\n",
+                "a\nb\nc",
+                "ab\n",
+                Outcome::Ended,
+            ),
+            (
+                " INPUT\n OUTPUT = INPUT\nEND\n",
+                "a\nb\n",
+                "b\n",
+                Outcome::Ended,
+            ),
+            (
+                " INPUT = 'x'\n OUTPUT = INPUT\nEND\n",
+                "a\n",
+                "a\n",
+                Outcome::Ended,
+            ),
+            (
+                " X = 'INPUT'\n OUTPUT = $X\nEND\n",
+                "a\n",
+                "a\n",
+                Outcome::Ended,
+            ),
+            (
+                " OUTPUT = 'a'\n OUTPUT = OUTPUT 'b'\nEND\n",
+                "",
+                "a\nab\n",
+                Outcome::Ended,
+            ),
             (" OUTPUT = 7\n OUTPUT =\nEND\n", "", "7\n\n", Outcome::Ended),
-            (" OUTPUT = 'a'\n OUTPUT = ARB\nEND\n", "", "a\n", error(1, 2)),
+            (
+                " OUTPUT = 'a'\n OUTPUT = ARB\nEND\n",
+                "",
+                "a\n",
+                error(1, 2),
+            ),
             (" $'OUTPUT' = 'a'\nEND\n", "", "a\n", Outcome::Ended),
         ],
     )
@@ -72,16 +108,51 @@ fn gotos(rt: HostRuntime) -> Result<(), Fail> {
             (" :(NONE)\nEND\n", "", "", error(5, 1)),
             (" :(RETURN)\nEND\n", "", "", error(13, 1)),
             (" X = 1\n :(FRETURN)\nEND\n", "", "", error(13, 2)),
-            (" X = 1 :S(A)F(B)\nA OUTPUT = 'a' :(END)\nB OUTPUT = 'b'\nEND\n", "", "a\n", Outcome::Ended),
-            (" X = INPUT :S(A)F(B)\nA OUTPUT = 'a' :(END)\nB OUTPUT = 'b'\nEND\n", "", "b\n", Outcome::Ended),
-            (" X = INPUT :S(A)\n OUTPUT = 'b' :(END)\nA OUTPUT = 'a'\nEND\n", "", "b\n", Outcome::Ended),
-            (" X = 1 :F(A)\n OUTPUT = 'b' :(END)\nA OUTPUT = 'a'\nEND\n", "", "b\n", Outcome::Ended),
-            (" X = INPUT :(A)\n OUTPUT = 'b'\nA OUTPUT = 'a'\nEND\n", "", "a\n", Outcome::Ended),
+            (
+                " X = 1 :S(A)F(B)\nA OUTPUT = 'a' :(END)\nB OUTPUT = 'b'\nEND\n",
+                "",
+                "a\n",
+                Outcome::Ended,
+            ),
+            (
+                " X = INPUT :S(A)F(B)\nA OUTPUT = 'a' :(END)\nB OUTPUT = 'b'\nEND\n",
+                "",
+                "b\n",
+                Outcome::Ended,
+            ),
+            (
+                " X = INPUT :S(A)\n OUTPUT = 'b' :(END)\nA OUTPUT = 'a'\nEND\n",
+                "",
+                "b\n",
+                Outcome::Ended,
+            ),
+            (
+                " X = 1 :F(A)\n OUTPUT = 'b' :(END)\nA OUTPUT = 'a'\nEND\n",
+                "",
+                "b\n",
+                Outcome::Ended,
+            ),
+            (
+                " X = INPUT :(A)\n OUTPUT = 'b'\nA OUTPUT = 'a'\nEND\n",
+                "",
+                "a\n",
+                Outcome::Ended,
+            ),
             (" X = 1 :S(NONE)F(END)\nEND\n", "", "", error(5, 1)),
             (" X = 1 :S(END)F($(1 / 0))\nEND\n", "", "", Outcome::Ended),
             ("7 OUTPUT = 'a' :($X)\nEND\n", "", "a\n", error(6, 1)),
-            (" X = 8 :($X)\n OUTPUT = 'b'\n8 OUTPUT = 'a'\nEND\n", "", "a\n", Outcome::Ended),
-            (" OUTPUT = 'a'\nL OUTPUT = 'b'\nEND L\n", "", "b\n", Outcome::Ended),
+            (
+                " X = 8 :($X)\n OUTPUT = 'b'\n8 OUTPUT = 'a'\nEND\n",
+                "",
+                "a\n",
+                Outcome::Ended,
+            ),
+            (
+                " OUTPUT = 'a'\nL OUTPUT = 'b'\nEND L\n",
+                "",
+                "b\n",
+                Outcome::Ended,
+            ),
             (" OUTPUT = 'a'\nEND END\n", "", "", Outcome::Ended),
         ],
     )
@@ -92,16 +163,51 @@ fn assignments(rt: HostRuntime) -> Result<(), Fail> {
     check_runs(
         &rt,
         &[
-            (" X = 1\n Y = X + 1\n OUTPUT = Y\nEND\n", "", "2\n", Outcome::Ended),
-            (" X = 'Y'\n $X = 5\n OUTPUT = Y\nEND\n", "", "5\n", Outcome::Ended),
-            (" X = 'a'\n X =\n OUTPUT = X 'b'\nEND\n", "", "b\n", Outcome::Ended),
-            (" X = 'a'\n X = INPUT\n OUTPUT = X\nEND\n", "", "a\n", Outcome::Ended),
+            (
+                " X = 1\n Y = X + 1\n OUTPUT = Y\nEND\n",
+                "",
+                "2\n",
+                Outcome::Ended,
+            ),
+            (
+                " X = 'Y'\n $X = 5\n OUTPUT = Y\nEND\n",
+                "",
+                "5\n",
+                Outcome::Ended,
+            ),
+            (
+                " X = 'a'\n X =\n OUTPUT = X 'b'\nEND\n",
+                "",
+                "b\n",
+                Outcome::Ended,
+            ),
+            (
+                " X = 'a'\n X = INPUT\n OUTPUT = X\nEND\n",
+                "",
+                "a\n",
+                Outcome::Ended,
+            ),
             (" 5 = 'a'\nEND\n", "", "", error(15, 1)),
             (" $'' = 2\nEND\n", "", "", error(6, 1)),
             (" 'a' = 1 / 0\nEND\n", "", "", error(15, 1)),
-            (" F = 'f'\n N = 'n'\n OUTPUT = F (N)\nEND\n", "", "fn\n", Outcome::Ended),
-            (" OUTPUT = '-9223372036854775808' + 0\nEND\n", "", "-9223372036854775808\n", Outcome::Ended),
-            (" OUTPUT = -7 / 2\n OUTPUT = 2 ** 3 ** 2\n OUTPUT = 1 - 2 - 3\nEND\n", "", "-3\n512\n-4\n", Outcome::Ended),
+            (
+                " F = 'f'\n N = 'n'\n OUTPUT = F (N)\nEND\n",
+                "",
+                "fn\n",
+                Outcome::Ended,
+            ),
+            (
+                " OUTPUT = '-9223372036854775808' + 0\nEND\n",
+                "",
+                "-9223372036854775808\n",
+                Outcome::Ended,
+            ),
+            (
+                " OUTPUT = -7 / 2\n OUTPUT = 2 ** 3 ** 2\n OUTPUT = 1 - 2 - 3\nEND\n",
+                "",
+                "-3\n512\n-4\n",
+                Outcome::Ended,
+            ),
             (" OUTPUT = 1 / 0\nEND\n", "", "", error(3, 1)),
         ],
     )
@@ -112,26 +218,66 @@ fn keywords(rt: HostRuntime) -> Result<(), Fail> {
     check_runs(
         &rt,
         &[
-            (" OUTPUT = &STCOUNT ' ' &STNO\nEND\n", "", "1 1\n", Outcome::Ended),
-            ("L OUTPUT = &STCOUNT ' ' &STNO\n X = X + 1\n LT(X,2) :S(L)\nEND\n", "", "1 1\n4 1\n", Outcome::Ended),
+            (
+                " OUTPUT = &STCOUNT ' ' &STNO\nEND\n",
+                "",
+                "1 1\n",
+                Outcome::Ended,
+            ),
+            (
+                "L OUTPUT = &STCOUNT ' ' &STNO\n X = X + 1\n LT(X,2) :S(L)\nEND\n",
+                "",
+                "1 1\n4 1\n",
+                Outcome::Ended,
+            ),
             (" &STLIMIT = 2\n X = 1\n Y = 2\nEND\n", "", "", error(20, 3)),
             (" &STLIMIT = 2\n X = 1\nEND\n", "", "", Outcome::Ended),
             (" &STLIMIT = 0\nEND\n", "", "", Outcome::Ended),
             (" &STLIMIT = 1000001\nEND\n", "", "", error(14, 1)),
-            (" &STLIMIT = 1000000\n OUTPUT = &STLIMIT\nEND\n", "", "1000000\n", Outcome::Ended),
+            (
+                " &STLIMIT = 1000000\n OUTPUT = &STLIMIT\nEND\n",
+                "",
+                "1000000\n",
+                Outcome::Ended,
+            ),
             (" &STLIMIT = -1\nEND\n", "", "", error(14, 1)),
             (" &STLIMIT = 'a'\nEND\n", "", "", error(1, 1)),
-            (" &ANCHOR = '-2'\n OUTPUT = &ANCHOR + 1\nEND\n", "", "-1\n", Outcome::Ended),
-            (" &TRIM =\n OUTPUT = &TRIM\nEND\n", "", "0\n", Outcome::Ended),
+            (
+                " &ANCHOR = '-2'\n OUTPUT = &ANCHOR + 1\nEND\n",
+                "",
+                "-1\n",
+                Outcome::Ended,
+            ),
+            (
+                " &TRIM =\n OUTPUT = &TRIM\nEND\n",
+                "",
+                "0\n",
+                Outcome::Ended,
+            ),
             (" &STNO = OUTPUT\nEND\n", "", "", error(14, 1)),
             (" &FOO = 1 / 0\nEND\n", "", "", error(14, 1)),
             (" OUTPUT = &FOO\nEND\n", "", "", error(14, 1)),
             (" &ALPHABET = 1\nEND\n", "", "", error(14, 1)),
             (" &ANCHOR 'A' = 1\nEND\n", "", "", error(15, 1)),
-            (" &ANCHOR 0\n OUTPUT = 'a'\nEND\n", "", "a\n", Outcome::Ended),
+            (
+                " &ANCHOR 0\n OUTPUT = 'a'\nEND\n",
+                "",
+                "a\n",
+                Outcome::Ended,
+            ),
             (" &FOO 'A'\nEND\n", "", "", error(14, 1)),
-            (" (&ANCHOR) = 1\n 'AB' 'B' :S(END)\n OUTPUT = 'a'\nEND\n", "", "a\n", Outcome::Ended),
-            (" &ANCHOR = INPUT\n OUTPUT = 'a' &ANCHOR\nEND\n", "", "a0\n", Outcome::Ended),
+            (
+                " (&ANCHOR) = 1\n 'AB' 'B' :S(END)\n OUTPUT = 'a'\nEND\n",
+                "",
+                "a\n",
+                Outcome::Ended,
+            ),
+            (
+                " &ANCHOR = INPUT\n OUTPUT = 'a' &ANCHOR\nEND\n",
+                "",
+                "a0\n",
+                Outcome::Ended,
+            ),
         ],
     )
 }
@@ -153,18 +299,58 @@ fn matches(rt: HostRuntime) -> Result<(), Fail> {
                 "A\n",
                 Outcome::Ended,
             ),
-            (" 'AB' LEN(1) $ OUTPUT 'B' . OUTPUT\nEND\n", "", "A\nB\n", Outcome::Ended),
-            (" 'AB' LEN(1) . OUTPUT LEN(1) . OUTPUT\nEND\n", "", "A\nB\n", Outcome::Ended),
-            (" 'AB' LEN(1) . X 'C'\n OUTPUT = X 'a'\nEND\n", "", "a\n", Outcome::Ended),
-            (" 'AB' LEN(1) @N\n OUTPUT = N\nEND\n", "", "1\n", Outcome::Ended),
-            (" 'AB' ABORT :S(END)\n OUTPUT = 'a'\nEND\n", "", "a\n", Outcome::Ended),
+            (
+                " 'AB' LEN(1) $ OUTPUT 'B' . OUTPUT\nEND\n",
+                "",
+                "A\nB\n",
+                Outcome::Ended,
+            ),
+            (
+                " 'AB' LEN(1) . OUTPUT LEN(1) . OUTPUT\nEND\n",
+                "",
+                "A\nB\n",
+                Outcome::Ended,
+            ),
+            (
+                " 'AB' LEN(1) . X 'C'\n OUTPUT = X 'a'\nEND\n",
+                "",
+                "a\n",
+                Outcome::Ended,
+            ),
+            (
+                " 'AB' LEN(1) @N\n OUTPUT = N\nEND\n",
+                "",
+                "1\n",
+                Outcome::Ended,
+            ),
+            (
+                " 'AB' ABORT :S(END)\n OUTPUT = 'a'\nEND\n",
+                "",
+                "a\n",
+                Outcome::Ended,
+            ),
             (" 12 '2' . X\n OUTPUT = X\nEND\n", "", "2\n", Outcome::Ended),
             (" ARB 'a'\nEND\n", "", "", error(1, 1)),
             (" ARB 1 / 0\nEND\n", "", "", error(1, 1)),
-            (" INPUT 'a' :F(END)\n OUTPUT = 'b'\nEND\n", "", "", Outcome::Ended),
-            (" 'a' INPUT :F(END)\n OUTPUT = 'b'\nEND\n", "", "", Outcome::Ended),
+            (
+                " INPUT 'a' :F(END)\n OUTPUT = 'b'\nEND\n",
+                "",
+                "",
+                Outcome::Ended,
+            ),
+            (
+                " 'a' INPUT :F(END)\n OUTPUT = 'b'\nEND\n",
+                "",
+                "",
+                Outcome::Ended,
+            ),
             (" 'a' LEN('x')\nEND\n", "", "", error(1, 1)),
-            (" &ANCHOR = 1\n 'AB' 'B' :S(END)\n OUTPUT = 'a'\nEND\n", "", "a\n", Outcome::Ended),
+            (
+                " &ANCHOR = 1\n 'AB' 'B' :S(END)\n OUTPUT = 'a'\nEND\n",
+                "",
+                "a\n",
+                Outcome::Ended,
+            ),
         ],
     )
 }
@@ -174,18 +360,68 @@ fn replacements(rt: HostRuntime) -> Result<(), Fail> {
     check_runs(
         &rt,
         &[
-            (" S = 'ABCABC'\n S 'B' = '--'\n OUTPUT = S\nEND\n", "", "A--CABC\n", Outcome::Ended),
-            (" S = 'AB'\n S LEN(1) . X = X X\n OUTPUT = S\nEND\n", "", "AAB\n", Outcome::Ended),
-            (" S = 'AB'\n S LEN(1) . S = '-'\n OUTPUT = S\nEND\n", "", "-B\n", Outcome::Ended),
-            (" X = 5\n X LEN(1) = '7'\n OUTPUT = X + 1\nEND\n", "", "8\n", Outcome::Ended),
-            (" S = 'AB'\n S 'B' =\n OUTPUT = S\nEND\n", "", "A\n", Outcome::Ended),
-            (" S = 'AB'\n S 'C' = 'D' :S(END)\n OUTPUT = S\nEND\n", "", "AB\n", Outcome::Ended),
-            (" S = 'AB'\n S 'B' = 12\n OUTPUT = S\nEND\n", "", "A12\n", Outcome::Ended),
+            (
+                " S = 'ABCABC'\n S 'B' = '--'\n OUTPUT = S\nEND\n",
+                "",
+                "A--CABC\n",
+                Outcome::Ended,
+            ),
+            (
+                " S = 'AB'\n S LEN(1) . X = X X\n OUTPUT = S\nEND\n",
+                "",
+                "AAB\n",
+                Outcome::Ended,
+            ),
+            (
+                " S = 'AB'\n S LEN(1) . S = '-'\n OUTPUT = S\nEND\n",
+                "",
+                "-B\n",
+                Outcome::Ended,
+            ),
+            (
+                " X = 5\n X LEN(1) = '7'\n OUTPUT = X + 1\nEND\n",
+                "",
+                "8\n",
+                Outcome::Ended,
+            ),
+            (
+                " S = 'AB'\n S 'B' =\n OUTPUT = S\nEND\n",
+                "",
+                "A\n",
+                Outcome::Ended,
+            ),
+            (
+                " S = 'AB'\n S 'C' = 'D' :S(END)\n OUTPUT = S\nEND\n",
+                "",
+                "AB\n",
+                Outcome::Ended,
+            ),
+            (
+                " S = 'AB'\n S 'B' = 12\n OUTPUT = S\nEND\n",
+                "",
+                "A12\n",
+                Outcome::Ended,
+            ),
             (" S = 'AB'\n S 'B' = ARB\nEND\n", "", "", error(1, 2)),
-            (" S = 'AB'\n S LEN(1) . X = INPUT\n OUTPUT = S X\nEND\n", "", "ABA\n", Outcome::Ended),
+            (
+                " S = 'AB'\n S LEN(1) . X = INPUT\n OUTPUT = S X\nEND\n",
+                "",
+                "ABA\n",
+                Outcome::Ended,
+            ),
             (" 5 LEN(1) = 'A'\nEND\n", "", "", error(15, 1)),
-            (" INPUT 'A' = 'B'\n OUTPUT = 'c'\nEND\n", "A\n", "c\n", Outcome::Ended),
-            (" OUTPUT = 'ab'\n OUTPUT 'b' = 'c'\nEND\n", "", "ab\nac\n", Outcome::Ended),
+            (
+                " INPUT 'A' = 'B'\n OUTPUT = 'c'\nEND\n",
+                "A\n",
+                "c\n",
+                Outcome::Ended,
+            ),
+            (
+                " OUTPUT = 'ab'\n OUTPUT 'b' = 'c'\nEND\n",
+                "",
+                "ab\nac\n",
+                Outcome::Ended,
+            ),
             (" S = 'A'\n S 'A' 1 / 0 = 'B'\nEND\n", "", "", error(3, 2)),
         ],
     )
@@ -202,11 +438,23 @@ fn limits_of_a_run(rt: HostRuntime) -> Result<(), Fail> {
         match_steps,
     };
     check_within(&rt, statements(3), &("L :(L)\nEND\n", "", "", error(20, 1)))?;
-    check_within(&rt, statements(1), &(" X = 1\nEND\n", "", "", Outcome::Ended))?;
-    check_within(&rt, statements(1), &(" X = 1\n Y = 1\nEND\n", "", "", error(20, 2)))?;
+    check_within(
+        &rt,
+        statements(1),
+        &(" X = 1\nEND\n", "", "", Outcome::Ended),
+    )?;
+    check_within(
+        &rt,
+        statements(1),
+        &(" X = 1\n Y = 1\nEND\n", "", "", error(20, 2)),
+    )?;
     check_within(&rt, statements(1), &("END\n", "", "", Outcome::Ended))?;
     check_within(&rt, steps(0), &(" 'A' 'A'\nEND\n", "", "", error(21, 1)))?;
-    check_within(&rt, steps(1), &(" 'A' 'A'\n OUTPUT = 'b'\nEND\n", "", "b\n", Outcome::Ended))?;
+    check_within(
+        &rt,
+        steps(1),
+        &(" 'A' 'A'\n OUTPUT = 'b'\nEND\n", "", "b\n", Outcome::Ended),
+    )?;
     let counts = "L 'AAA' LEN(1) $ OUTPUT FAIL\nEND\n";
     check_within(&rt, steps(4), &(counts, "", "A\n", error(21, 1)))
 }

@@ -6,9 +6,9 @@ use std::test::Fail;
 
 /// A writer with room for so many bytes, which takes none when it is full.
 #[derive(Drop)]
-struct Shut {
-    taken: Vec<u8>,
-    room: usize,
+pub(super) struct Shut {
+    pub(super) taken: Vec<u8>,
+    pub(super) room: usize,
 }
 
 impl Write for Shut {

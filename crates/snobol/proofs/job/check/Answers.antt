@@ -1,10 +1,10 @@
-use Rattle.std.proofs.Common.{◌≡◌, refl, inl, inr, rules, ap, sym, ◌∙◌}
-use Rattle.sno_text.specs.declared.error.ReadError.TheVariants.{NoMemory}
-use Rattle.snobol.specs.Jobs.{IsChecked, accepted, refused, no_memory}
+use Rattle.std.proofs.Common.{refl}
+use Rattle.snobol.specs.Jobs.{accepted}
+use Rattle.snobol.proofs.JobLaws.{refusal_checked}
 use Rattle.snobol.proofs.job.check.Goals as goal
 
-pub returns-in_default : goal.returns-in_default
-returns-in_default g c = let h = c.in_default.ensures.accepted in accepted refl h.0 h.1
+pub returns-in-Ok : goal.returns-in-Ok
+returns-in-Ok g c = let h = c.in-Ok.ensures.accepted in accepted refl h.0 h.1
 
-pub returns : goal.returns
-returns g c = elim c.in-Err.ensures.refused [ inl e ↦ absurd (c.in_default-error.not-NoMemory e) | inr r ↦ refused c.report-2.ensures c.in-Err.error r ]
+pub returns-in-Err : goal.returns-in-Err
+returns-in-Err g c = (refusal_checked c.args.text.now c.in-Err.error c.refuse.result c.in-Err.ensures.refused c.refuse.ensures).0

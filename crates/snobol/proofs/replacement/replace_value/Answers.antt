@@ -1,0 +1,39 @@
+use Rattle.std.proofs.lemmas.Result.{err_from_is_err_and}
+use Rattle.snobol.specs.State.{tree_of, IsPatternOf, itself, any}
+use Rattle.snobol.specs.Running.{IsSpanOf}
+use Rattle.snobol.proofs.RunningLaws.{then_runs, then_ended}
+use Rattle.snobol.proofs.StatementLaws.{read_ended, read_then, text_runs, textless_runs}
+use Rattle.snobol.proofs.replacement.replace_value.Goals as goal
+
+pub returns-in_err-text : goal.returns-in_err-text
+returns-in_err-text g c =
+    let p = err_from_is_err_and c.from_residual.result c.from_residual.ensures.1 in
+    rw (p.1, p.2) (textless_runs itself any _ _ _ _ _ c.requires.ready (c.in_err-text.ensures.text c.args.machine.now.nodes))
+
+pub returns-in_err-pattern : goal.returns-in_err-pattern
+returns-in_err-pattern g c =
+    let p = err_from_is_err_and c.from_residual-in_err-pattern.result c.from_residual-in_err-pattern.ensures.1 in
+    rw (p.1, p.2) (text_runs itself any _ _ _ _ _ _ c.in_ok-text.text _ (c.in_ok-text.ensures.text c.args.machine.now.nodes)
+    (read_ended tree_of IsPatternOf itself any _ _ _ _ _ _ _ _ _ c.requires.ready.writes c.in_err-pattern.ensures))
+
+pub returns-in_err-span : goal.returns-in_err-span
+returns-in_err-span g c =
+    let p = err_from_is_err_and c.from_residual-in_err-span.result c.from_residual-in_err-span.ensures.1 in
+    let did = rw c.deref.ensures.value at c.in_err-span.ensures in
+    rw (p.1, p.2) (text_runs itself any _ _ _ _ _ _ c.in_ok-text.text _ (c.in_ok-text.ensures.text c.args.machine.now.nodes)
+    (read_then tree_of IsPatternOf itself any _ _ _ _ _ _ _ _ _ _ _ _ c.requires.ready.writes c.in_ok-pattern.ensures
+    (then_ended itself (IsSpanOf _) itself any _ _ _ _ _ _ _ did)))
+
+pub returns : goal.returns
+returns g c =
+    let did = rw c.deref.ensures.value at c.in_ok-span.ensures in
+    let put = rw c.deref-2.ensures.value at c.put_object.ensures in
+    text_runs itself any _ _ _ _ _ _ c.in_ok-text.text _ (c.in_ok-text.ensures.text c.args.machine.now.nodes)
+    (read_then tree_of IsPatternOf itself any _ _ _ _ _ _ _ _ _ _ _ _ c.requires.ready.writes c.in_ok-pattern.ensures
+    (then_runs itself (IsSpanOf _) itself any _ _ _ _ _ _ _ _ _ _ did put))
+
+pub match_first-requires-clause-subject : goal.match_first-requires-clause-subject
+match_first-requires-clause-subject g c = rw c.deref.ensures.value (c.in_ok-text.ensures.short c.args.machine.now.nodes c.requires.value)
+
+pub put_object-requires-clause-short : goal.put_object-requires-clause-short
+put_object-requires-clause-short g c = rw c.deref-2.ensures.value (c.in_ok-text.ensures.short c.args.machine.now.nodes c.requires.value)
