@@ -13,6 +13,7 @@ pub mod InputLaws
 pub mod Performing
 pub mod RunningLaws
 pub mod JobLaws
+pub mod Ranges
 pub mod LineLaws
 pub mod Names
 pub mod Primitives
