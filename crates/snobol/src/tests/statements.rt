@@ -1,4 +1,7 @@
 //! Programs, what they write, and how they end.
+ghost use Rattle.std.specs.Prelude.{◌≤◌};
+ghost use Rattle.snobol.specs.Running.{IsLimits};
+
 use crate::{Device, Limits, Outcome, run};
 use sno_text::read_program;
 use std::process::Abort;
@@ -7,18 +10,15 @@ use std::test::Fail;
 /// A program, its input, its output, and how it ends.
 type Row<'a> = (&'a str, &'a str, &'a str, Outcome);
 
-const LIMITS: Limits = Limits {
-    statements: 1_000_000,
-    match_steps: 1_000_000,
-};
-
 /// An error in a statement.
 fn error(code: u8, statement: u32) -> Outcome {
     Outcome::Error { code, statement }
 }
 
 /// Runs a program within limits.
-fn check_within<R: Abort + AllocGlobal>(rt: &R, limits: Limits, row: &Row) -> Result<(), Fail> {
+fn check_within<R: Abort + AllocGlobal>(rt: &R, limits: Limits, row: &Row) -> Result<(), Fail>
+    requires { IsLimits limits }
+{
     let alloc = rt.alloc();
     let program = read_program(alloc, row.0.as_bytes())?;
     let mut input = Device::new(row.1.as_bytes());
@@ -36,7 +36,7 @@ fn check_within<R: Abort + AllocGlobal>(rt: &R, limits: Limits, row: &Row) -> Re
 
 fn check_runs<R: Abort + AllocGlobal>(rt: &R, rows: &[Row]) -> Result<(), Fail> {
     for row in rows {
-        check_within(rt, LIMITS, row)?;
+        check_within(rt, steps(1_000_000), row)?;
     }
     Ok(())
 }
@@ -427,16 +427,31 @@ fn replacements(rt: HostRuntime) -> Result<(), Fail> {
     )
 }
 
-#[test]
-fn limits_of_a_run(rt: HostRuntime) -> Result<(), Fail> {
-    let statements = |statements| Limits {
+/// So many statements, and the most steps.
+fn statements(statements: u64) -> Limits
+    requires some { 1 ≤ statements }
+    requires most { statements ≤ 1_000_000_000_000 }
+    ensures { IsLimits result }
+{
+    Limits {
         statements,
         match_steps: 1_000_000,
-    };
-    let steps = |match_steps| Limits {
+    }
+}
+
+/// So many steps, and the most statements.
+fn steps(match_steps: u32) -> Limits
+    requires { match_steps ≤ 1_000_000_000 }
+    ensures { IsLimits result }
+{
+    Limits {
         statements: 1_000_000,
         match_steps,
-    };
+    }
+}
+
+#[test]
+fn limits_of_a_run(rt: HostRuntime) -> Result<(), Fail> {
     check_within(&rt, statements(3), &("L :(L)\nEND\n", "", "", error(20, 1)))?;
     check_within(
         &rt,
