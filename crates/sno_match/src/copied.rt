@@ -1,11 +1,12 @@
 //! Resumption points whose goal lists are copied.
-ghost use Rattle.std.specs.Prelude.{◌≡◌, [], ◌∷◌, ◌++◌, IfOk, IfNone, IfSome};
+ghost use Rattle.std.specs.Prelude.{◌≡◌, [], ◌∷◌, ◌++◌, OnOk, IfNone, IfSome};
 ghost use Rattle.sno_match.specs.Point.{rest_of};
 
 use crate::event::Pending;
 use crate::goal::{Goal, Mark, Top};
 use crate::points::Points;
 use std::alloc::{AllocError, Global};
+use std::mem::swap;
 
 /// A resumption point with lists of its own.
 #[derive(Drop)]
@@ -20,11 +21,16 @@ struct Held {
     mark: Mark,
 }
 
-/// A stack of points: the newest, and those below it with the newest of them last.
+/// A stack of points: the newest, and those below it with the newest of them last. Lists that are no longer needed are
+/// kept, so that a move takes memory only where no list has room for it.
 #[derive(Drop)]
 pub struct CopiedGoals {
     top: Option<Held>,
     below: Vec<Held>,
+    /// Points that were dropped: their lists become those of new ones.
+    spare: Vec<Held>,
+    /// Where the next goals of the newest point are put together, before they take the place of its own.
+    room: Vec<Goal>,
     alloc: Global,
 }
 
@@ -39,6 +45,8 @@ impl Points for CopiedGoals {
         CopiedGoals {
             top: None,
             below: Vec::new(alloc),
+            spare: Vec::new(alloc),
+            room: Vec::new(alloc),
             alloc,
         }
     }
@@ -72,10 +80,9 @@ impl Points for CopiedGoals {
     }
 
     fn replace(&mut self, front: &[Goal], cursor: usize) -> Result<(), AllocError> {
-        let alloc = self.alloc;
         if let Some(point) = &mut self.top {
-            let goals = joined(alloc, front, &point.goals)?;
-            point.goals = goals;
+            join(&mut self.room, front, &point.goals)?;
+            swap(&mut self.room, &mut point.goals);
             point.cursor = cursor;
             point.mark = Mark::Enter;
         }
@@ -85,15 +92,14 @@ impl Points for CopiedGoals {
     fn branch(&mut self, front: &[Goal], cursor: usize, next: usize) -> Result<(), AllocError> {
         let alloc = self.alloc;
         if let Some(point) = &mut self.top {
-            let goals = joined(alloc, front, &point.goals)?;
-            let stays = Held {
-                goals: point.goals.as_slice().to_vec(alloc)?,
-                cursor: point.cursor,
-                pending: point.pending.as_slice().to_vec(alloc)?,
-                mark: Mark::Next(next),
-            };
+            join(&mut self.room, front, &point.goals)?;
+            let mut stays = unused(&mut self.spare, alloc);
+            stays.goals.extend_from_slice(&point.goals)?;
+            stays.cursor = point.cursor;
+            stays.pending.extend_from_slice(&point.pending)?;
+            stays.mark = Mark::Next(next);
             self.below.push(stays)?;
-            point.goals = goals;
+            swap(&mut self.room, &mut point.goals);
             point.cursor = cursor;
             point.mark = Mark::Enter;
         }
@@ -101,53 +107,77 @@ impl Points for CopiedGoals {
     }
 
     fn close(&mut self, assignment: Pending) -> Result<(), AllocError> {
-        let alloc = self.alloc;
         if let Some(point) = &mut self.top {
-            let goals = joined(alloc, &[], &point.goals)?;
+            join(&mut self.room, &[], &point.goals)?;
             point.pending.push(assignment)?;
-            point.goals = goals;
+            swap(&mut self.room, &mut point.goals);
             point.mark = Mark::Enter;
         }
         Ok(())
     }
 
     fn pop(&mut self) {
-        if self.top.is_some() {
+        if let Some(point) = self.top.take() {
             self.top = self.below.pop();
+            keep(&mut self.spare, point);
         }
     }
 
     fn finish(&mut self, way: &mut Vec<Pending>) -> Result<(), AllocError> {
-        if let Some(point) = self.top.take() {
-            *way = point.pending;
+        if let Some(mut point) = self.top.take() {
+            swap(way, &mut point.pending);
             self.top = self.below.pop();
+            keep(&mut self.spare, point);
         }
         Ok(())
     }
 
     fn begin(&mut self, goal: Goal, cursor: usize) -> Result<(), AllocError> {
-        let goals = [goal].to_vec(self.alloc)?;
-        self.below = Vec::new(self.alloc);
-        self.top = Some(Held {
-            goals,
-            cursor,
-            pending: Vec::new(self.alloc),
-            mark: Mark::Enter,
-        });
+        let mut point = unused(&mut self.spare, self.alloc);
+        point.goals.push(goal)?;
+        point.cursor = cursor;
+        self.below.clear();
+        self.top = Some(point);
         Ok(())
     }
 }
 
-/// These goals, and then all but the first.
-fn joined(alloc: Global, front: &[Goal], goals: &[Goal]) -> Result<Vec<Goal>, AllocError>
-    ensures { IfOk result (λ v. v.items ≡ front.now ++ rest_of goals.now) }
+/// A point with empty lists, which have the room of a spare point's where there is one.
+fn unused(spare: &mut Vec<Held>, alloc: Global) -> Held
+    ensures goals { result.goals.items ≡ [] }
+    ensures pending { result.pending.items ≡ [] }
+    ensures mark { result.mark ≡ Mark.Enter }
 {
-    let mut all = front.to_vec(alloc)?;
+    let Some(mut point) = spare.pop() else {
+        return Held {
+            goals: Vec::new(alloc),
+            cursor: 0,
+            pending: Vec::new(alloc),
+            mark: Mark::Enter,
+        };
+    };
+    point.goals.clear();
+    point.pending.clear();
+    point.mark = Mark::Enter;
+    point
+}
+
+/// A dropped point becomes a spare one. Where there is no memory for that, it is let go.
+fn keep(spare: &mut Vec<Held>, point: Held) {
+    let _kept = spare.push(point);
+}
+
+/// These goals, and then all but the first, are put together.
+fn join(room: &mut Vec<Goal>, front: &[Goal], goals: &[Goal]) -> Result<(), AllocError>
+    ensures { OnOk result (room.new.items ≡ front.now ++ rest_of goals.now) }
+{
+    room.clear();
+    room.extend_from_slice(front)?;
     match goals {
         [] => {}
-        [_first, rest @ ..] => all.extend_from_slice(rest)?,
+        [_first, rest @ ..] => room.extend_from_slice(rest)?,
     }
-    Ok(all)
+    Ok(())
 }
 
 fn first_of(goals: &[Goal]) -> Option<Goal>
