@@ -73,8 +73,25 @@ impl<P: Points> Engine<P> {
         ensures begins { IfOk result (λ m. m ≡ begins patterns.now pattern subject.now anchored limit m.records) }
         ensures counts { IfOk result (λ m. IsCounted m) }
     {
-        let mut points = P::empty(alloc);
         let subject = subject.to_vec(alloc)?;
+        let made = Engine::over(alloc, patterns, pattern, subject, anchored, limit)?;
+        Ok(made)
+    }
+
+    /// A match as `new` gives it, of a subject that is the match's own from then on. It takes no memory for that.
+    pub fn over(
+        alloc: Global,
+        patterns: &Patterns,
+        pattern: PatId,
+        subject: Vec<u8>,
+        anchored: bool,
+        limit: u32,
+    ) -> Result<Engine<P>, AllocError>
+        requires { pattern.0 < length patterns.now }
+        ensures begins { IfOk result (λ m. m ≡ begins patterns.now pattern subject.items anchored limit m.records) }
+        ensures counts { IfOk result (λ m. IsCounted m) }
+    {
+        let mut points = P::empty(alloc);
         points.begin(Goal::Match(pattern), 0)?;
         Ok(Engine {
             points,
@@ -258,6 +275,13 @@ impl<P: Points> Engine<P> {
         ensures { result.now ≡ take (end - start) (drop start self.now.subject) }
     {
         &self.subject[start..end]
+    }
+
+    /// The bytes of the subject.
+    pub fn subject(&self) -> &[u8]
+        ensures { result.now ≡ self.now.subject }
+    {
+        &self.subject
     }
 }
 

@@ -446,3 +446,14 @@ fn values_are_answered(rt: HostRuntime) -> Result<(), Fail> {
     assert_eq!(rt; m.records(), 0);
     Ok(())
 }
+
+#[test]
+fn a_subject_is_taken_over(rt: HostRuntime) -> Result<(), Fail> {
+    let mut table = Patterns::new(rt.alloc());
+    let a = table.text(b"A")?;
+    let subject = b"BA".to_vec(rt.alloc())?;
+    let mut m = Matcher::over(rt.alloc(), &table, a, subject, false, 10)?;
+    assert_eq!(rt; m.next(&table)?, way(1, 2));
+    assert_eq!(rt; m.subject(), b"BA".as_slice());
+    Ok(())
+}
