@@ -15,6 +15,7 @@ pub mod Lines
 pub mod Session
 pub mod Performs
 pub mod Matches
+pub mod Begun
 pub mod Statements
 pub mod Meaning
 pub mod Running
