@@ -23,5 +23,6 @@ pub mod FunctionLaws
 pub mod StatementLaws
 pub mod GotoLaws
 pub mod RunLaws
+pub mod TargetLaws
 pub mod MatchLaws
 pub mod AskingLaws

@@ -19,6 +19,7 @@ pub mod Begun
 pub mod Statements
 pub mod Meaning
 pub mod Running
+pub mod Targets
 pub mod Asking
 pub mod Primitives
 pub mod Converted

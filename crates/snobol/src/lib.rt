@@ -24,6 +24,7 @@ mod pile;
 mod replacement;
 mod session;
 mod statements;
+mod targets;
 mod texts;
 mod types;
 mod unary;
