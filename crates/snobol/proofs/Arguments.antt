@@ -1,18 +1,25 @@
 -- Functions on their arguments.
-use Rattle.std.proofs.Common.{◌≡◌, ℕ, zero, suc, ◌<◌, arith, true, ℤ, pos, negsuc, List, [], ◌∷◌, refl, sym, map, slice_set, slice_get, length, ◌≤◌, Option, None, Some, Result, Ok, Err}
+use Rattle.std.proofs.Common.{◌≡◌, ℕ, ◌-◌, arith, ℤ, pos, negsuc, List, [], ◌∷◌, refl, ap, sym, ◌∙◌, subst, map, take, drop, min, slice_set, length, ◌≤◌, Option, None, Some, Result, Ok, Err}
 use Rattle.std.specs.List.{AllByRecursion}
+use Rattle.std.proofs.lemmas.List.{take_all}
 use Rattle.std.proofs.lemmas.Option.{slice_get_past}
 use Rattle.sno_value.specs.declared.ids.PatId.{PatId}
 use Rattle.sno_value.specs.declared.kind.PrimitiveKind.{PrimitiveKind}
 use Rattle.sno_value.specs.declared.value.Value.{Value as Stored}
 use Rattle.sno_pattern.specs.declared.argument.Arg.TheVariants.{Count}
+use Rattle.sno_text.specs.declared.node.Node.{Node as Form}
+use Rattle.sno_text.specs.declared.node.Node.TheVariants.{Variable, Integer, Literal, Keyword, Unary, Binary, Call, Item}
+use Rattle.sno_text.specs.declared.node.Span.{Span}
+use Rattle.sno_value.specs.declared.ids.ExprId.{ExprId}
+use Rattle.std.specs.declared.vec.Vec.{Vec}
+use Rattle.std.specs.declared.alloc.Global.{Global}
 use Rattle.sno_text.specs.Source.{Source}
 use Rattle.sno_pattern.specs.Pattern.{Pattern, Arbno}
 use Rattle.sno_pattern.specs.Table.{Node}
 use Rattle.snobol.specs.declared.machine.Exit.{Exit}
-use Rattle.snobol.specs.Action.{End, Error, Action, gives, stops, settles, and_then}
+use Rattle.snobol.specs.Action.{End, Error, Action, gives, fails, stops, settles, and_then}
 use Rattle.snobol.specs.Values.{Value, Pat, shown, IsValueOf}
-use Rattle.snobol.specs.Evaluate.{argument, as_pattern, makes_value, count_primitive, set_primitive, repetition}
+use Rattle.snobol.specs.Evaluate.{argument, as_pattern, makes_value, count_primitive, set_primitive, repetition, holder_value, rest}
 use Rattle.snobol.specs.Variables.{wrong_type}
 use Rattle.snobol.specs.declared.forms.Part.{Part}
 use Rattle.snobol.specs.Forms.{node_at}
@@ -62,3 +69,41 @@ second_known nodes v (x ∷ xs) ys h k all = rw h (k, all.1)
 -- a number beyond the table has no form
 pub no_form : (source : Source) (part : Part) → length source.nodes ≤ part.node.0 → node_at source part ≡ None
 no_form source part h = slice_get_past source.nodes part.node.0 h
+
+-- no form but an item is of a variable
+pub no_holder : (text : List ℕ) (form : Form) → ((span : Span) (ids : Vec ExprId Global) → form ≡ Item span ids → ⊥) → holder_value text form ≡ fails
+no_holder text (Variable span) h = refl
+no_holder text (Integer number) h = refl
+no_holder text (Literal span) h = refl
+no_holder text (Keyword span) h = refl
+no_holder text (Unary operator a) h = refl
+no_holder text (Binary operator a b) h = refl
+no_holder text (Call span ids) h = refl
+no_holder text (Item span ids) h = absurd (h span ids refl)
+
+-- the values behind the first one, which was taken out
+behind : (v : Stored) (xs ys : List Stored) (at : ℕ) → ys ≡ slice_set xs 0 v → at ≡ min (length ys) 1 → take (length ys - at) (drop at ys) ≡ drop 1 xs
+behind v [] ys at h k = rw (k, h) refl
+behind v (x ∷ xs) ys at h k =
+    let same : at ≡ min (length (v ∷ xs)) 1 = k ∙ ap (λ zs. min (length zs) 1) h in
+    let one : at ≡ 1 = omega arith in
+    rw (one, h) (take_all (length (v ∷ xs) - 1) xs (omega arith))
+
+behind_seen : (nodes : List Node) (xs : List Stored) → map (shown nodes) (drop 1 xs) ≡ rest (map (shown nodes) xs)
+behind_seen nodes [] = refl
+behind_seen nodes (x ∷ xs) = refl
+
+behind_known : (nodes : List Node) (xs : List Stored) → AllByRecursion (IsValueOf nodes) xs → AllByRecursion (IsValueOf nodes) (drop 1 xs)
+behind_known nodes [] h = tt
+behind_known nodes (x ∷ xs) h = h.1
+
+pub subscripts_known : (nodes : List Node) (v : Stored) (xs ys : List Stored) (at : ℕ) → ys ≡ slice_set xs 0 v → at ≡ min (length ys) 1 → AllByRecursion (IsValueOf nodes) xs → AllByRecursion (IsValueOf nodes) (take (length ys - at) (drop at ys))
+subscripts_known nodes v xs ys at h k all = subst (AllByRecursion (IsValueOf nodes)) (sym (behind v xs ys at h k)) (behind_known nodes xs all)
+
+-- what is done with the first value and those behind it, as the code takes them
+pub on_item : (act : Value → List Value → Action Value) (nodes : List Node) (v x : Stored) (xs ys : List Stored) (at : ℕ) (a b : State) (r : Result Stored Exit) → shown nodes x ≡ argument (map (shown nodes) xs) 0
+    → ys ≡ slice_set xs 0 v → at ≡ min (length ys) 1 → Does shown IsValueOf (act (shown nodes x) (map (shown nodes) (take (length ys - at) (drop at ys)))) a b r
+    → Does shown IsValueOf (act (argument (map (shown nodes) xs) 0) (rest (map (shown nodes) xs))) a b r
+on_item act nodes v x xs ys at a b r e h k did =
+    let seen : map (shown nodes) (take (length ys - at) (drop at ys)) ≡ rest (map (shown nodes) xs) = ap (map (shown nodes)) (behind v xs ys at h k) ∙ behind_seen nodes xs in
+    subst (λ (m : Action Value). Does shown IsValueOf m a b r) (λ i. act (e i) (seen i)) did

@@ -133,12 +133,12 @@ resumed_last source p held vs v rest h =
     λ i. settles (gathered (expression source) (apply_at source p) (dropped_none (parts_at source p) (suc held) h i) (sym (held_more held vs v) i)) (rest (sym (kept_more held vs v) i))
 
 -- one that waited has no value where its operand has none
-pub resumed_failed : (source : Source) (f : Waiting) (vs : List Value) (rest : Rest) → absorbs (node_at source f.part) f.part.as_name ≡ false → resumed source f rest vs None ≡ rest (take (length vs - f.held) vs) None
+pub resumed_failed : (source : Source) (f : Waiting) (vs : List Value) (rest : Rest) → absorbs (node_at source f.part) f.part.wanted ≡ false → resumed source f rest vs None ≡ rest (take (length vs - f.held) vs) None
 resumed_failed source f vs rest h =
     ap (λ (b : Bool). settles (if b then gives (Str []) else fails) (rest (take (length vs - f.held) vs))) h ∙ settles_fails (rest (take (length vs - f.held) vs))
 
 -- or is null there
-pub resumed_absorbed : (source : Source) (f : Waiting) (vs : List Value) (rest : Rest) → absorbs (node_at source f.part) f.part.as_name ≡ true
+pub resumed_absorbed : (source : Source) (f : Waiting) (vs : List Value) (rest : Rest) → absorbs (node_at source f.part) f.part.wanted ≡ true
     → resumed source f rest vs None ≡ rest (take (length vs - f.held) vs) (Some (Str []))
 resumed_absorbed source f vs rest h =
     ap (λ (b : Bool). settles (if b then gives (Str []) else fails) (rest (take (length vs - f.held) vs))) h ∙ settles_gives (Str []) (rest (take (length vs - f.held) vs))

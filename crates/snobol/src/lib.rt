@@ -11,6 +11,7 @@ mod forms;
 mod functions;
 mod gotos;
 mod interpreter;
+mod items;
 mod job;
 mod keywords;
 mod lines;

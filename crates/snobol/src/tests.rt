@@ -7,6 +7,7 @@ mod forms;
 mod functions;
 mod input;
 mod interpreter;
+mod items;
 mod keywords;
 mod names;
 mod primitives;

@@ -6,7 +6,7 @@ ghost use Rattle.snobol.specs.Values.{IsValueOf};
 
 use super::new_keywords;
 use crate::apply::apply;
-use crate::forms::{Part, value_of};
+use crate::forms::{holder_of, name_of, value_of};
 use crate::machine::{Exit, Machine, error};
 use crate::no_input::NoInput;
 use sno_pattern::Shape;
@@ -259,12 +259,14 @@ fn named(machine: &mut Machine, text: &[u8], x: Value) -> Result<Value, Exit>
 {
     match read_expression(machine.alloc(), text) {
         Ok((program, node)) => {
-            let part = Part {
-                node,
-                as_name: true,
-            };
             machine.forget_input();
-            apply(machine, &mut NoInput::new(), &program, part, &mut [x])
+            apply(
+                machine,
+                &mut NoInput::new(),
+                &program,
+                name_of(node),
+                &mut [x],
+            )
         }
         Err(_) => Err(Exit::Failure),
     }
@@ -332,6 +334,39 @@ fn forms_without_a_name(rt: HostRuntime) -> Result<(), Fail> {
     assert_eq!(rt; named(&mut machine, b"X Y", Value::Int(0)), Err(error(15)));
     assert_eq!(rt; named(&mut machine, b"&K", Value::Int(0)), Err(error(15)));
     assert_eq!(rt; named(&mut machine, b"A<1>", Value::Int(0)), Err(error(90)));
+    Ok(())
+}
+
+/// What the variable has of which a form is an item.
+fn held(machine: &mut Machine, text: &[u8]) -> Result<Value, Exit>
+    requires { length text.now ≤ 1000 }
+{
+    match read_expression(machine.alloc(), text) {
+        Ok((program, node)) => {
+            machine.forget_input();
+            apply(
+                machine,
+                &mut NoInput::new(),
+                &program,
+                holder_of(node),
+                &mut [],
+            )
+        }
+        Err(_) => Err(Exit::Failure),
+    }
+}
+
+/// Only an item is of a variable.
+#[test]
+fn values_of_holders(rt: HostRuntime) -> Result<(), Fail> {
+    let alloc = rt.alloc();
+    let mut machine = Machine::new(alloc, new_keywords())?;
+    let null = string_value(alloc, b"")?;
+    assert_eq!(rt; held(&mut machine, b"FENCE<1>"), Ok(Value::Pat(PatId(4))));
+    assert_eq!(rt; held(&mut machine, b"A[1,2]"), Ok(null));
+    assert_eq!(rt; held(&mut machine, b"INPUT<1>"), Err(Exit::Failure));
+    assert_eq!(rt; held(&mut machine, b"FENCE"), Err(Exit::Failure));
+    assert_eq!(rt; held(&mut machine, b"$'FENCE'"), Err(Exit::Failure));
     Ok(())
 }
 

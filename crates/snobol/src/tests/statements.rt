@@ -72,6 +72,18 @@ fn input_and_output(rt: HostRuntime) -> Result<(), Fail> {
                 Outcome::Ended,
             ),
             (
+                " X = ~INPUT<EQ(1,2)>\n OUTPUT = INPUT\nEND\n",
+                "a\nb\n",
+                "b\n",
+                Outcome::Ended,
+            ),
+            (
+                " X = ~INPUT<INPUT,EQ(1,2)>\n OUTPUT = INPUT\nEND\n",
+                "a\nb\nc\n",
+                "c\n",
+                Outcome::Ended,
+            ),
+            (
                 " X = 'INPUT'\n OUTPUT = $X\nEND\n",
                 "a\n",
                 "a\n",
