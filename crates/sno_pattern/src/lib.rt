@@ -10,8 +10,6 @@ mod kind;
 mod sets;
 mod shape;
 mod table;
-#[cfg(test)]
-mod tests;
 
 pub use argument::Arg;
 pub use shape::Shape;

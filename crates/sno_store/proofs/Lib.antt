@@ -1,1 +1,5 @@
+pub mod EntryLaws
+pub mod ObjectLaws
+pub mod Places
+pub mod Prototypes
 pub mod SymbolLaws

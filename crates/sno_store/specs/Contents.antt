@@ -3,11 +3,12 @@ use Rattle.std.specs.Prelude.{◌≡◌, ℕ, suc, ◌==◌, nat_lt, Bool, List,
 use Rattle.std.specs.Str.{bytes_eq}
 use Rattle.sno_value.specs.declared.ids.SymId.{SymId}
 use Rattle.sno_value.specs.declared.value.Name.{Name}
-use Rattle.sno_value.specs.declared.value.Name.TheVariants.{Var}
+use Rattle.sno_value.specs.declared.value.Name.TheVariants.{Var, Elem, Entry}
 use Rattle.sno_value.specs.declared.value.Value.{Value}
 use Rattle.sno_value.specs.declared.value.Value.TheVariants.{Str, Pat}
 use Rattle.sno_store.specs.declared.error.StoreError.{StoreError}
 use Rattle.sno_store.specs.declared.error.StoreError.TheVariants.{NullName, Full, NoMemory}
+use Rattle.sno_store.specs.Objects.{Object, array_at, table_at, element_value, entry_value, with_element, with_entry_value, changed}
 
 -- What a store holds.
 pub record Contents : Type 0 where
@@ -15,6 +16,8 @@ pub record Contents : Type 0 where
   pub symbols : List (List ℕ)
   -- the values of the variables, by the symbols' numbers
   pub values : List Value
+  -- the arrays and tables, by their numbers
+  pub objects : List (Object Value)
 
 -- the number of a name: how many symbols stand before it, all of them where it is none
 abbrev pub place : List ℕ → List (List ℕ) → ℕ
@@ -32,24 +35,25 @@ joining (byte ∷ bytes) symbols =
 
 -- a name joins the symbols where it is none of them, and begins with the null string
 abbrev pub with_symbol : List ℕ → Contents → Contents
-with_symbol name c = if is_symbol name c.symbols then c else record { symbols = c.symbols ++ name ∷ []; values = c.values ++ Str [] ∷ [] }
+with_symbol name c = if is_symbol name c.symbols then c else record c { symbols = c.symbols ++ name ∷ []; values = c.values ++ Str [] ∷ [] }
 
 -- what `symbol` did
 abbrev pub IsJoined : List ℕ → Contents → Contents → Result SymId StoreError → Type 0
 IsJoined name old new (Ok id) = (joining name old.symbols ≡ Ok id.0) × (new ≡ with_symbol name old)
-IsJoined name old new (Err NullName) = (joining name old.symbols ≡ Err NullName) × (new ≡ old)
-IsJoined name old new (Err Full) = (joining name old.symbols ≡ Err Full) × (new ≡ old)
 IsJoined name old new (Err NoMemory) = new ≡ old
+IsJoined name old new (Err refusal) = (joining name old.symbols ≡ Err refusal) × (new ≡ old)
 
 -- the value of what is named; null where the store has no such name
 abbrev pub value_of : Contents → Name → Value
 value_of c (Var symbol) = slice_index_or c.values symbol.0 (Str [])
-value_of c other = Str []
+value_of c (Elem object k) = element_value (Str []) (array_at c.objects object) k
+value_of c (Entry object k) = entry_value (Str []) (table_at c.objects object) k
 
--- a variable is given a value
+-- what is named is given a value; nothing changes where the store has no such name
 abbrev pub with_value : Name → Value → Contents → Contents
 with_value (Var symbol) value c = record c { values = slice_set c.values symbol.0 value }
-with_value other value c = c
+with_value (Elem object k) value c = record c { objects = changed (with_element k value) c.objects object }
+with_value (Entry object k) value c = record c { objects = changed (with_entry_value k value) c.objects object }
 
 abbrev pub pattern : ℕ → Value
 pattern n = Pat (record { 0 = n })
@@ -59,4 +63,5 @@ abbrev pub new_contents : Contents
 new_contents = record {
   symbols = codes "ARB" ∷ codes "BAL" ∷ codes "REM" ∷ codes "FAIL" ∷ codes "FENCE" ∷ codes "ABORT" ∷ codes "SUCCEED" ∷ codes "INPUT" ∷ codes "OUTPUT" ∷ [];
   values = pattern 0 ∷ pattern 1 ∷ pattern 2 ∷ pattern 3 ∷ pattern 4 ∷ pattern 5 ∷ pattern 6 ∷ Str [] ∷ Str [] ∷ [];
+  objects = [];
 }

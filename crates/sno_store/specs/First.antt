@@ -6,3 +6,7 @@ use Rattle.sno_pattern.specs.Table.{Node, LeafNode, FenceNode, AbortNode, Succee
 -- by the numbers that their variables hold
 abbrev pub first_patterns : List Node
 first_patterns = LeafNode Arb ∷ LeafNode Bal ∷ LeafNode Rem ∷ LeafNode Fail ∷ FenceNode ∷ AbortNode ∷ SucceedNode ∷ []
+
+-- the first four of them, which search for an end
+abbrev pub search_patterns : List Node
+search_patterns = LeafNode Arb ∷ LeafNode Bal ∷ LeafNode Rem ∷ LeafNode Fail ∷ []

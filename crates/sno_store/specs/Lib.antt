@@ -1,6 +1,13 @@
+pub use Rattle.sno_value.specs.Integer
 pub use Rattle.sno_value.specs.Kind
 pub use Rattle.sno_pattern.specs.Pattern
 pub use Rattle.sno_pattern.specs.Table
+pub mod Arrays
 pub mod Contents
 pub mod First
+pub mod Objects
+pub mod Outcomes
+pub mod Seen
+pub mod Stored
 pub mod Symbols
+pub mod Tables

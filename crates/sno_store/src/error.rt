@@ -9,6 +9,10 @@ pub enum StoreError {
     NullName,
     /// The store holds as much of a kind as it may (error 9).
     Full,
+    /// An object is no array, or no table, or a value may be no key (error 1).
+    WrongType,
+    /// A text is no prototype, or there are more or fewer subscripts than an array has dimensions (error 12).
+    BadPrototype,
     /// Memory was refused.
     NoMemory,
 }

@@ -1,25 +1,32 @@
-//! The store: symbols and variables.
-ghost use Rattle.std.specs.Prelude.{◌≡◌, ◌<◌, [], length, false, slice_index_or, IfOk, OnOk, OnErr};
+//! The store: symbols, variables, arrays and tables.
+ghost use Rattle.std.specs.Prelude.{◌≡◌, ◌<◌, [], length, false, slice_index_or, IfOk, OnOk, OnErr, IsOkAnd};
+ghost use Rattle.sno_store.specs.Arrays.{new_array, element_name, prototype_of};
 ghost use Rattle.sno_store.specs.Contents.{Contents, new_contents, is_symbol, IsJoined, value_of, with_value};
-ghost use Rattle.sno_store.specs.First.{first_patterns};
-ghost use Rattle.sno_store.specs.Symbols.{appended};
+ghost use Rattle.sno_store.specs.First.{first_patterns, search_patterns};
+ghost use Rattle.sno_store.specs.Outcomes.{IsAnswered, IsDone, itself};
+ghost use Rattle.sno_store.specs.Stored.{stored_notions};
+ghost use Rattle.sno_store.specs.Symbols.{appended, no_contents, with_searches, with_controls};
+ghost use Rattle.sno_store.specs.Tables.{new_table, find_entry, make_entry, table_to_array};
 
 use crate::error::StoreError;
+use crate::objects::Objects;
 use crate::symbols::{MOST_SYMBOLS, Symbols};
 use sno_pattern::{BuildError, Patterns};
-use sno_value::{Name, PatId, SymId, Text, Value};
+use sno_value::{Name, ObjId, PatId, SymId, Text, Value};
 use std::alloc::{AllocError, Global};
 use std::marker::Model;
 
-/// The symbols of a program and the values of its variables.
+/// The symbols of a program, the values of its variables, and its arrays and tables.
 ///
 /// Each symbol has a number, and names a variable, which begins with the null string (the book). Numbers are counted from
-/// 0 in the order in which the symbols joined.
+/// 0 in the order in which the symbols joined. Arrays and tables have numbers of their own, in the order in which they
+/// were made; they stay as long as the store.
 #[derive(Drop)]
 pub struct Store {
     alloc: Global,
     symbols: Symbols,
     values: Vec<Value>,
+    objects: Objects,
     // what is told of a name that the store doesn't know
     null: Value,
 }
@@ -31,7 +38,7 @@ impl Model for Store {
 
     ghost Value = { Contents };
 
-    ghost view = { λ s. record { symbols = s.symbols; values = s.values.items } };
+    ghost view = { λ s. record { symbols = s.symbols; values = s.values.items; objects = s.objects } };
 
     ghost invariant = { λ s. (length s.values.items ≡ length s.symbols) × (s.null ≡ Str []) };
 }
@@ -49,17 +56,12 @@ impl Store {
             alloc,
             symbols: Symbols::new(alloc),
             values: Vec::new(alloc),
+            objects: Objects::new(alloc),
             null: null(alloc),
         };
-        store.append(b"ARB", Value::Pat(built(patterns.arb())?))?;
-        store.append(b"BAL", Value::Pat(built(patterns.bal())?))?;
-        store.append(b"REM", Value::Pat(built(patterns.rem())?))?;
-        store.append(b"FAIL", Value::Pat(built(patterns.fail())?))?;
-        store.append(b"FENCE", Value::Pat(built(patterns.fence())?))?;
-        store.append(b"ABORT", Value::Pat(built(patterns.abort())?))?;
-        store.append(b"SUCCEED", Value::Pat(built(patterns.succeed())?))?;
-        store.append(b"INPUT", null(alloc))?;
-        store.append(b"OUTPUT", null(alloc))?;
+        store.begin_searches(patterns)?;
+        store.begin_controls(patterns)?;
+        store.begin_devices()?;
         Ok(store)
     }
 
@@ -99,7 +101,14 @@ impl Store {
                 Some(value) => value,
                 None => &self.null,
             },
-            _ => &self.null,
+            Name::Elem(array, element) => match self.objects.element_value(array, element) {
+                Some(value) => value,
+                None => &self.null,
+            },
+            Name::Entry(table, entry) => match self.objects.entry_value(table, entry) {
+                Some(value) => value,
+                None => &self.null,
+            },
         }
     }
 
@@ -107,12 +116,135 @@ impl Store {
     pub fn set(&mut self, name: Name, value: Value)
         ensures { self.new ≡ with_value name value self.old }
     {
-        if let Name::Var(symbol) = name {
-            let place = symbol.0 as usize;
-            if place < self.values.len() {
-                self.values[place] = value;
+        match name {
+            Name::Var(symbol) => {
+                let place = symbol.0 as usize;
+                if place < self.values.len() {
+                    self.values[place] = value;
+                }
             }
+            Name::Elem(array, element) => self.objects.set_element(array, element, value),
+            Name::Entry(table, entry) => self.objects.set_entry(table, entry, value),
         }
+    }
+
+    /// A new array, each of whose elements has the value. A prototype has one dimension or more, with commas between
+    /// them; each is `n`, from 1 to n, or `l:u`, from l to u, of an optional sign and digits, without blanks (this
+    /// profile).
+    ///
+    /// Another text is `BadPrototype`, and so are a bound that doesn't fit 64 bits, an n less than 1 and a u less than l.
+    /// More than 1,000,000 elements are `Full`, and so is an array beside 1,000,000 arrays and tables.
+    pub fn new_array(&mut self, prototype: &[u8], value: &Value) -> Result<ObjId, StoreError>
+        ensures { IsDone itself (new_array prototype.now value.now) self.old self.new result }
+    {
+        let id = self.objects.new_array(prototype, value)?;
+        Ok(id)
+    }
+
+    /// A new table without entries. Beside 1,000,000 arrays and tables it is `Full`.
+    pub fn new_table(&mut self) -> Result<ObjId, StoreError>
+        ensures { IsDone itself new_table self.old self.new result }
+    {
+        let id = self.objects.new_table()?;
+        Ok(id)
+    }
+
+    /// The element of an array that subscripts name, which is None where one is out of its dimension's range. The last
+    /// subscript varies fastest (this profile). It takes no memory.
+    ///
+    /// It is `WrongType` where the number is no array's, and `BadPrototype` where there are more or fewer subscripts than
+    /// dimensions.
+    pub fn element(&self, array: ObjId, subscripts: &[i64]) -> Result<Option<Name>, StoreError>
+        ensures { IsAnswered itself (element_name self.now.objects array subscripts.now) result }
+    {
+        self.objects.element(array, subscripts)
+    }
+
+    /// The text of the prototype that an array was made by. It is `WrongType` where the number is no array's.
+    pub fn prototype(&self, array: ObjId) -> Result<&[u8], StoreError>
+        ensures { IsAnswered (λ text. text.now) (prototype_of self.now.objects array) result }
+    {
+        self.objects.prototype(array)
+    }
+
+    /// The entry of a table with this key, if there is one. Keys are equal where their types and values are. It takes
+    /// expected constant time beside the length of the key's text, and no memory.
+    ///
+    /// It is `WrongType` where the number is no table's, and where the key is a pattern or an expression.
+    pub fn find(&self, table: ObjId, key: &Value) -> Result<Option<Name>, StoreError>
+        ensures { IsAnswered itself (find_entry stored_notions self.now.objects table key.now) result }
+    {
+        self.objects.find(table, key)
+    }
+
+    /// The entry of a table with this key. Where there was none, it is a new last one, whose value is null.
+    ///
+    /// It is `WrongType` where `find` is; a new entry beside 1,000,000 others is `Full` (this profile).
+    pub fn entry(&mut self, table: ObjId, key: Value) -> Result<Name, StoreError>
+        ensures { IsDone itself (make_entry stored_notions table key) self.old self.new result }
+    {
+        let name = self.objects.entry(table, key)?;
+        Ok(name)
+    }
+
+    /// A new array of the n entries of a table whose value isn't null, in the order in which their keys joined. Its
+    /// prototype is `n,2`, and a row is a key and its value. Where n is 0, there is none.
+    ///
+    /// It is `WrongType` where the number is no table's, and `Full` where `new_array` would be.
+    pub fn table_to_array(&mut self, table: ObjId) -> Result<Option<ObjId>, StoreError>
+        ensures { IsDone itself (table_to_array stored_notions table) self.old self.new result }
+    {
+        let array = self.objects.table_to_array(table)?;
+        Ok(array)
+    }
+
+    /// The variables whose patterns search for an end, of a store that has no variables yet.
+    fn begin_searches(&mut self, patterns: &mut Patterns) -> Result<(), AllocError>
+        requires first { self.old ≡ no_contents }
+        requires table { patterns.old ≡ [] }
+        ensures ok { OnOk result (self.new ≡ with_searches) }
+        ensures table { OnOk result (patterns.new ≡ search_patterns) }
+    {
+        self.begin(b"ARB", patterns.arb())?;
+        self.begin(b"BAL", patterns.bal())?;
+        self.begin(b"REM", patterns.rem())?;
+        self.begin(b"FAIL", patterns.fail())?;
+        Ok(())
+    }
+
+    /// The variables whose patterns steer the search, behind those.
+    fn begin_controls(&mut self, patterns: &mut Patterns) -> Result<(), AllocError>
+        requires next { self.old ≡ with_searches }
+        requires table { patterns.old ≡ search_patterns }
+        ensures ok { OnOk result (self.new ≡ with_controls) }
+        ensures table { OnOk result (patterns.new ≡ first_patterns) }
+    {
+        self.begin(b"FENCE", patterns.fence())?;
+        self.begin(b"ABORT", patterns.abort())?;
+        self.begin(b"SUCCEED", patterns.succeed())?;
+        Ok(())
+    }
+
+    /// The variables that are read and written as lines, behind those.
+    fn begin_devices(&mut self) -> Result<(), AllocError>
+        requires { self.old ≡ with_controls }
+        ensures { OnOk result (self.new ≡ new_contents) }
+    {
+        let alloc = self.alloc;
+        self.append(b"INPUT", null(alloc))?;
+        self.append(b"OUTPUT", null(alloc))?;
+        Ok(())
+    }
+
+    /// A variable joins, with the pattern that was built for it.
+    fn begin(&mut self, name: &[u8], pattern: Result<PatId, BuildError>) -> Result<(), AllocError>
+        requires new { is_symbol name.now self.old.symbols ≡ false }
+        requires room { length self.old.symbols < 1_000_000 }
+        ensures { OnOk result (IsOkAnd pattern (λ id. self.new ≡ appended name.now (Value.Pat id) self.old)) }
+    {
+        let id = built(pattern)?;
+        self.append(name, Value::Pat(id))?;
+        Ok(())
     }
 
     /// A name that is no symbol joins the symbols, with the value of its variable.

@@ -43,19 +43,3 @@ impl PrimitiveKind {
         }
     }
 }
-
-#[cfg(test)]
-mod tests {
-    use super::*;
-
-    #[test]
-    fn counts_and_sets(rt: HostRuntime) {
-        use PrimitiveKind::{Any, Break, Len, NotAny, Pos, Rpos, Rtab, Span, Tab};
-        for kind in [Len, Pos, Rpos, Tab, Rtab] {
-            assert!(rt; kind.takes_count());
-        }
-        for kind in [Any, NotAny, Span, Break] {
-            assert!(rt; !kind.takes_count());
-        }
-    }
-}

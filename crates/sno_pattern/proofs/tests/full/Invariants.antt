@@ -1,8 +1,0 @@
-use Rattle.std.proofs.Common.{◌<◌, length}
-use Rattle.sno_pattern.proofs.tests.full.Given as goal
-
-abbrev pub invariant-loop-node : goal.invariant-loop-node
-invariant-loop-node g l = record {
-  first : l.first.0 < length l.patterns;
-  deepest : l.deepest.0 < length l.patterns;
-}

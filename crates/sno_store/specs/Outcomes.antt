@@ -1,0 +1,29 @@
+-- What a call on arrays and tables did, beside what is meant: a value, or the number of an error.
+use Rattle.std.specs.Prelude.{◌≡◌, ℕ, List, Result, Ok, Err}
+use Rattle.sno_value.specs.declared.value.Value.{Value}
+use Rattle.sno_store.specs.declared.error.StoreError.{StoreError}
+use Rattle.sno_store.specs.declared.error.StoreError.TheVariants.{NullName, Full, WrongType, BadPrototype, NoMemory}
+use Rattle.sno_store.specs.Contents.{Contents}
+use Rattle.sno_store.specs.Objects.{Object}
+
+-- the error that is meant is told by its name; that memory was refused says nothing of what is meant
+abbrev pub IsError : {A : Type 0} → Result A ℕ → StoreError → Type 0
+IsError meant NullName = meant ≡ Err 6
+IsError meant Full = meant ≡ Err 9
+IsError meant WrongType = meant ≡ Err 1
+IsError meant BadPrototype = meant ≡ Err 12
+IsError meant NoMemory = Unit {0}
+
+-- What a call did that asks for no memory and changes nothing; `see` says what an answer stands for.
+abbrev pub IsAnswered : {X A : Type 0} → (X → A) → Result A ℕ → Result X StoreError → Type 0
+IsAnswered see meant (Ok x) = meant ≡ Ok (see x)
+IsAnswered see meant (Err NoMemory) = ⊥
+IsAnswered see meant (Err refusal) = IsError meant refusal
+
+-- What a call did that changes no more than the objects, and nothing where it is refused.
+abbrev pub IsDone : {X A : Type 0} → (X → A) → (List (Object Value) → Result (A × List (Object Value)) ℕ) → Contents → Contents → Result X StoreError → Type 0
+IsDone see meant old new (Ok x) = (meant old.objects ≡ Ok (see x, new.objects)) × (new ≡ record old { objects = new.objects })
+IsDone see meant old new (Err refusal) = IsError (meant old.objects) refusal × (new ≡ old)
+
+abbrev pub itself : {X : Type 0} → X → X
+itself x = x

@@ -1,0 +1,155 @@
+//! Tables.
+ghost use Rattle.std.specs.Prelude.{◌≡◌, ◌<◌, ◌≤◌, ◌↔◌, ◌*◌, [], ◌∷◌, ◌++◌, None, true, length, map, option_copied, slice_get, IsTrue, IfOk, OnOk, OnErr};
+ghost use Rattle.indexmap.specs.IndexMap.{index_map_len, set_value_at};
+ghost use Rattle.sno_store.specs.Objects.{with_value_at};
+ghost use Rattle.sno_store.specs.Seen.{IsEntry};
+ghost use Rattle.sno_store.specs.Stored.{is_null, is_key, stored_notions};
+ghost use Rattle.sno_store.specs.Tables.{entry_place, filled, rows};
+
+use crate::error::StoreError;
+use indexmap::IndexMap;
+use sno_value::{Text, Value};
+use std::alloc::{AllocError, Global};
+use std::marker::Model;
+
+/// How many entries a table has at most (this profile).
+const MOST_ENTRIES: usize = 1_000_000;
+
+/// The entries of a table, in the order in which their keys joined.
+#[derive(Drop)]
+pub(crate) struct Entries {
+    map: IndexMap<Value, Value>,
+}
+
+impl Model for Entries {
+    ghost use Rattle.std.specs.Prelude.{List, ◌≤◌, length};
+    ghost use Rattle.sno_value.specs.declared.value.Value.{Value as Stored};
+
+    ghost Value = { List (Stored × Stored) };
+
+    ghost view = { λ t. t.map.entries };
+
+    ghost invariant = { λ t. length t.map.entries ≤ 1_000_000 };
+}
+
+impl Entries {
+    /// No entries. It takes no memory.
+    pub(crate) fn new(alloc: Global) -> Entries
+        ensures { result ≡ [] }
+    {
+        Entries {
+            map: IndexMap::new(alloc),
+        }
+    }
+
+    /// How many entries there are.
+    pub(crate) fn len(&self) -> usize
+        ensures number { result ≡ length self.now }
+        ensures few { result ≤ 1_000_000 }
+    {
+        self.map.len()
+    }
+
+    /// The entry with a key, in expected constant time beside the length of the key's text.
+    pub(crate) fn find(&self, key: &Value) -> Option<u32>
+        requires { is_key key.now ≡ true }
+        ensures { result ≡ entry_place stored_notions key.now self.now }
+    {
+        let place = self.map.get_index_of(key)?;
+        Some(place as u32)
+    }
+
+    /// A key that has no entry gets one, which is the last. It takes expected constant time.
+    pub(crate) fn push(&mut self, key: Value, value: Value) -> Result<u32, AllocError>
+        requires key { is_key key ≡ true }
+        requires new { entry_place stored_notions key self.old ≡ None }
+        requires room { length self.old < 1_000_000 }
+        ensures place { IfOk result (λ place. place ≡ length self.old) }
+        ensures ok { OnOk result (self.new ≡ self.old ++ (key, value) ∷ []) }
+        ensures err { OnErr result (self.new ≡ self.old) }
+    {
+        let place = self.map.len() as u32;
+        self.map.insert(key, value)?;
+        Ok(place)
+    }
+
+    /// The value of an entry, if there is one with this number.
+    pub(crate) fn get(&self, entry: u32) -> Option<&Value>
+        ensures { option_copied result ≡ slice_get (map (λ e. e.1) self.now) entry }
+    {
+        let (_key, value) = self.map.get_index(entry as usize)?;
+        Some(value)
+    }
+
+    /// An entry is given a value. Nothing changes where there is none with this number.
+    pub(crate) fn set(&mut self, entry: u32, value: Value)
+        ensures { self.new ≡ with_value_at entry value self.old }
+    {
+        let place = entry as usize;
+        if place < self.map.len() {
+            put(&mut self.map, place, value);
+        }
+    }
+
+    /// How many entries have a value that isn't null.
+    pub(crate) fn filled(&self) -> usize
+        ensures number { result ≡ length (filled stored_notions self.now) }
+        ensures few { result ≤ 1_000_000 }
+    {
+        self.map.values().filter(|value| !is_null(value)).count()
+    }
+
+    /// The keys and values of the entries whose value isn't null, in turn.
+    pub(crate) fn rows(&self, alloc: Global) -> Result<Vec<Value>, AllocError>
+        ensures { IfOk result (λ values. values.items ≡ rows (filled stored_notions self.now)) }
+    {
+        let mut values = Vec::new(alloc);
+        'entries: for (key, value) in self.map.iter() {
+            if !is_null(value) {
+                values.push(key.copy(alloc)?)?;
+                values.push(value.copy(alloc)?)?;
+            }
+        }
+        Ok(values)
+    }
+}
+
+/// A value is put in the place of an entry's.
+fn put(map: &mut IndexMap<Value, Value>, place: usize, value: Value)
+    requires { place < index_map_len map.old }
+    ensures { map.new.entries ≡ set_value_at map.old.entries place value }
+{
+    map[place] = value;
+}
+
+/// The entry with a key, which goes last with null where there is none.
+pub(crate) fn entry_in(alloc: Global, entries: &mut Entries, key: Value) -> Result<u32, StoreError>
+    requires { is_key key ≡ true }
+    ensures { IsEntry key entries.old entries.new result }
+{
+    if let Some(place) = entries.find(&key) {
+        return Ok(place);
+    }
+    if entries.len() == MOST_ENTRIES {
+        return Err(StoreError::Full);
+    }
+    let place = entries.push(key, Value::Str(Text::new(Vec::new(alloc))))?;
+    Ok(place)
+}
+
+/// Whether a value may be a key: a pattern and an expression may not.
+pub(crate) fn is_key(value: &Value) -> bool
+    ensures { result ≡ is_key value.now }
+{
+    !matches!(value, Value::Pat(_) | Value::Expr(_))
+}
+
+/// Whether a value is the null string.
+fn is_null(value: &Value) -> bool
+    ensures { result ≡ is_null value.now }
+{
+    match value {
+        Value::Str(text) => text.as_slice().is_empty(),
+        _ => false,
+    }
+}

@@ -1,0 +1,219 @@
+//! Arrays and tables by their numbers.
+ghost use Rattle.std.specs.Prelude.{◌≡◌, ◌<◌, [], length, option_copied, unwrap_or};
+ghost use Rattle.sno_value.specs.declared.value.Value.TheVariants.{Str};
+ghost use Rattle.sno_store.specs.Arrays.{new_array, element_name, prototype_of};
+ghost use Rattle.sno_store.specs.Objects.{array_at, table_at, changed, element_value, entry_value, joined, with_element, with_entry_value};
+ghost use Rattle.sno_store.specs.Outcomes.{IsAnswered, itself};
+ghost use Rattle.sno_store.specs.Seen.{seen, Does};
+ghost use Rattle.sno_store.specs.Stored.{stored_notions};
+ghost use Rattle.sno_store.specs.Tables.{new_table, find_entry, make_entry, table_to_array};
+
+use crate::elements::{Elements, of_rows, uniform};
+use crate::entries::{Entries, entry_in, is_key};
+use crate::error::StoreError;
+use crate::object::Object;
+use crate::prototype::{MOST_ELEMENTS, count_of};
+use sno_value::{Name, ObjId, Value};
+use std::alloc::Global;
+use std::marker::Model;
+
+/// How many arrays and tables a store holds at most (this profile).
+const MOST_OBJECTS: usize = 1_000_000;
+
+/// Arrays and tables, numbered from 0.
+#[derive(Drop)]
+pub(crate) struct Objects {
+    alloc: Global,
+    objects: Vec<Object>,
+}
+
+impl Model for Objects {
+    ghost use Rattle.std.specs.Prelude.{List, ◌≤◌, length, map};
+    ghost use Rattle.sno_value.specs.declared.value.Value.{Value as Stored};
+    ghost use Rattle.sno_store.specs.Objects.{Object as Shown};
+    ghost use Rattle.sno_store.specs.Seen.{seen};
+
+    ghost Value = { List (Shown Stored) };
+
+    ghost view = { λ s. map seen s.objects.items };
+
+    ghost invariant = { λ s. length s.objects.items ≤ 1_000_000 };
+}
+
+impl Objects {
+    /// No objects. It takes no memory.
+    pub(crate) fn new(alloc: Global) -> Objects
+        ensures { result ≡ [] }
+    {
+        Objects {
+            alloc,
+            objects: Vec::new(alloc),
+        }
+    }
+
+    /// The array with this number, if it is one's.
+    pub(crate) fn array(&self, id: ObjId) -> Option<&Elements>
+        ensures { option_copied result ≡ array_at self.now id }
+    {
+        self.objects.get(id.0 as usize)?.array()
+    }
+
+    /// The table with this number, if it is one's.
+    pub(crate) fn table(&self, id: ObjId) -> Option<&Entries>
+        ensures { option_copied result ≡ table_at self.now id }
+    {
+        self.objects.get(id.0 as usize)?.table()
+    }
+
+    /// The value of an element, if there is one.
+    pub(crate) fn element_value(&self, id: ObjId, element: u32) -> Option<&Value>
+        ensures { unwrap_or (option_copied result) (Str []) ≡ element_value (Str []) (array_at self.now id) element }
+    {
+        self.array(id)?.get(element)
+    }
+
+    /// The value of an entry, if there is one.
+    pub(crate) fn entry_value(&self, id: ObjId, entry: u32) -> Option<&Value>
+        ensures { unwrap_or (option_copied result) (Str []) ≡ entry_value (Str []) (table_at self.now id) entry }
+    {
+        self.table(id)?.get(entry)
+    }
+
+    /// An element is given a value. Nothing changes where there is no such element.
+    pub(crate) fn set_element(&mut self, id: ObjId, element: u32, value: Value)
+        ensures { self.new ≡ changed (with_element element value) self.old id }
+    {
+        let place = id.0 as usize;
+        if place < self.objects.len() {
+            let object = &mut self.objects[place];
+            object.set_element(element, value);
+        }
+    }
+
+    /// An entry is given a value. Nothing changes where there is no such entry.
+    pub(crate) fn set_entry(&mut self, id: ObjId, entry: u32, value: Value)
+        ensures { self.new ≡ changed (with_entry_value entry value) self.old id }
+    {
+        let place = id.0 as usize;
+        if place < self.objects.len() {
+            let object = &mut self.objects[place];
+            object.set_entry(entry, value);
+        }
+    }
+
+    /// A new object, with the next number.
+    fn add(&mut self, object: Object) -> Result<ObjId, StoreError>
+        ensures { Does (joined (seen object)) self.old self.new result }
+    {
+        if self.objects.len() == MOST_OBJECTS {
+            return Err(StoreError::Full);
+        }
+        let id = ObjId(self.objects.len() as u32);
+        self.objects.push(object)?;
+        Ok(id)
+    }
+
+    /// A new array with this prototype, each of whose elements has the value.
+    pub(crate) fn new_array(&mut self, prototype: &[u8], value: &Value) -> Result<ObjId, StoreError>
+        ensures { Does (new_array prototype.now value.now) self.old self.new result }
+    {
+        let Some(count) = count_of(prototype) else {
+            return Err(StoreError::BadPrototype)
+        };
+        if count > MOST_ELEMENTS || self.objects.len() == MOST_OBJECTS {
+            return Err(StoreError::Full);
+        }
+        let elements = uniform(self.alloc, prototype, count, value)?;
+        let id = self.add(Object::Array(elements))?;
+        Ok(id)
+    }
+
+    /// A new table without entries.
+    pub(crate) fn new_table(&mut self) -> Result<ObjId, StoreError>
+        ensures { Does new_table self.old self.new result }
+    {
+        let id = self.add(Object::Table(Entries::new(self.alloc)))?;
+        Ok(id)
+    }
+
+    /// The element of an array that subscripts name.
+    pub(crate) fn element(&self, id: ObjId, subscripts: &[i64]) -> Result<Option<Name>, StoreError>
+        ensures { IsAnswered itself (element_name self.now id subscripts.now) result }
+    {
+        let Some(elements) = self.array(id) else {
+            return Err(StoreError::WrongType)
+        };
+        if subscripts.len() != elements.rank() {
+            return Err(StoreError::BadPrototype);
+        }
+        match elements.place(subscripts) {
+            Some(place) => Ok(Some(Name::Elem(id, place))),
+            None => Ok(None),
+        }
+    }
+
+    /// The text that an array was made by.
+    pub(crate) fn prototype(&self, id: ObjId) -> Result<&[u8], StoreError>
+        ensures { IsAnswered (λ text. text.now) (prototype_of self.now id) result }
+    {
+        match self.array(id) {
+            Some(elements) => Ok(elements.prototype()),
+            None => Err(StoreError::WrongType),
+        }
+    }
+
+    /// The entry of a table with a key, if there is one.
+    pub(crate) fn find(&self, id: ObjId, key: &Value) -> Result<Option<Name>, StoreError>
+        ensures { IsAnswered itself (find_entry stored_notions self.now id key.now) result }
+    {
+        let Some(entries) = self.table(id) else {
+            return Err(StoreError::WrongType)
+        };
+        if !is_key(key) {
+            return Err(StoreError::WrongType);
+        }
+        match entries.find(key) {
+            Some(place) => Ok(Some(Name::Entry(id, place))),
+            None => Ok(None),
+        }
+    }
+
+    /// The entry of a table with a key, which is made where there is none.
+    pub(crate) fn entry(&mut self, id: ObjId, key: Value) -> Result<Name, StoreError>
+        ensures { Does (make_entry stored_notions id key) self.old self.new result }
+    {
+        if !is_key(&key) {
+            return Err(StoreError::WrongType);
+        }
+        let place = id.0 as usize;
+        if place >= self.objects.len() {
+            return Err(StoreError::WrongType);
+        }
+        let alloc = self.alloc;
+        let object = &mut self.objects[place];
+        let Object::Table(entries) = object else {
+            return Err(StoreError::WrongType)
+        };
+        let entry = entry_in(alloc, entries, key)?;
+        Ok(Name::Entry(id, entry))
+    }
+
+    /// An array of the entries of a table whose value isn't null, if there are any.
+    pub(crate) fn table_to_array(&mut self, id: ObjId) -> Result<Option<ObjId>, StoreError>
+        ensures { Does (table_to_array stored_notions id) self.old self.new result }
+    {
+        let Some(entries) = self.table(id) else {
+            return Err(StoreError::WrongType)
+        };
+        let count = entries.filled();
+        if count == 0 {
+            return Ok(None);
+        }
+        if 2 * count > MOST_ELEMENTS as usize || self.objects.len() == MOST_OBJECTS {
+            return Err(StoreError::Full);
+        }
+        let elements = of_rows(self.alloc, count, entries)?;
+        let array = self.add(Object::Array(elements))?;
+        Ok(Some(array))
+    }
+}
