@@ -5,18 +5,18 @@ use Rattle.sno_io.specs.declared.jobs.Limits.{Limits}
 use Rattle.sno_store.specs.Contents.{place, is_symbol}
 use Rattle.sno_text.specs.declared.node.Node.{Node}
 use Rattle.sno_text.specs.Source.{Source}
-use Rattle.snobol.specs.declared.machine.Exit.{Exit}
-use Rattle.snobol.specs.declared.machine.Exit.TheVariants.{Failure, Halt}
-use Rattle.snobol.specs.declared.machine.Stop.TheVariants.{Error as HasError, NoMemory, ReadFault, WriteFault}
+use Rattle.sno_machine.specs.declared.machine.Exit.{Exit}
+use Rattle.sno_machine.specs.declared.machine.Exit.TheVariants.{Failure, Halt}
+use Rattle.sno_machine.specs.declared.machine.Stop.TheVariants.{Error as HasError, NoMemory, ReadFault, WriteFault}
 use Rattle.snobol.specs.declared.execution.Outcome.TheVariants as ran
-use Rattle.snobol.specs.World.{World, new_keywords}
-use Rattle.snobol.specs.Action.{Error, Ending, Got, Fails, Stops, Outcome, Action, settled, settles, either, and_then, gives, fails, stops}
-use Rattle.snobol.specs.Variables.{symbol, joins, variable_named}
+use Rattle.sno_machine.specs.World.{World, new_keywords}
+use Rattle.sno_machine.specs.Action.{Error, Ending, Got, Fails, Stops, Outcome, Action, settled, settles, either, and_then, gives, fails, stops}
+use Rattle.sno_machine.specs.Variables.{symbol, joins, variable_named}
 use Rattle.snobol.specs.Meaning.{name_in, joins_name, joins_names}
-use Rattle.snobol.specs.State.{State, new_state, Does, itself, any}
+use Rattle.sno_machine.specs.State.{State, new_state, Does, itself, any}
 use Rattle.snobol.specs.Running.{Devices, HasFault, ran_in}
 use Rattle.snobol.specs.Asking.{Asked, answered, stopped_by, IsNew, IsRefusal}
-use Rattle.snobol.proofs.Reading.{same_reading}
+use Rattle.sno_machine.proofs.Reading.{same_reading}
 
 -- what a call answers
 

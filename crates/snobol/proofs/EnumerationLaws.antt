@@ -12,19 +12,20 @@ use Rattle.sno_text.specs.Source.{Source, IsTable}
 use Rattle.sno_text.specs.Trees.{Tree, Stands}
 use Rattle.sno_text.specs.Refusals.{IsAccepted}
 use Rattle.sno_match.specs.Search.{trace}
-use Rattle.snobol.specs.declared.machine.Exit.{Exit}
-use Rattle.snobol.specs.declared.machine.Exit.TheVariants.{Failure, Halt}
-use Rattle.snobol.specs.declared.machine.Stop.{Stop}
-use Rattle.snobol.specs.declared.machine.Stop.TheVariants.{Error as HasError, NoMemory, ReadFault, WriteFault}
-use Rattle.snobol.specs.World.{World, new_world, new_keywords}
-use Rattle.snobol.specs.Action.{End, Error, Ending, Got, Fails, Stops, Outcome, Action, settled, settles, stops, and_then}
+use Rattle.sno_machine.specs.declared.machine.Exit.{Exit}
+use Rattle.sno_machine.specs.declared.machine.Exit.TheVariants.{Failure, Halt}
+use Rattle.sno_machine.specs.declared.machine.Stop.{Stop}
+use Rattle.sno_machine.specs.declared.machine.Stop.TheVariants.{Error as HasError, NoMemory, ReadFault, WriteFault}
+use Rattle.sno_machine.specs.World.{World, new_world, new_keywords}
+use Rattle.sno_machine.specs.Action.{End, Error, Ending, Got, Fails, Stops, Outcome, Action, settled, settles, stops, and_then}
 use Rattle.snobol.specs.Forms.{value}
-use Rattle.snobol.specs.Evaluate.{expression, as_pattern}
-use Rattle.snobol.specs.State.{State, new_state, world, MeetsReading, Reads, Feed, tree_of, IsPatternOf}
-use Rattle.snobol.specs.Session.{listed_all}
-use Rattle.snobol.specs.Variables.{writes}
-use Rattle.snobol.specs.Performs.{Ends, Performs}
-use Rattle.snobol.proofs.Performing.{appends_nothing}
+use Rattle.sno_machine.specs.Operators.{as_pattern}
+use Rattle.snobol.specs.Evaluate.{expression}
+use Rattle.sno_machine.specs.State.{State, new_state, world, MeetsReading, Reads, Feed, tree_of, IsPatternOf}
+use Rattle.sno_machine.specs.Session.{listed_all}
+use Rattle.sno_machine.specs.Variables.{writes}
+use Rattle.sno_machine.specs.Performs.{Ends, Performs}
+use Rattle.sno_machine.proofs.Performing.{appends_nothing}
 use Rattle.snobol.specs.declared.enumeration.WaysOutcome.{WaysOutcome}
 use Rattle.snobol.specs.Reading.{IsRead}
 use Rattle.snobol.specs.Listing.{lists_ways, lists, listing, Tells, IsListed, IsListing, outcome_of}

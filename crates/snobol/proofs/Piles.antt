@@ -5,12 +5,12 @@ use Rattle.sno_value.specs.declared.value.Value.{Value as Stored}
 use Rattle.sno_text.specs.Source.{Source}
 use Rattle.snobol.specs.declared.forms.Part.{Part}
 use Rattle.snobol.specs.declared.pile.Waiting.{Waiting}
-use Rattle.snobol.specs.Values.{Value, Str}
+use Rattle.sno_machine.specs.Values.{Value, Str}
 use Rattle.snobol.specs.Forms.{parts_at, node_at, absorbs, IsOrdered}
 use Rattle.snobol.specs.Evaluate.{expression, gathered}
-use Rattle.snobol.specs.Action.{settles, either, gives, fails}
+use Rattle.sno_machine.specs.Action.{settles, either, gives, fails}
 use Rattle.snobol.specs.Pile.{Rest, apply_at, resumed, under, turns, total, waits, holds}
-use Rattle.snobol.proofs.Settling.{settles_twice, settles_fails, settles_gives, settles_same}
+use Rattle.sno_machine.proofs.Settling.{settles_twice, settles_fails, settles_gives, settles_same}
 use Rattle.snobol.proofs.Expressions.{expression_is, turns_is}
 
 -- the last that waits

@@ -5,18 +5,18 @@ use Rattle.std.specs.Io.KnownBytes.{Consumes, Appends}
 use Rattle.sno_io.specs.Devices.{Begins}
 use Rattle.sno_io.proofs.Bytes.{consumes_then, appends_then}
 use Rattle.sno_pattern.specs.Table.{Node}
-use Rattle.snobol.specs.declared.machine.Exit.{Exit}
-use Rattle.snobol.specs.declared.machine.Exit.TheVariants.{Failure, Halt}
-use Rattle.snobol.specs.declared.machine.Stop.{Stop}
-use Rattle.snobol.specs.declared.machine.Stop.TheVariants.{Error as HasError, NoMemory, ReadFault, WriteFault}
-use Rattle.snobol.specs.World.{World, Keywords}
-use Rattle.snobol.specs.Action.{Error, Ending, Got, Fails, Stops, Outcome, Action, settled, settles, either, and_then, fails}
-use Rattle.snobol.specs.State.{State, world, untouched, Meets, MeetsReading, Does, Reads, Feed, IsReady, Grows, OnAnswer, OnGoing, HasCause, itself, any}
-use Rattle.snobol.specs.Performs.{Ends, Performs}
+use Rattle.sno_machine.specs.declared.machine.Exit.{Exit}
+use Rattle.sno_machine.specs.declared.machine.Exit.TheVariants.{Failure, Halt}
+use Rattle.sno_machine.specs.declared.machine.Stop.{Stop}
+use Rattle.sno_machine.specs.declared.machine.Stop.TheVariants.{Error as HasError, NoMemory, ReadFault, WriteFault}
+use Rattle.sno_machine.specs.World.{World, Keywords}
+use Rattle.sno_machine.specs.Action.{Error, Ending, Got, Fails, Stops, Outcome, Action, settled, settles, either, and_then, fails}
+use Rattle.sno_machine.specs.State.{State, world, untouched, Meets, MeetsReading, Does, Reads, Feed, IsReady, Grows, OnAnswer, OnGoing, HasCause, itself, any}
+use Rattle.sno_machine.specs.Performs.{Ends, Performs}
 use Rattle.snobol.specs.Running.{Devices, CanRun, MeetsRunning, HasFault, Goes, Runs}
-use Rattle.snobol.proofs.Outcomes.{grows_twice, fails_does}
-use Rattle.snobol.proofs.Reading.{consumes_nothing, none_given, reads_nothing, same_reading, same_keywords, ready_unread}
-use Rattle.snobol.proofs.Performing.{appends_nothing}
+use Rattle.sno_machine.proofs.Outcomes.{grows_twice, fails_does}
+use Rattle.sno_machine.proofs.Reading.{consumes_nothing, none_given, reads_nothing, same_reading, same_keywords, ready_unread}
+use Rattle.sno_machine.proofs.Performing.{appends_nothing}
 
 -- the reader of two devices, with one writer
 abbrev pub with_reader : Feed → Option (List ℕ) → Bool → Devices

@@ -3,14 +3,14 @@ use Rattle.std.specs.Prelude.{◌≡◌, ℕ, false, List, [], Option, None, Som
 use Rattle.sno_pattern.specs.Table.{Node}
 use Rattle.sno_text.specs.Source.{Source}
 use Rattle.sno_io.specs.declared.jobs.Limits.{Limits}
-use Rattle.snobol.specs.declared.machine.Exit.{Exit}
-use Rattle.snobol.specs.declared.machine.Exit.TheVariants.{Failure, Halt}
+use Rattle.sno_machine.specs.declared.machine.Exit.{Exit}
+use Rattle.sno_machine.specs.declared.machine.Exit.TheVariants.{Failure, Halt}
 use Rattle.snobol.specs.declared.execution.Outcome.{Outcome as RunOutcome}
 use Rattle.snobol.specs.declared.execution.Outcome.TheVariants as ran
-use Rattle.snobol.specs.World.{new_world, new_keywords}
-use Rattle.snobol.specs.Action.{Error, Got, Stops, Outcome, Action}
+use Rattle.sno_machine.specs.World.{new_world, new_keywords}
+use Rattle.sno_machine.specs.Action.{Error, Got, Stops, Outcome, Action}
 use Rattle.snobol.specs.Meaning.{joins_names}
-use Rattle.snobol.specs.State.{State, world}
+use Rattle.sno_machine.specs.State.{State, world}
 use Rattle.snobol.specs.Running.{Devices, Runs, ran_in}
 
 -- what contracts see of such a machine: the program that its expressions are of, what they can change, and the stop that

@@ -7,15 +7,16 @@ use Rattle.sno_pattern.specs.Pattern.{Pattern}
 use Rattle.sno_match.specs.Search.{trace}
 use Rattle.snobol.specs.declared.enumeration.WaysOutcome.{WaysOutcome}
 use Rattle.snobol.specs.declared.enumeration.WaysOutcome.TheVariants.{Done, Refused, Error as HasError, NoMemory, WriteFault}
-use Rattle.snobol.specs.declared.machine.Stop.{Stop}
-use Rattle.snobol.specs.declared.machine.Stop.TheVariants as stops_by
-use Rattle.snobol.specs.World.{World, new_world, new_keywords}
-use Rattle.snobol.specs.Action.{End, Error, Ending, Got, Stops, Outcome, Action, stops, settles, either, and_then}
+use Rattle.sno_machine.specs.declared.machine.Stop.{Stop}
+use Rattle.sno_machine.specs.declared.machine.Stop.TheVariants as stops_by
+use Rattle.sno_machine.specs.World.{World, new_world, new_keywords}
+use Rattle.sno_machine.specs.Action.{End, Error, Ending, Got, Stops, Outcome, Action, stops, settles, either, and_then}
 use Rattle.snobol.specs.Forms.{value}
-use Rattle.snobol.specs.Evaluate.{expression, as_pattern}
+use Rattle.sno_machine.specs.Operators.{as_pattern}
+use Rattle.snobol.specs.Evaluate.{expression}
 use Rattle.snobol.specs.Reading.{IsRead, IsRefusal}
-use Rattle.snobol.specs.Variables.{writes}
-use Rattle.snobol.specs.Session.{listed_all}
+use Rattle.sno_machine.specs.Variables.{writes}
+use Rattle.sno_machine.specs.Session.{listed_all}
 
 -- the events of the whole trace; a pattern that failed while it was built has no way
 abbrev pub lists_ways : List ℕ → Bool → ℕ → Option Pattern → Action Unit

@@ -3,11 +3,11 @@ use Rattle.std.specs.Prelude.{ℕ, List, [], ◌∷◌}
 use Rattle.sno_match.specs.declared.event.Pending.{Pending}
 use Rattle.sno_pattern.specs.Pattern.{Pattern}
 use Rattle.sno_match.specs.Search.{Event, Way, Assign, Cursor, Value, Ended, Exhausted, Aborted, Limit, Waiting, trace}
-use Rattle.snobol.specs.Values.{Str}
-use Rattle.snobol.specs.Action.{Error, Action, gives, fails, stops, and_then}
-use Rattle.snobol.specs.Variables.{assigns}
-use Rattle.snobol.specs.Keywords.{is_anchored}
-use Rattle.snobol.specs.Session.{part_of, effect}
+use Rattle.sno_machine.specs.Values.{Str}
+use Rattle.sno_machine.specs.Action.{Error, Action, gives, fails, stops, and_then}
+use Rattle.sno_machine.specs.Variables.{assigns}
+use Rattle.sno_machine.specs.Keywords.{is_anchored}
+use Rattle.sno_machine.specs.Session.{part_of, effect}
 
 -- the assignments that waited for the end of the match, in their order
 abbrev pub performs_pending : List ℕ → List Pending → Action Unit

@@ -3,16 +3,16 @@ use Rattle.std.specs.Prelude.{◌≡◌, ℕ, ◌<◌, ◌≤◌, Bool, true, fa
 use Rattle.std.specs.Io.KnownBytes.{Consumes, Appends}
 use Rattle.sno_io.specs.Devices.{Begins}
 use Rattle.sno_pattern.specs.Table.{Node}
-use Rattle.snobol.specs.declared.machine.Exit.{Exit}
-use Rattle.snobol.specs.declared.machine.Exit.TheVariants.{Failure, Halt}
-use Rattle.snobol.specs.declared.machine.Stop.{Stop}
-use Rattle.snobol.specs.declared.machine.Stop.TheVariants.{Error as HasError, NoMemory, ReadFault, WriteFault}
+use Rattle.sno_machine.specs.declared.machine.Exit.{Exit}
+use Rattle.sno_machine.specs.declared.machine.Exit.TheVariants.{Failure, Halt}
+use Rattle.sno_machine.specs.declared.machine.Stop.{Stop}
+use Rattle.sno_machine.specs.declared.machine.Stop.TheVariants.{Error as HasError, NoMemory, ReadFault, WriteFault}
 use Rattle.sno_io.specs.declared.jobs.Limits.{Limits}
 use Rattle.snobol.specs.declared.execution.Outcome.{Outcome as RunOutcome}
 use Rattle.snobol.specs.declared.execution.Outcome.TheVariants as ran
-use Rattle.snobol.specs.World.{World, Keywords}
-use Rattle.snobol.specs.Action.{Error, ErrorIn, Ended, Got, Fails, Stops, Outcome, Action}
-use Rattle.snobol.specs.State.{State, world, Feed, feed, IsReady, Grows, OnAnswer, OnGoing, itself, any}
+use Rattle.sno_machine.specs.World.{World, Keywords}
+use Rattle.sno_machine.specs.Action.{Error, ErrorIn, Ended, Got, Fails, Stops, Outcome, Action}
+use Rattle.sno_machine.specs.State.{State, world, Feed, feed, IsReady, Grows, OnAnswer, OnGoing, itself, any}
 
 -- a reader and a writer, as far as they tell
 pub record Devices : Type 0 where

@@ -4,13 +4,11 @@ ghost use Rattle.sno_pattern.specs.Table.{tree};
 ghost use Rattle.sno_match.specs.Search.{trace};
 ghost use Rattle.sno_match.specs.Events.{in_trace, is_last, is_value};
 ghost use Rattle.sno_match.specs.Within.{IsWithin};
-ghost use Rattle.snobol.specs.Session.{listed, listed_all};
-ghost use Rattle.snobol.specs.Performs.{Performs};
+ghost use Rattle.sno_machine.specs.Session.{listed, listed_all};
+ghost use Rattle.sno_machine.specs.Performs.{Performs};
 
-use crate::lines::line_of;
-use crate::machine::{Machine, Stop};
-use crate::session::take_effect;
 use sno_io::{Sink, put};
+use sno_machine::{Machine, Stop, line_of, take_effect};
 use sno_match::{Event, Matcher, Pending};
 use sno_value::PatId;
 

@@ -3,16 +3,15 @@
 ghost use Rattle.std.specs.Prelude.{◌≡◌, ◌≤◌, ◌+◌, ◌-◌, List, [], length, map, take, drop, Some, IfOk, IfErr};
 ghost use Rattle.std.specs.List.{AllByRecursion};
 ghost use Rattle.sno_pattern.specs.Table.{Node};
-ghost use Rattle.snobol.specs.Values.{shown, IsValueOf};
+ghost use Rattle.sno_machine.specs.Values.{shown, IsValueOf};
 ghost use Rattle.snobol.specs.Forms.{IsOrdered};
-ghost use Rattle.snobol.specs.State.{Reads, IsReady, feed};
+ghost use Rattle.sno_machine.specs.State.{Reads, IsReady, feed};
 ghost use Rattle.snobol.specs.Pile.{holds, apply_at, after_turn, after_next, turn_work, Falls, at_hand, still_at_hand, Keeps};
 
 use crate::apply::apply;
-use crate::convert::null;
 use crate::forms::{Part, absorbs_failure, operand};
-use crate::machine::{Exit, Machine, Stop};
 use sno_io::Source;
+use sno_machine::{Exit, Machine, Stop, null};
 use sno_text::Program;
 use sno_value::Value;
 use std::alloc::Global;

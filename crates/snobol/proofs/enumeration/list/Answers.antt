@@ -1,10 +1,10 @@
-use Rattle.std.proofs.Common.{◌≡◌, ap, sym, ◌∙◌, refl, [], List, ℕ}
+use Rattle.std.proofs.Common.{◌≡◌, ap, refl, []}
 use Rattle.std.proofs.lemmas.Result.{err_from_is_err_and}
-use Rattle.snobol.specs.declared.machine.Stop.TheVariants.{WriteFault}
-use Rattle.snobol.specs.Action.{Outcome}
+use Rattle.sno_machine.specs.declared.machine.Stop.TheVariants.{WriteFault}
+use Rattle.sno_machine.specs.Action.{Outcome}
 use Rattle.snobol.specs.Listing.{listing}
 use Rattle.snobol.proofs.EnumerationLaws.{listed, listed_failure, listed_stop, told, told_in_part, stop_unwritten}
-use Rattle.snobol.proofs.Performing.{appends_nothing}
+use Rattle.sno_machine.proofs.Performing.{appends_nothing}
 use Rattle.snobol.proofs.enumeration.list.Goals as goal
 
 pub returns-in_err-list_ways-in-Ok-pattern_of-clause-listing : goal.returns-in_err-list_ways-in-Ok-pattern_of-clause-listing

@@ -1,7 +1,7 @@
 use Rattle.std.proofs.Common.{[], refl}
 use Rattle.snobol.specs.Jobs.{not_read, was_run}
-use Rattle.snobol.proofs.Reading.{consumes_nothing}
-use Rattle.snobol.proofs.Performing.{appends_nothing}
+use Rattle.sno_machine.proofs.Reading.{consumes_nothing}
+use Rattle.sno_machine.proofs.Performing.{appends_nothing}
 use Rattle.snobol.proofs.JobLaws.{refusal_checked}
 use Rattle.snobol.proofs.job.run_file.Goals as goal
 

@@ -1,9 +1,9 @@
-use Rattle.std.proofs.Common.{◌≡◌, ◌∙◌, ◌+◌, ◌≤◌, suc, sym, ap, arith, length, drop, subst, refl, List, ℕ}
+use Rattle.std.proofs.Common.{◌≡◌, ◌∙◌, suc, sym, ap, arith, length, refl}
 use Rattle.std.proofs.lemmas.Result.{err_from_is_err_and}
 use Rattle.sno_match.specs.Events.{is_last, is_value}
 use Rattle.sno_match.specs.Session.{trace_of}
 use Rattle.snobol.proofs.ListingLaws.{told_next, neither}
-use Rattle.snobol.proofs.Performing.{no_memory, listed_next, listed_stop, listed_none}
+use Rattle.sno_machine.proofs.Performing.{no_memory, listed_next, listed_stop, listed_none}
 use Rattle.snobol.proofs.listing.list_ways.Goals as goal
 
 pub returns-in_err-matcher-clause-does : goal.returns-in_err-matcher-clause-does

@@ -2,10 +2,10 @@ use Rattle.std.proofs.Common.{◌≡◌, ◌-◌, ◌≤◌, List, [], ℕ, fals
 use Rattle.sno_pattern.specs.Table.{tree}
 use Rattle.sno_match.specs.Search.{trace}
 use Rattle.sno_match.specs.Session.{trace_of}
-use Rattle.snobol.specs.declared.machine.Stop.{Stop}
-use Rattle.snobol.specs.Session.{listed_all}
-use Rattle.snobol.specs.State.{State}
-use Rattle.snobol.specs.Performs.{Performs}
+use Rattle.sno_machine.specs.declared.machine.Stop.{Stop}
+use Rattle.sno_machine.specs.Session.{listed_all}
+use Rattle.sno_machine.specs.State.{State}
+use Rattle.sno_machine.specs.Performs.{Performs}
 use Rattle.snobol.proofs.listing.list_ways.Given as goal
 
 -- what is left of the events is still to be listed

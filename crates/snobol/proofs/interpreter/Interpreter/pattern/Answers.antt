@@ -1,6 +1,6 @@
 use Rattle.std.proofs.Common.{◌∙◌, sym, ap, refl}
 use Rattle.std.specs.Result.{result_err}
-use Rattle.snobol.specs.State.{tree_of, IsPatternOf}
+use Rattle.sno_machine.specs.State.{tree_of, IsPatternOf}
 use Rattle.snobol.proofs.RunningLaws.{reads_runs}
 use Rattle.snobol.proofs.AskingLaws.{stop_told, write_fault_told}
 use Rattle.snobol.proofs.interpreter.Interpreter.pattern.Goals as goal

@@ -1,8 +1,8 @@
 use Rattle.std.proofs.Common.{◌≤◌, length, map, ap, sym, ◌∙◌, arith, refl, is_ok}
-use Rattle.snobol.specs.Values.{shown}
+use Rattle.sno_machine.specs.Values.{shown}
 use Rattle.snobol.specs.Pile.{holds, under, outcome}
 use Rattle.snobol.specs.Evaluate.{expression}
-use Rattle.snobol.specs.Action.{settles}
+use Rattle.sno_machine.specs.Action.{settles}
 use Rattle.snobol.proofs.Piles.{held_if, under_in, entered_first, entered_leaf, first_falls, leaf_falls, applied_seen}
 use Rattle.snobol.proofs.pile.Pile.enter.Goals as goal
 

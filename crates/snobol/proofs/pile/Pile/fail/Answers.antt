@@ -1,6 +1,5 @@
-use Rattle.std.proofs.Common.{◌≡◌, ◌-◌, List, [], length, map, take, drop, ap, sym, ◌∙◌, subst, arith, None, Some, Option}
-use Rattle.std.proofs.lemmas.List.{take-append-drop}
-use Rattle.snobol.specs.Values.{Value, Str, shown, IsValueOf}
+use Rattle.std.proofs.Common.{◌≡◌, ◌-◌, [], length, map, take, ap, sym, ◌∙◌, arith, None, Some}
+use Rattle.sno_machine.specs.Values.{Str, shown, IsValueOf}
 use Rattle.snobol.specs.Pile.{under, outcome}
 use Rattle.snobol.proofs.Leads.{all_with, all_taken}
 use Rattle.snobol.proofs.Piles.{held_in, under_in, resumed_failed, resumed_absorbed, last_falls, seen_before}

@@ -1,9 +1,9 @@
 use Rattle.std.proofs.Common.{◌≡◌, suc, ◌+◌, [], ◌∷◌, ◌++◌, length, map, ap, sym, ◌∙◌, arith, Some, slice_get, is_ok}
 use Rattle.std.proofs.lemmas.List.{length-append, map-append}
-use Rattle.snobol.specs.Values.{shown}
+use Rattle.sno_machine.specs.Values.{shown}
 use Rattle.snobol.specs.Pile.{under, outcome}
 use Rattle.snobol.specs.Evaluate.{expression}
-use Rattle.snobol.specs.Action.{settles}
+use Rattle.sno_machine.specs.Action.{settles}
 use Rattle.snobol.proofs.Piles.{held_in, held_if, under_in, resumed_next, resumed_last, next_falls, last_falls, applied_seen}
 use Rattle.snobol.proofs.pile.Pile.resume.Goals as goal
 

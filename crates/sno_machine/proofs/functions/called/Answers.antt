@@ -1,0 +1,38 @@
+use Rattle.sno_machine.proofs.Arguments.{second_stays, third_stays, second_known}
+use Rattle.sno_machine.proofs.functions.called.Goals as goal
+
+pub repetition-requires : goal.repetition-requires
+repetition-requires c = c.argument-operand-in-Some-Arbno.ensures.known _ c.requires
+
+pub convert-requires : goal.convert-requires
+convert-requires c = c.argument-x.ensures.known _ c.requires
+
+pub array-requires-clause-prototype : goal.array-requires-clause-prototype
+array-requires-clause-prototype c = c.argument-p.ensures.known _ c.requires
+
+pub array-requires-clause-value : goal.array-requires-clause-value
+array-requires-clause-value c = c.argument-v.ensures.known _ (second_known _ _ _ _ c.argument-p.ensures.rest tt c.requires)
+
+pub returns-in-Some-Arbno : goal.returns-in-Some-Arbno
+returns-in-Some-Arbno c =
+    let arbno = rw c.in-Some-Arbno.is at c.in-Some-Arbno.field-0-is in
+    rw (c.in-Some-Arbno.is, arbno, ← c.argument-operand-in-Some-Arbno.ensures.value c.args.machine.now.nodes) c.repetition.ensures
+
+pub returns-in-Some-Convert : goal.returns-in-Some-Convert
+returns-in-Some-Convert c =
+    let nodes = c.args.machine.now.nodes in
+    let convert = rw c.in-Some-Convert.is at c.in-Some-Convert.field-0-is in
+    rw (c.in-Some-Convert.is, convert, ← c.argument-x.ensures.value nodes, ← second_stays nodes _ _ _ c.argument-x.ensures.rest, ← c.argument-t.ensures.value nodes) c.convert.ensures
+
+pub returns-in-Some-MakeArray : goal.returns-in-Some-MakeArray
+returns-in-Some-MakeArray c =
+    let nodes = c.args.machine.now.nodes in
+    let make = rw c.in-Some-MakeArray.is at c.in-Some-MakeArray.field-0-is in
+    rw (c.in-Some-MakeArray.is, make, ← c.argument-p.ensures.value nodes, ← second_stays nodes _ _ _ c.argument-p.ensures.rest, ← c.argument-v.ensures.value nodes) c.array.ensures
+
+pub returns-in-Some-Plain : goal.returns-in-Some-Plain
+returns-in-Some-Plain c =
+    let nodes = c.args.machine.now.nodes in
+    let plain = rw c.in-Some-Plain.is at c.in-Some-Plain.field-0-is in
+    let x = c.argument-x-in-Some-Plain.ensures in
+    rw (c.in-Some-Plain.is, plain, ← x.value nodes, ← second_stays nodes _ _ _ x.rest, ← c.argument-y.ensures.value nodes, ← third_stays nodes _ _ _ _ _ x.rest c.argument-y.ensures.rest, ← c.argument-z.ensures.value nodes) (c.plain.ensures c.args.machine.now (x.known nodes c.requires))

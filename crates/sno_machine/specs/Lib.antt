@@ -1,0 +1,17 @@
+pub mod Values
+pub mod World
+pub mod Action
+pub mod Variables
+pub mod Builtins
+pub mod Keywords
+pub mod Numbers
+pub mod Functions
+pub mod Containers
+pub mod Operators
+pub mod State
+pub mod Lines
+pub mod Session
+pub mod Performs
+pub mod Primitives
+pub mod Converted
+pub mod Operations

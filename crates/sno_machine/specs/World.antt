@@ -1,0 +1,48 @@
+-- What a program can change, as far as its forms reach today.
+use Rattle.std.specs.Prelude.{ℕ, ℤ, pos, Bool, if◌then◌else◌, List, [], ◌∷◌, codes}
+use Rattle.sno_pattern.specs.Pattern.{Arb, Bal, Rem, Fail, Leaf, Fence, Abort, Succeed}
+use Rattle.sno_store.specs.Objects.{Object}
+use Rattle.sno_machine.specs.Values.{Value, Str, Pat}
+
+-- the keywords that the program sets, and those that count
+pub record Keywords : Type 0 where
+  -- &ANCHOR and &TRIM
+  pub anchor : ℤ
+  pub trim : ℤ
+  -- &STLIMIT: the most statements that may begin
+  pub limit : ℕ
+  -- &STCOUNT: how many have begun
+  pub begun : ℕ
+  -- &STNO: the number of the one that is performed
+  pub statement : ℕ
+  -- the most that &STLIMIT may be, and the most steps of a match, which no program changes
+  pub cap : ℕ
+  pub steps : ℕ
+
+pub record World : Type 0 where
+  -- how many pattern nodes there are
+  pub nodes : ℕ
+  -- the symbols in the order in which they joined, and by their numbers the values of the variables
+  pub symbols : List (List ℕ)
+  pub values : List Value
+  -- the arrays and tables, by their numbers
+  pub objects : List (Object Value)
+  -- the bytes of the input that are left
+  pub input : List ℕ
+  pub keywords : Keywords
+
+-- before a program's first statement
+abbrev pub new_keywords : Bool → ℕ → ℕ → Keywords
+new_keywords anchored cap steps = record { anchor = if anchored then pos 1 else pos 0; trim = pos 0; limit = cap; begun = 0; statement = 0; cap = cap; steps = steps }
+
+-- A new store has the variables that begin with a pattern, and INPUT and OUTPUT, which begin with null.
+abbrev pub new_world : List ℕ → Keywords → World
+new_world input keywords =
+    record {
+      nodes = 7;
+      symbols = codes "ARB" ∷ codes "BAL" ∷ codes "REM" ∷ codes "FAIL" ∷ codes "FENCE" ∷ codes "ABORT" ∷ codes "SUCCEED" ∷ codes "INPUT" ∷ codes "OUTPUT" ∷ [];
+      values = Pat (Leaf Arb) ∷ Pat (Leaf Bal) ∷ Pat (Leaf Rem) ∷ Pat (Leaf Fail) ∷ Pat Fence ∷ Pat Abort ∷ Pat Succeed ∷ Str [] ∷ Str [] ∷ [];
+      objects = [];
+      input = input;
+      keywords = keywords;
+    }

@@ -1,0 +1,219 @@
+//! The binary operators.
+ghost use Rattle.std.specs.Prelude.{◌≡◌, ◌<◌, List, length, IsTrue};
+ghost use Rattle.sno_pattern.specs.Table.{Node};
+ghost use Rattle.sno_machine.specs.Values.{shown, IsValueOf};
+ghost use Rattle.sno_machine.specs.Operators.{makes_value, joined, joined_patterns, concatenation, alternation, operation, pattern_with_target};
+ghost use Rattle.sno_machine.specs.Numbers.{number_of, result_of};
+ghost use Rattle.sno_machine.specs.Variables.{text_of};
+ghost use Rattle.sno_machine.specs.Operations.{join_of, assignment_of, both, is_arithmetic, calculated};
+ghost use Rattle.sno_machine.specs.Converted.{IsThere, has_text};
+ghost use Rattle.sno_machine.specs.State.{State, Does, tree_of};
+
+use crate::convert::{as_pattern, has_text, is_null, is_patternable, number_of, text_of};
+use crate::machine::{
+    BAD_COUNT, DATA_TYPE, DIVISION_BY_ZERO, Exit, Machine, OVERFLOW, TOO_LONG, error,
+};
+use sno_text::Operator;
+use sno_value::{Arith, Name, PatId, Text, Value, add, div, mul, pow, sub};
+use std::alloc::Global;
+
+/// The most bytes of a string.
+const MOST_BYTES: usize = 1_000_000;
+
+/// How two patterns become one.
+#[derive(Clone, Copy, Debug)]
+enum Join {
+    /// One behind the other.
+    Cat,
+    /// One or the other.
+    Alt,
+}
+
+/// When a part that was matched is assigned.
+#[derive(Clone, Copy, Debug)]
+enum Assignment {
+    /// When the whole match has succeeded.
+    Conditional,
+    /// As soon as the pattern matches.
+    Immediate,
+}
+
+/// A binary operator on its operands.
+pub fn operation(
+    machine: &mut Machine,
+    operator: Operator,
+    x: Value,
+    y: Value,
+) -> Result<Value, Exit>
+    requires x { IsValueOf machine.old.nodes x }
+    requires y { IsValueOf machine.old.nodes y }
+    ensures { Does shown IsValueOf (operation operator (shown machine.old.nodes x) (shown machine.old.nodes y)) machine.old machine.new result }
+{
+    match operator {
+        Operator::Alternate => alternation(machine, x, y),
+        Operator::Concatenate => concatenation(machine, x, y),
+        Operator::Add
+        | Operator::Subtract
+        | Operator::Divide
+        | Operator::Multiply
+        | Operator::Power => {
+            let (x, y) = numbers(&x, &y)?;
+            computed(calculated(operator, x, y))
+        }
+        Operator::Conditional => pattern_with_target(machine, Assignment::Conditional, x, y),
+        Operator::Immediate => pattern_with_target(machine, Assignment::Immediate, x, y),
+    }
+}
+
+/// P . X or P $ X, where X was taken as a name.
+fn pattern_with_target(
+    machine: &mut Machine,
+    assignment: Assignment,
+    x: Value,
+    y: Value,
+) -> Result<Value, Exit>
+    requires { IsValueOf machine.old.nodes x }
+    ensures { Does shown IsValueOf (pattern_with_target (assignment_of assignment) (shown machine.old.nodes x) (shown machine.old.nodes y)) machine.old machine.new result }
+{
+    let Value::Name(target) = y else {
+        return Err(error(DATA_TYPE));
+    };
+    if !is_patternable(&x) {
+        return Err(error(DATA_TYPE));
+    }
+    let body = as_pattern(machine, x)?;
+    assigned(machine, assignment, body, target)
+}
+
+/// The pattern of a pattern with a target.
+fn assigned(
+    machine: &mut Machine,
+    assignment: Assignment,
+    body: PatId,
+    target: Name,
+) -> Result<Value, Exit>
+    requires { body.0 < length machine.old.nodes }
+    ensures { Does shown IsValueOf (makes_value (assignment_of assignment (tree_of machine.old.nodes body) target)) machine.old machine.new result }
+{
+    match assignment {
+        Assignment::Conditional => {
+            let id = machine.cond(body, target)?;
+            Ok(Value::Pat(id))
+        }
+        Assignment::Immediate => {
+            let id = machine.imm(body, target)?;
+            Ok(Value::Pat(id))
+        }
+    }
+}
+
+/// X | Y.
+fn alternation(machine: &mut Machine, x: Value, y: Value) -> Result<Value, Exit>
+    requires x { IsValueOf machine.old.nodes x }
+    requires y { IsValueOf machine.old.nodes y }
+    ensures { Does shown IsValueOf (alternation (shown machine.old.nodes x) (shown machine.old.nodes y)) machine.old machine.new result }
+{
+    joined_patterns(machine, Join::Alt, x, y)
+}
+
+/// X Y: where one is null the other, of two texts their string, else a pattern.
+fn concatenation(machine: &mut Machine, x: Value, y: Value) -> Result<Value, Exit>
+    requires x { IsValueOf machine.old.nodes x }
+    requires y { IsValueOf machine.old.nodes y }
+    ensures { Does shown IsValueOf (concatenation (shown machine.old.nodes x) (shown machine.old.nodes y)) machine.old machine.new result }
+{
+    if is_null(&x) {
+        return Ok(y);
+    }
+    if is_null(&y) {
+        return Ok(x);
+    }
+    if has_text(&x) && has_text(&y) {
+        return joined_texts(machine.alloc(), x, y);
+    }
+    joined_patterns(machine, Join::Cat, x, y)
+}
+
+/// Two texts as one; error 8 where that has more than 1,000,000 bytes.
+fn joined_texts(alloc: Global, x: Value, y: Value) -> Result<Value, Exit>
+    requires x { IsTrue (has_text x) }
+    requires y { IsTrue (has_text y) }
+    ensures { (s : State) → IsValueOf s.nodes x → IsValueOf s.nodes y
+        → Does shown IsValueOf (joined (text_of (shown s.nodes x)) (text_of (shown s.nodes y)) (shown s.nodes x) (shown s.nodes y)) s s result }
+{
+    let mut first = text_of(alloc, x)?;
+    let second = text_of(alloc, y)?;
+    if first.len() + second.len() > MOST_BYTES {
+        return Err(error(TOO_LONG));
+    }
+    first.extend_from_slice(&second)?;
+    Ok(Value::Str(Text::new(first)))
+}
+
+/// A pattern of two. Both types are judged before a node is made.
+fn joined_patterns(machine: &mut Machine, join: Join, x: Value, y: Value) -> Result<Value, Exit>
+    requires x { IsValueOf machine.old.nodes x }
+    requires y { IsValueOf machine.old.nodes y }
+    ensures { Does shown IsValueOf (joined_patterns (join_of join) (shown machine.old.nodes x) (shown machine.old.nodes y)) machine.old machine.new result }
+{
+    if !is_patternable(&x) || !is_patternable(&y) {
+        return Err(error(DATA_TYPE));
+    }
+    let first = as_pattern(machine, x)?;
+    let second = as_pattern(machine, y)?;
+    pattern_of(machine, join, first, second)
+}
+
+/// The pattern of two patterns.
+fn pattern_of(machine: &mut Machine, join: Join, first: PatId, second: PatId) -> Result<Value, Exit>
+    requires first { first.0 < length machine.old.nodes }
+    requires second { second.0 < length machine.old.nodes }
+    ensures { Does shown IsValueOf (makes_value (join_of join (tree_of machine.old.nodes first) (tree_of machine.old.nodes second))) machine.old machine.new result }
+{
+    match join {
+        Join::Cat => {
+            let id = machine.cat(first, second)?;
+            Ok(Value::Pat(id))
+        }
+        Join::Alt => {
+            let id = machine.alt(first, second)?;
+            Ok(Value::Pat(id))
+        }
+    }
+}
+
+/// The numbers of two operands.
+fn numbers(x: &Value, y: &Value) -> Result<(i64, i64), Exit>
+    ensures { (nodes : List Node) → IsThere (λ p. p) (both (number_of (shown nodes x.now)) (number_of (shown nodes y.now))) result }
+{
+    let x = number_of(x)?;
+    let y = number_of(y)?;
+    Ok((x, y))
+}
+
+/// What an operator of arithmetic gives.
+fn calculated(operator: Operator, x: i64, y: i64) -> Result<i64, Arith>
+    requires { IsTrue (is_arithmetic operator) }
+    ensures { result ≡ calculated operator x y }
+{
+    match operator {
+        Operator::Add => add(x, y),
+        Operator::Subtract => sub(x, y),
+        Operator::Divide => div(x, y),
+        Operator::Multiply => mul(x, y),
+        Operator::Power => pow(x, y),
+        _ => unreachable!(),
+    }
+}
+
+/// The value that arithmetic gave.
+pub fn computed(outcome: Result<i64, Arith>) -> Result<Value, Exit>
+    ensures { (s : State) → Does shown IsValueOf (result_of outcome) s s result }
+{
+    match outcome {
+        Ok(number) => Ok(Value::Int(number)),
+        Err(Arith::Overflow) => Err(error(OVERFLOW)),
+        Err(Arith::DivisionByZero) => Err(error(DIVISION_BY_ZERO)),
+        Err(Arith::BadExponent) => Err(error(BAD_COUNT)),
+    }
+}
