@@ -25,6 +25,3 @@ pub use points::Points;
 
 /// The matcher in use.
 pub type Matcher = Engine<CopiedGoals>;
-
-#[cfg(test)]
-mod tests;

@@ -28,6 +28,3 @@ pub use program::Program;
 pub use reader::read_expression;
 pub use statement::{Core, Jump, Statement, Target};
 pub use whole::read_program;
-
-#[cfg(test)]
-mod tests;

@@ -1,5 +1,0 @@
-use Rattle.std.proofs.Common.{◌≡◌, false}
-use Rattle.sno_match.proofs.tests.driver.all_events.Given as goal
-
-abbrev pub invariant-events : goal.invariant-events
-invariant-events l = (l.m.nodes ≡ l.table) × (l.m.waits ≡ false)

@@ -1,5 +1,0 @@
-use Rattle.std.proofs.Common.{◌<◌, length}
-use Rattle.sno_match.proofs.tests.refusals.each_growth_is_refused_once.Given as goal
-
-abbrev pub invariant-growths : goal.invariant-growths
-invariant-growths g l = l.choice.0 < length l.table

@@ -1,0 +1,22 @@
+//! Worked rows, from the rules and by hand, and devices that fail.
+mod asking;
+mod assignments;
+mod choices;
+mod containers;
+mod errors;
+mod faults;
+mod forms;
+mod functions;
+mod input;
+mod interpreter;
+mod items;
+mod keywords;
+mod machine;
+mod names;
+mod primitives;
+mod programs;
+mod rows;
+mod session;
+mod sizes;
+mod statements;
+mod writers;

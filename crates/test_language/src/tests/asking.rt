@@ -1,0 +1,142 @@
+//! What the interpreter is asked: commands, programs, patterns and values.
+use super::rows::Question;
+use sno_text::read_program;
+use snobol::{Device, Limits, Outcome, command, perform, run, status_of};
+use std::alloc::{AllocError, Global};
+use std::str::from_utf8;
+use std::test::Fail;
+
+/// The limits of a run without options.
+const LIMITS: Limits = Limits {
+    statements: 1_000_000,
+    match_steps: 1_000_000,
+};
+
+/// The words of a command, with no file. Where they are refused the answer is the status alone.
+#[derive(Drop)]
+pub struct Commands;
+
+impl Question for Commands {
+    fn answer(alloc: Global, text: &[u8]) -> Result<String, Fail> {
+        let mut words = Vec::new(alloc);
+        push_words(&mut words, from_utf8(text)?)?;
+        told(alloc, &words, None, b"")
+    }
+}
+
+/// `OPTIONS ; PATTERN ; SUBJECT`, `PATTERN ; SUBJECT`, or a pattern alone, whose subject is A. The answer is the listing.
+#[derive(Drop)]
+pub struct Ways;
+
+impl Question for Ways {
+    fn answer(alloc: Global, text: &[u8]) -> Result<String, Fail> {
+        let (options, pattern, subject) = pattern_and_subject(from_utf8(text)?);
+        let mut words = Vec::new(alloc);
+        push_words(&mut words, "snobol4 ways")?;
+        push_words(&mut words, options)?;
+        words.push(pattern)?;
+        words.push(subject)?;
+        told(alloc, &words, None, b"")
+    }
+}
+
+/// `OPTIONS ; PROGRAM <- INPUT`, where the options and the input may be missing. The answer is what the program writes.
+#[derive(Drop)]
+pub struct Programs;
+
+impl Question for Programs {
+    fn answer(alloc: Global, text: &[u8]) -> Result<String, Fail> {
+        let text = from_utf8(text)?;
+        let (options, text) = text.split_once(" ; ").unwrap_or(("", text));
+        let (program, input) = text.split_once(" <- ").unwrap_or((text, ""));
+        let mut words = Vec::new(alloc);
+        push_words(&mut words, "snobol4 run")?;
+        push_words(&mut words, options)?;
+        words.push("f.sno")?;
+        told(alloc, &words, Some(program.as_bytes()), input.as_bytes())
+    }
+}
+
+/// A program that is checked.
+#[derive(Drop)]
+pub struct Checks;
+
+impl Question for Checks {
+    fn answer(alloc: Global, text: &[u8]) -> Result<String, Fail> {
+        told(alloc, &["snobol4", "check", "f.sno"], Some(text), b"")
+    }
+}
+
+/// An expression whose value a program writes between `<` and `>`; `fails` where it fails, and `error` and the code where
+/// it is an error.
+#[derive(Drop)]
+pub struct Values;
+
+impl Question for Values {
+    fn answer(alloc: Global, text: &[u8]) -> Result<String, Fail> {
+        let mut program = Vec::new(alloc);
+        program.extend_from_slice(b" OUTPUT = '<' (")?;
+        program.extend_from_slice(text)?;
+        program.extend_from_slice(b") '>' :S(END)\n OUTPUT = 'fails'\nEND\n")?;
+        let program = read_program(alloc, &program)?;
+        let mut input = Device::new(b"".as_slice());
+        let mut output = Device::new(Vec::new(alloc));
+        let outcome = run(alloc, &program, &mut input, &mut output, LIMITS);
+        let output = output.into_inner();
+        let written = from_utf8(&output)?;
+        match outcome {
+            Outcome::Ended => Ok(String::from_str(
+                alloc,
+                written.strip_suffix("\n").unwrap_or(written),
+            )?),
+            Outcome::Error { code, .. } => Ok(format!(in alloc; "error {code}")?),
+            other => Ok(format!(in alloc; "{other:?}")?),
+        }
+    }
+}
+
+fn push_words<'a>(words: &mut Vec<&'a str>, text: &'a str) -> Result<(), AllocError> {
+    for word in text.split_whitespace() {
+        words.push(word)?;
+    }
+    Ok(())
+}
+
+fn pattern_and_subject(text: &str) -> (&str, &str, &str) {
+    let Some((first, behind)) = text.split_once(" ; ") else {
+        return ("", text, "A");
+    };
+    match behind.split_once(" ; ") {
+        Some((pattern, subject)) => (first, pattern, subject),
+        None => ("", first, behind),
+    }
+}
+
+/// What a command gives, whose file and whose standard input hold these bytes: what it writes to standard output and,
+/// where it ends with another status than 0 or writes nothing, `status` and the status. Behind that and `: ` stands what
+/// it writes to standard error, if anything.
+fn told(alloc: Global, words: &[&str], file: Option<&[u8]>, input: &[u8]) -> Result<String, Fail> {
+    let job = match command(alloc, words) {
+        Ok(job) => job,
+        Err(error) => return Ok(format!(in alloc; "status {}", status_of(&error))?),
+    };
+    let mut input = Device::new(input);
+    let mut output = Device::new(Vec::new(alloc));
+    let mut errors = Device::new(Vec::new(alloc));
+    let status = perform(alloc, &job, file, &mut input, &mut output, &mut errors);
+    let answer = answer_of(alloc, &output.into_inner(), &errors.into_inner(), status)?;
+    Ok(answer)
+}
+
+fn answer_of(alloc: Global, output: &[u8], errors: &[u8], status: u8) -> Result<String, Fail> {
+    let mut answer = String::from_str(alloc, from_utf8(output)?)?;
+    if status != 0 || output.is_empty() || !errors.is_empty() {
+        let line = format!(in alloc; "status {status}")?;
+        answer.push_str(line.as_str())?;
+    }
+    if !errors.is_empty() {
+        answer.push_str(": ")?;
+        answer.push_str(from_utf8(errors)?)?;
+    }
+    Ok(answer)
+}

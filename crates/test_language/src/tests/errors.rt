@@ -1,0 +1,94 @@
+//! Texts and words that are refused, and errors.
+use super::asking::{Commands, Ways};
+use super::rows::check_rows;
+use std::test::Fail;
+
+const TEXTS_THAT_ARE_REFUSED: &str = r"
+'A => status 2: snobol4: syntax 1 at line 1\n
+ => status 2: snobol4: syntax 3 at line 1\n
+'A';'B' => status 2: snobol4: syntax 3 at line 1\n
+LEN(1)'B' => status 2: snobol4: syntax 3 at line 1\n
+'A'|'B' => status 2: snobol4: syntax 3 at line 1\n
+() => status 2: snobol4: syntax 3 at line 1\n
+9223372036854775808 => status 2: snobol4: syntax 2 at line 1\n
+9223372036854775808 ) => status 2: snobol4: syntax 3 at line 1\n
+";
+
+#[test]
+fn texts_that_are_refused(rt: HostRuntime) -> Result<(), Fail> {
+    check_rows::<Ways, _>(&rt, TEXTS_THAT_ARE_REFUSED)
+}
+
+const ERRORS_OF_PATTERNS: &str = r"
+LEN(-1) => status 1: snobol4: error 7\n
+POS(-1) => status 1: snobol4: error 7\n
+SPAN('') => status 1: snobol4: error 6\n
+ANY() => status 1: snobol4: error 6\n
+LEN('A') => status 1: snobol4: error 1\n
+LEN(LEN(1)) => status 1: snobol4: error 1\n
+1 / 0 => status 1: snobol4: error 3\n
+9223372036854775807 + 1 => status 1: snobol4: error 2\n
+2 ** -1 => status 1: snobol4: error 7\n
+NOSUCH(1 / 0) => status 1: snobol4: error 3\n
+NOSUCH(1) => status 1: snobol4: error 4\n
+CONVERT(1 / 0) => status 1: snobol4: error 3\n
+";
+
+#[test]
+fn errors_of_patterns(rt: HostRuntime) -> Result<(), Fail> {
+    check_rows::<Ways, _>(&rt, ERRORS_OF_PATTERNS)
+}
+
+/// Unevaluated expressions, and DEFINE, whose arguments aren't evaluated.
+const FORMS_THAT_ARE_STILL_TO_COME: &str = r"
+*X => status 1: snobol4: error 90\n
+~*X => status 1: snobol4: error 90\n
+?*(1 / 0) => status 1: snobol4: error 90\n
+LEN(*X) => status 1: snobol4: error 90\n
+DEFINE('F()') => status 1: snobol4: error 90\n
+DEFINE(1 / 0) => status 1: snobol4: error 90\n
+";
+
+#[test]
+fn forms_that_are_still_to_come(rt: HostRuntime) -> Result<(), Fail> {
+    check_rows::<Ways, _>(&rt, FORMS_THAT_ARE_STILL_TO_COME)
+}
+
+/// A begins with the null string, which is neither an array nor a table; an object is no pattern.
+const ITEMS_AND_OBJECTS: &str = r"
+A<1> => status 1: snobol4: error 1\n
+A<> => status 1: snobol4: error 1\n
+A<1,LEN(1)> => status 1: snobol4: error 1\n
+A<B[1],1 / 0> => status 1: snobol4: error 1\n
+@A<1> => status 1: snobol4: error 1\n
+.A[1] => status 1: snobol4: error 1\n
+LEN(1) . A<1> => status 1: snobol4: error 1\n
+LEN(1) $ A<1> => status 1: snobol4: error 1\n
+TABLE() => status 1: snobol4: error 1\n
+ARRAY('1') => status 1: snobol4: error 1\n
+~ARRAY('1') => exhausted\n
+$PROTOTYPE(1 / 0) => status 1: snobol4: error 3\n
+$TABLE() => status 1: snobol4: error 1\n
+";
+
+#[test]
+fn items_and_objects(rt: HostRuntime) -> Result<(), Fail> {
+    check_rows::<Ways, _>(&rt, ITEMS_AND_OBJECTS)
+}
+
+/// A call for help is status 0, and the others are faults of usage.
+const WORDS_THAT_ARE_REFUSED: &str = r"
+snobol4 ways --steps 1000000001 'A' A => status 64
+snobol4 ways --steps -1 'A' A => status 64
+snobol4 ways --steps x 'A' A => status 64
+snobol4 ways 'A' => status 64
+snobol4 ways => status 64
+snobol4 check => status 64
+snobol4 => status 64
+snobol4 --help => status 0
+";
+
+#[test]
+fn words_that_are_refused(rt: HostRuntime) -> Result<(), Fail> {
+    check_rows::<Commands, _>(&rt, WORDS_THAT_ARE_REFUSED)
+}

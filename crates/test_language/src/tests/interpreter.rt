@@ -1,0 +1,172 @@
+//! Expressions and matches that a machine is asked for, call after call.
+ghost use Rattle.std.specs.Prelude.{◌≡◌, ◌≤◌, None, length};
+ghost use Rattle.snobol.specs.Running.{CanRun, devices};
+
+use super::rows::{Question, check_rows};
+use sno_text::read_expression;
+use sno_value::ExprId;
+use snobol::{Device, Limits, Machine, Outcome, Sink, Source};
+use std::alloc::Global;
+use std::str::from_utf8;
+use std::test::Fail;
+
+const LIMITS: Limits = Limits {
+    statements: 1_000_000,
+    match_steps: 100,
+};
+
+/// The most bytes of a subject.
+const MOST_BYTES: usize = 1_000_000;
+
+/// What a match answers.
+type Found = Result<Option<(usize, usize)>, Outcome>;
+
+/// An error outside any statement.
+fn error(code: u8) -> Outcome {
+    Outcome::Error { code, statement: 0 }
+}
+
+/// Where the pattern that an expression gives first matches.
+fn find<R: Source, W: Sink>(
+    machine: &mut Machine<'_>,
+    reader: &mut R,
+    writer: &mut W,
+    expression: ExprId,
+    subject: &[u8],
+) -> Found
+    requires subject { length subject.now ≤ 1_000_000 }
+    requires ready { machine.old.stopped ≡ None → CanRun machine.old.state (devices (R.left reader.old) (R.at_end reader.old) (R.broken reader.old) (W.taken writer.old) (W.broken writer.old)) }
+    ensures ready { machine.new.stopped ≡ None → CanRun machine.new.state (devices (R.left reader.new) (R.at_end reader.new) (R.broken reader.new) (W.taken writer.new) (W.broken writer.new)) }
+{
+    let Some(pattern) = machine.pattern(reader, writer, expression)? else {
+        return Ok(None);
+    };
+    let found = machine.match_first(reader, writer, pattern, subject)?;
+    Ok(found)
+}
+
+/// The number of the pattern that an expression gives.
+#[derive(Drop)]
+pub struct PatternNumbers;
+
+impl Question for PatternNumbers {
+    fn answer(alloc: Global, text: &[u8]) -> Result<String, Fail> {
+        let (program, expression) = read_expression(alloc, text)?;
+        let mut input = Device::new(b"".as_slice());
+        let mut output = Device::new(Vec::new(alloc));
+        let mut machine = Machine::new(alloc, &program, LIMITS)?;
+        match machine.pattern(&mut input, &mut output, expression) {
+            Ok(Some(pattern)) => Ok(format!(in alloc; "pattern {}", pattern.0)?),
+            Ok(None) => Ok(String::from_str(alloc, "fails")?),
+            Err(outcome) => stop_text(alloc, outcome),
+        }
+    }
+}
+
+/// `PATTERN ; SUBJECT ; SUBJECT`: what is found of an expression's pattern in a first and in a second subject, where INPUT
+/// gives the lines `A` and `B`, behind what is written.
+#[derive(Drop)]
+pub struct Finds;
+
+impl Question for Finds {
+    fn answer(alloc: Global, text: &[u8]) -> Result<String, Fail> {
+        let (pattern, subjects) = from_utf8(text)?.split_once(" ; ").unwrap_or_default();
+        let (first, second) = subjects.split_once(" ; ").unwrap_or_default();
+        if first.len() > MOST_BYTES || second.len() > MOST_BYTES {
+            return Err(Fail::from("a subject is too long"));
+        }
+        let (program, expression) = read_expression(alloc, pattern.as_bytes())?;
+        let mut input = Device::new(b"A\nB".as_slice());
+        let mut output = Device::new(Vec::new(alloc));
+        let mut machine = Machine::new(alloc, &program, LIMITS)?;
+        let first = find(
+            &mut machine,
+            &mut input,
+            &mut output,
+            expression,
+            first.as_bytes(),
+        );
+        let second = find(
+            &mut machine,
+            &mut input,
+            &mut output,
+            expression,
+            second.as_bytes(),
+        );
+        let written = output.into_inner();
+        let (first, second) = (found_text(alloc, first)?, found_text(alloc, second)?);
+        Ok(format!(in alloc; "{}{first}, {second}", from_utf8(&written)?)?)
+    }
+}
+
+fn stop_text(alloc: Global, outcome: Outcome) -> Result<String, Fail> {
+    match outcome {
+        Outcome::Error { code, statement } => {
+            Ok(format!(in alloc; "error {code} in statement {statement}")?)
+        }
+        other => Ok(format!(in alloc; "{other:?}")?),
+    }
+}
+
+fn found_text(alloc: Global, found: Found) -> Result<String, Fail> {
+    match found {
+        Ok(Some((start, end))) => Ok(format!(in alloc; "{start}-{end}")?),
+        Ok(None) => Ok(String::from_str(alloc, "none")?),
+        Err(outcome) => stop_text(alloc, outcome),
+    }
+}
+
+const FIRST_WAYS: &str = r"
+LEN(1) . X ; AB ;  => 0-1, none
+'B' ; B ; AC => 0-1, none
+LEN(1) $ OUTPUT ; AB ; C => A\nC\n0-1, 0-1
+LEN(1) . OUTPUT RPOS(0) ; A ; AB => A\nB\n0-1, 1-2
+";
+
+#[test]
+fn first_ways(rt: HostRuntime) -> Result<(), Fail> {
+    check_rows::<Finds, _>(&rt, FIRST_WAYS)
+}
+
+/// Patterns are read from the input, line after line, up to its end.
+const PATTERNS_OF_INPUT: &str = r"
+INPUT ; AB ; AB => 0-1, 1-2
+INPUT INPUT INPUT ; AB ; AB => none, none
+";
+
+#[test]
+fn patterns_of_input(rt: HostRuntime) -> Result<(), Fail> {
+    check_rows::<Finds, _>(&rt, PATTERNS_OF_INPUT)
+}
+
+/// What stops a machine is answered again, and it writes nothing more.
+const STOPS: &str = r"
+ARBNO(ARBNO('A')) 'B' ; AAAAAAAAAAAA ; B => error 21 in statement 0, error 21 in statement 0
+ARBNO(ARBNO('A')) 'B' ; B ; AAAAAAAAAAAA => 0-1, error 21 in statement 0
+LEN(-1) ; A ; A => error 7 in statement 0, error 7 in statement 0
+";
+
+#[test]
+fn stops(rt: HostRuntime) -> Result<(), Fail> {
+    check_rows::<Finds, _>(&rt, STOPS)
+}
+
+/// Each later call answers the error, whatever it asks, and writes nothing.
+#[test]
+fn errors_stay(rt: HostRuntime) -> Result<(), Fail> {
+    let alloc = rt.alloc();
+    let (program, whole) = read_expression(alloc, b"LEN(1) $ OUTPUT | LEN(-1)")?;
+    // The first four expressions are 1, LEN(1), OUTPUT and LEN(1) $ OUTPUT.
+    let part = ExprId(3);
+    let mut input = Device::new(b"".as_slice());
+    let mut output = Device::new(Vec::new(alloc));
+    let mut machine = Machine::new(alloc, &program, LIMITS)?;
+    let Some(pattern) = machine.pattern(&mut input, &mut output, part)? else {
+        return Err(Fail::from("no pattern"));
+    };
+    let refused = machine.pattern(&mut input, &mut output, whole);
+    let again = machine.match_first(&mut input, &mut output, pattern, b"A");
+    assert_eq!(rt; (refused, again), (Err(error(7)), Err(error(7))));
+    assert!(rt; output.into_inner().is_empty());
+    Ok(())
+}

@@ -1,0 +1,214 @@
+//! Values that no expression gives yet: names of elements and entries, arrays, tables and expressions.
+ghost use Rattle.std.specs.Prelude.{List};
+ghost use Rattle.sno_pattern.specs.Table.{Node};
+ghost use Rattle.sno_machine.specs.Values.{IsValueOf};
+
+use super::rows::{Question, check_rows};
+use sno_machine::{
+    Exit, Keywords, Machine, Stop, assign, called, function_named, operation, unary_name,
+};
+use sno_text::{Operator, UnaryOperator};
+use sno_value::{ExprId, Name, ObjId, SymId, Text, Value};
+use snobol::{Device, Sink};
+use std::alloc::{AllocError, Global};
+use std::str::from_utf8;
+use std::test::Fail;
+
+const OUTPUT: Name = Name::Var(SymId(8));
+
+/// The value for which a word of a row stands: the null string where it is none of these.
+fn value_named(alloc: Global, word: &str) -> Value
+    ensures { (nodes : List Node) → IsValueOf nodes result }
+{
+    match word {
+        "ARB" => Value::Name(Name::Var(SymId(0))),
+        "BAL" => Value::Name(Name::Var(SymId(1))),
+        "OUTPUT" => Value::Name(OUTPUT),
+        "A<1>" => Value::Name(Name::Elem(ObjId(0), 1)),
+        "A<2>" => Value::Name(Name::Elem(ObjId(0), 2)),
+        "B<1>" => Value::Name(Name::Elem(ObjId(1), 1)),
+        "T<1>" => Value::Name(Name::Entry(ObjId(0), 1)),
+        "A" => Value::Array(ObjId(0)),
+        "B" => Value::Array(ObjId(1)),
+        "T" => Value::Table(ObjId(0)),
+        "U" => Value::Table(ObjId(1)),
+        "0" => Value::Int(0),
+        "1" => Value::Int(1),
+        "*X" => Value::Expr(ExprId(0)),
+        _ => Value::Str(Text::new(Vec::new(alloc))),
+    }
+}
+
+/// What is given, as a text.
+fn given_text(alloc: Global, given: Result<Value, Exit>) -> Result<String, Fail> {
+    match given {
+        Ok(Value::Str(text)) => Ok(format!(in alloc; "'{}'", from_utf8(text.as_slice())?)?),
+        Ok(value) => Ok(format!(in alloc; "{value:?}")?),
+        Err(Exit::Failure) => Ok(String::from_str(alloc, "fails")?),
+        Err(Exit::Halt(Stop::Error(code))) => Ok(format!(in alloc; "error {code}")?),
+        Err(Exit::Halt(stop)) => Ok(format!(in alloc; "{stop:?}")?),
+    }
+}
+
+/// Keywords as they are before a first statement.
+fn new_machine(alloc: Global) -> Result<Machine, AllocError> {
+    let machine = Machine::new(alloc, Keywords::new(false, 1_000_000, 1_000_000))?;
+    Ok(machine)
+}
+
+/// What a form or a function gives of two values.
+fn given(machine: &mut Machine, form: &str, x: Value, y: Value) -> Result<Value, Exit>
+    requires x { IsValueOf machine.old.nodes x }
+    requires y { IsValueOf machine.old.nodes y }
+{
+    match form {
+        "." => operation(machine, Operator::Conditional, x, y),
+        "$" => operation(machine, Operator::Immediate, x, y),
+        "|" => operation(machine, Operator::Alternate, x, y),
+        "&" => operation(machine, Operator::Concatenate, x, y),
+        "name" => unary_name(machine, UnaryOperator::Indirect, x),
+        _ => called(machine, function_named(form.as_bytes()), &mut [x, y]),
+    }
+}
+
+/// `FORM X Y`: what a form or a function gives of two values in a new machine, and how many patterns there are then.
+/// The form `&` is a concatenation, and `name` what `$X` names.
+#[derive(Drop)]
+struct Forms;
+
+impl Question for Forms {
+    fn answer(alloc: Global, text: &[u8]) -> Result<String, Fail> {
+        let (form, values) = from_utf8(text)?.split_once(" ").unwrap_or_default();
+        let (x, y) = values.split_once(" ").unwrap_or((values, ""));
+        let mut machine = new_machine(alloc)?;
+        let given = given(
+            &mut machine,
+            form,
+            value_named(alloc, x),
+            value_named(alloc, y),
+        );
+        let given = given_text(alloc, given)?;
+        let patterns = machine.patterns().len();
+        Ok(format!(in alloc; "{given}, {patterns} patterns")?)
+    }
+}
+
+/// The types are judged before a pattern is made.
+const OPERATORS: &str = r"
+& A null => Array(ObjId(0)), 7 patterns
+& 1 T => error 1, 7 patterns
+| 1 T => error 1, 7 patterns
+| *X 1 => error 90, 7 patterns
+. A OUTPUT => error 1, 7 patterns
+$ BAL OUTPUT => error 1, 7 patterns
+. 1 1 => error 1, 7 patterns
+. *X OUTPUT => error 90, 7 patterns
+";
+
+#[test]
+fn operators(rt: HostRuntime) -> Result<(), Fail> {
+    check_rows::<Forms, _>(&rt, OPERATORS)
+}
+
+/// Nine symbols are there from the start, and a new one takes the next number.
+const NAMES_BY_VALUES: &str = r"
+name A<1> => Name(Elem(ObjId(0), 1)), 7 patterns
+name 1 => Name(Var(SymId(9))), 7 patterns
+name T => error 1, 7 patterns
+name null => error 6, 7 patterns
+";
+
+#[test]
+fn names_by_values(rt: HostRuntime) -> Result<(), Fail> {
+    check_rows::<Forms, _>(&rt, NAMES_BY_VALUES)
+}
+
+const TYPES: &str = r"
+DATATYPE ARB => 'NAME', 7 patterns
+DATATYPE A<1> => 'NAME', 7 patterns
+DATATYPE T<1> => 'NAME', 7 patterns
+DATATYPE A => 'ARRAY', 7 patterns
+DATATYPE T => 'TABLE', 7 patterns
+DATATYPE *X => 'EXPRESSION', 7 patterns
+SIZE ARB => error 1, 7 patterns
+SIZE A<1> => error 1, 7 patterns
+SIZE T<1> => error 1, 7 patterns
+SIZE A => error 1, 7 patterns
+SIZE T => error 1, 7 patterns
+SIZE *X => error 1, 7 patterns
+INTEGER ARB => fails, 7 patterns
+INTEGER A<1> => fails, 7 patterns
+INTEGER T<1> => fails, 7 patterns
+INTEGER A => fails, 7 patterns
+INTEGER T => fails, 7 patterns
+INTEGER *X => fails, 7 patterns
+LT 0 ARB => error 1, 7 patterns
+LT 0 A<1> => error 1, 7 patterns
+LT 0 T<1> => error 1, 7 patterns
+LT 0 A => error 1, 7 patterns
+LT 0 T => error 1, 7 patterns
+LT 0 *X => error 1, 7 patterns
+";
+
+#[test]
+fn types(rt: HostRuntime) -> Result<(), Fail> {
+    check_rows::<Forms, _>(&rt, TYPES)
+}
+
+/// Values of the types that no other test has.
+const OTHERS: [&str; 12] = [
+    "ARB", "BAL", "A<1>", "A<2>", "B<1>", "T<1>", "A", "B", "T", "U", "0", "*X",
+];
+
+/// What a function gives of two values.
+fn answered(alloc: Global, function: &str, x: &str, y: &str) -> Result<String, Fail> {
+    let text = format!(in alloc; "{function} {x} {y}")?;
+    let answer = Forms::answer(alloc, text.as_bytes())?;
+    Ok(answer)
+}
+
+#[test]
+fn equal_and_other_values(rt: HostRuntime) -> Result<(), Fail> {
+    for pair in 0..OTHERS.len() * OTHERS.len() {
+        let (x, y) = (OTHERS[pair / OTHERS.len()], OTHERS[pair % OTHERS.len()]);
+        let expected = match x == y {
+            true if x == "*X" => ("error 1, 7 patterns", "error 1, 7 patterns"),
+            true => ("'', 7 patterns", "fails, 7 patterns"),
+            false => ("fails, 7 patterns", "'', 7 patterns"),
+        };
+        let ident = answered(rt.alloc(), "IDENT", x, y)?;
+        assert_eq!(rt; ident.as_str(), expected.0, "{x} {y}");
+        let differ = answered(rt.alloc(), "DIFFER", x, y)?;
+        assert_eq!(rt; differ.as_str(), expected.1, "{x} {y}");
+    }
+    Ok(())
+}
+
+/// What OUTPUT writes of a value, and how that ends.
+#[derive(Drop)]
+struct Outputs;
+
+impl Question for Outputs {
+    fn answer(alloc: Global, text: &[u8]) -> Result<String, Fail> {
+        let mut machine = new_machine(alloc)?;
+        let mut output = Device::new(Vec::new(alloc));
+        let value = value_named(alloc, from_utf8(text)?);
+        let ending = assign(&mut machine, OUTPUT, value, &mut output);
+        let written = output.into_inner();
+        Ok(format!(in alloc; "{}{ending:?}", from_utf8(&written)?)?)
+    }
+}
+
+/// A value without a text is error 1.
+const VALUES_OF_OUTPUT: &str = r"
+1 => 1\nOk(())
+null => \nOk(())
+A => Err(Error(1))
+OUTPUT => Err(Error(1))
+*X => Err(Error(1))
+";
+
+#[test]
+fn values_of_output(rt: HostRuntime) -> Result<(), Fail> {
+    check_rows::<Outputs, _>(&rt, VALUES_OF_OUTPUT)
+}

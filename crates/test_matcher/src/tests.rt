@@ -1,0 +1,11 @@
+mod drawing;
+mod driver;
+mod ends;
+mod forms;
+mod generated;
+mod matches;
+mod notation;
+mod patterns;
+mod reference;
+mod refusals;
+mod rows;

@@ -1,0 +1,274 @@
+//! Worked rows: what a match tells, with the steps where they were counted by hand.
+use super::drawing::{drawn_event, drawn_events, push_number};
+use super::driver::all_events;
+use super::forms::table_of;
+use super::notation::forms_of;
+use super::rows::{Question, check_rows, parts};
+use sno_match::{Event, Matcher};
+use sno_pattern::Patterns;
+use sno_value::{ExprId, PatId};
+use std::alloc::Global;
+use std::test::Fail;
+
+/// What a row asks for: `anchored LIMIT SUBJECT: FORMS` or `floating LIMIT SUBJECT: FORMS`.
+#[derive(Clone, Copy, Drop)]
+struct Search {
+    words: &'static str,
+    subject: &'static [u8],
+    anchored: bool,
+    limit: u32,
+}
+
+fn search_of(text: &'static str) -> Result<Search, Fail> {
+    let (mode, rest) = parts(text, " ")?;
+    let (limit, rest) = parts(rest, " ")?;
+    let (subject, words) = parts(rest, ": ")?;
+    let limit: u32 = limit.parse()?;
+    Ok(Search {
+        words,
+        subject: subject.as_bytes(),
+        anchored: mode == "anchored",
+        limit,
+    })
+}
+
+/// The events of the last form in the subject, with at most so many steps. The first form answers a deferred part.
+#[derive(Drop)]
+struct Matches;
+
+impl Question for Matches {
+    fn answer(alloc: Global, text: &'static str) -> Result<String, Fail> {
+        let s = search_of(text)?;
+        let forms = forms_of(alloc, s.words)?;
+        let (table, pattern) = table_of(alloc, &forms)?;
+        let answers = [Some(PatId(0))];
+        let told = all_events(
+            alloc, &table, pattern, s.subject, s.anchored, s.limit, &answers,
+        )?;
+        let text = drawn_events(alloc, &told)?;
+        Ok(text)
+    }
+}
+
+const ALTERNATIVES: &str = r"
+anchored 1000 AB: TEXT:A TEXT:AB |:0,1 => way 0 1 at 2; way 0 2 at 4; exhausted at 4;
+anchored 4 AB: TEXT:A TEXT:AB |:0,1 => way 0 1 at 2; way 0 2 at 4; exhausted at 4;
+anchored 3 AB: TEXT:A TEXT:AB |:0,1 => way 0 1 at 2; limit at 3;
+";
+
+#[test]
+fn alternatives_in_order(rt: HostRuntime) -> Result<(), Fail> {
+    check_rows::<Matches, _>(&rt, ALTERNATIVES)
+}
+
+const REPETITION: &str = r"
+anchored 48 AAA: TEXT:A TEXT:AA |:0,1 ARBNO:2 => way 0 0 at 1; way 0 1 at 6; way 0 2 at 11; way 0 3 at 16; way 0 3 at 27; way 0 2 at 36; way 0 3 at 41; exhausted at 48;
+anchored 47 AAA: TEXT:A TEXT:AA |:0,1 ARBNO:2 => way 0 0 at 1; way 0 1 at 6; way 0 2 at 11; way 0 3 at 16; way 0 3 at 27; way 0 2 at 36; way 0 3 at 41; limit at 47;
+";
+
+#[test]
+fn repetition_with_its_steps(rt: HostRuntime) -> Result<(), Fail> {
+    check_rows::<Matches, _>(&rt, REPETITION)
+}
+
+const LIMITS: &str = r"
+floating 0 A: TEXT:A => limit at 0;
+floating 1 A: TEXT:A => way 0 1 at 1; limit at 1;
+floating 2 A: TEXT:A => way 0 1 at 1; limit at 2;
+floating 3 A: TEXT:A => way 0 1 at 1; exhausted at 3;
+anchored 6 A: TEXT:A ARBNO:0 => way 0 0 at 1; way 0 1 at 5; limit at 6;
+anchored 7 A: TEXT:A ARBNO:0 => way 0 0 at 1; way 0 1 at 5; exhausted at 7;
+";
+
+#[test]
+fn steps_run_out(rt: HostRuntime) -> Result<(), Fail> {
+    check_rows::<Matches, _>(&rt, LIMITS)
+}
+
+const CONCATENATIONS: &str = r"
+anchored 1000 AB: TEXT:A LEN:1 &:0,1 |:2,1 => way 0 2 at 4; way 0 1 at 6; exhausted at 6;
+anchored 5 AB: TEXT:A LEN:1 &:0,1 |:2,1 => way 0 2 at 4; limit at 5;
+floating 14 ABB: LEN:1 TEXT:B &:0,1 => way 0 2 at 3; way 1 3 at 7; exhausted at 14;
+floating 13 ABB: LEN:1 TEXT:B &:0,1 => way 0 2 at 3; way 1 3 at 7; limit at 13;
+";
+
+#[test]
+fn concatenation_and_choice(rt: HostRuntime) -> Result<(), Fail> {
+    check_rows::<Matches, _>(&rt, CONCATENATIONS)
+}
+
+const PRIMITIVES: &str = r"
+floating 1000 AB: ARB => way 0 0 at 1; way 0 1 at 2; way 0 2 at 3; way 1 1 at 5; way 1 2 at 6; way 2 2 at 8; exhausted at 8;
+anchored 1000 (A)B: BAL => way 0 3 at 1; way 0 4 at 2; exhausted at 2;
+anchored 1000 ()): BAL => way 0 2 at 1; exhausted at 1;
+anchored 1000 ): BAL => exhausted at 1;
+anchored 1000 ABC: RTAB:1 ANY:BC &:0,1 => way 0 3 at 3; exhausted at 3;
+anchored 1000 ABAC: SPAN:AB LEN:1 &:0,1 => way 0 4 at 3; exhausted at 3;
+anchored 1000 ABA: SPAN:AB LEN:1 &:0,1 => exhausted at 3;
+anchored 1000 ABC: LEN:2 TAB:1 &:0,1 => exhausted at 3;
+anchored 1000 ,A: BREAK:, => way 0 0 at 1; exhausted at 1;
+anchored 1000 ABC: BREAK:, => exhausted at 1;
+floating 1000 : TEXT: => way 0 0 at 1; exhausted at 1;
+floating 1000 : FAIL => exhausted at 1;
+";
+
+#[test]
+fn primitives(rt: HostRuntime) -> Result<(), Fail> {
+    check_rows::<Matches, _>(&rt, PRIMITIVES)
+}
+
+const STOPS: &str = r"
+floating 1000 ACAB: TEXT:A FENCE TEXT:B &:1,2 &:0,3 => aborted at 5;
+floating 1000 BA: TEXT:A ABORT &:0,1 TEXT:B |:2,3 => way 0 1 at 5; aborted at 10;
+anchored 1000 B: FENCE TEXT:A &:0,1 TEXT:B |:2,3 => aborted at 4;
+floating 3 : SUCCEED => way 0 0 at 1; way 0 0 at 2; way 0 0 at 3; limit at 3;
+";
+
+#[test]
+fn search_is_stopped(rt: HostRuntime) -> Result<(), Fail> {
+    check_rows::<Matches, _>(&rt, STOPS)
+}
+
+const ASSIGNMENTS: &str = r"
+floating 1000 AB: LEN:1 $:0,7 FAIL &:1,2 => assign 7 0 1 at 4; assign 7 1 2 at 10; exhausted at 15;
+floating 1000 AB: @:7 TEXT:B &:0,1 => cursor 7 0 at 2; cursor 7 1 at 6; way 1 2 at 7; cursor 7 2 at 10; exhausted at 11;
+";
+
+#[test]
+fn assignments_on_the_way(rt: HostRuntime) -> Result<(), Fail> {
+    check_rows::<Matches, _>(&rt, ASSIGNMENTS)
+}
+
+/// They are (LEN(1) . A LEN(1)) . B; ('A' . X 'C' | 'A' . Y) 'B'; LEN(1) . X | LEN(2) . Y; and LEN(1) $ X . Y.
+const PENDING: &str = r"
+anchored 1000 XY: LEN:1 .:0,1 &:1,0 .:2,2 => way 0 2 at 7 with 1 0 1 with 2 0 2; exhausted at 7 with 1 0 1 with 2 0 2;
+anchored 1000 AB: TEXT:A .:0,1 TEXT:C &:1,2 .:0,2 |:3,4 TEXT:B &:5,6 => way 0 2 at 12 with 2 0 1; exhausted at 12 with 2 0 1;
+anchored 1000 AB: LEN:1 .:0,1 LEN:2 .:2,2 |:1,3 => way 0 1 at 4 with 1 0 1; way 0 2 at 8 with 2 0 2; exhausted at 8 with 2 0 2;
+anchored 1000 AB: LEN:1 $:0,1 .:1,2 => assign 1 0 1 at 4; way 0 1 at 5 with 2 0 1; exhausted at 5 with 2 0 1;
+anchored 4 AB: LEN:1 $:0,1 .:1,2 => assign 1 0 1 at 4; limit at 4;
+";
+
+#[test]
+fn assignments_that_wait(rt: HostRuntime) -> Result<(), Fail> {
+    check_rows::<Matches, _>(&rt, PENDING)
+}
+
+/// The first event, the steps up to it, how many events were told, and the length of the subject, which the match takes
+/// over.
+#[derive(Drop)]
+struct FirstEvents;
+
+impl Question for FirstEvents {
+    fn answer(alloc: Global, text: &'static str) -> Result<String, Fail> {
+        let s = search_of(text)?;
+        let forms = forms_of(alloc, s.words)?;
+        let (table, pattern) = table_of(alloc, &forms)?;
+        let subject = s.subject.to_vec(alloc)?;
+        let mut m = Matcher::over(alloc, &table, pattern, subject, s.anchored, s.limit)?;
+        let event = m.next(&table)?;
+        let mut text = drawn_event(alloc, event)?;
+        push_number(alloc, &mut text, Some(m.steps() as usize))?;
+        push_number(alloc, &mut text, Some(m.told() as usize))?;
+        push_number(alloc, &mut text, Some(m.subject().len()))?;
+        Ok(text)
+    }
+}
+
+/// SUCCEED has ways without end.
+const FIRST_EVENTS: &str = r"
+anchored 1000000000 : SUCCEED => way 0 0 1 1 0
+floating 10 BA: TEXT:A => way 1 2 3 1 2
+";
+
+#[test]
+fn one_event_is_searched_for_at_a_time(rt: HostRuntime) -> Result<(), Fail> {
+    check_rows::<FirstEvents, _>(&rt, FIRST_EVENTS)
+}
+
+const VALUES: &str = r"
+anchored 10 AB: TEXT:A *:4 => value 4 at 1; way 0 1 at 2; exhausted at 2;
+";
+
+#[test]
+fn values_are_told(rt: HostRuntime) -> Result<(), Fail> {
+    check_rows::<Matches, _>(&rt, VALUES)
+}
+
+/// What a deferred part in a subject tells when it is answered by 'A', which joins the table behind its event: the next
+/// event, the steps, and how many events were told.
+#[derive(Drop)]
+struct Answered;
+
+impl Question for Answered {
+    fn answer(alloc: Global, text: &'static str) -> Result<String, Fail> {
+        let mut table = Patterns::new(alloc);
+        let part = table.defer(ExprId(4))?;
+        let mut m = Matcher::new(alloc, &table, part, text.as_bytes(), true, 10)?;
+        let _value = m.next(&table)?;
+        if !m.is_waiting() {
+            return Err(Fail::from("no value is wanted"));
+        }
+        let a = table.text(b"A")?;
+        m.answer(&table, Some(a))?;
+        if m.answers() != [Some(a)].as_slice() {
+            return Err(Fail::from("another answer is known"));
+        }
+        let event = m.next(&table)?;
+        let mut text = drawn_event(alloc, event)?;
+        push_number(alloc, &mut text, Some(m.steps() as usize))?;
+        push_number(alloc, &mut text, Some(m.told() as usize))?;
+        Ok(text)
+    }
+}
+
+const ANSWERED: &str = r"
+AB => way 0 1 2 2
+BA => exhausted 2 2
+";
+
+#[test]
+fn values_are_answered(rt: HostRuntime) -> Result<(), Fail> {
+    check_rows::<Answered, _>(&rt, ANSWERED)
+}
+
+/// What FAIL tells in a subject when it is asked twice: the second event, how many were told, and how many points and
+/// records are left.
+#[derive(Drop)]
+struct Ended;
+
+impl Question for Ended {
+    fn answer(alloc: Global, text: &'static str) -> Result<String, Fail> {
+        let mut table = Patterns::new(alloc);
+        let none = table.fail()?;
+        let mut m = Matcher::new(alloc, &table, none, text.as_bytes(), true, 10)?;
+        let _first = m.next(&table)?;
+        if m.is_waiting() {
+            return Err(Fail::from("a value is wanted"));
+        }
+        let event = m.next(&table)?;
+        let mut text = drawn_event(alloc, event)?;
+        push_number(alloc, &mut text, Some(m.told() as usize))?;
+        push_number(alloc, &mut text, Some(m.points()))?;
+        push_number(alloc, &mut text, Some(m.records()))?;
+        Ok(text)
+    }
+}
+
+const ENDED: &str = r"
+AB => exhausted 1 0 0
+";
+
+#[test]
+fn the_last_event_is_told_again(rt: HostRuntime) -> Result<(), Fail> {
+    check_rows::<Ended, _>(&rt, ENDED)
+}
+
+#[test]
+fn parts_of_the_subject(rt: HostRuntime) -> Result<(), Fail> {
+    let mut table = Patterns::new(rt.alloc());
+    let none = table.fail()?;
+    let m = Matcher::new(rt.alloc(), &table, none, b"AB", true, 10)?;
+    assert_eq!(rt; m.part(0, 1), b"A".as_slice());
+    assert_eq!(rt; m.part(1, 2), b"B".as_slice());
+    Ok(())
+}

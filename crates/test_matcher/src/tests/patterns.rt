@@ -1,0 +1,240 @@
+//! Each public call of the table of patterns on worked rows. The ends are those of the book's descriptions of the
+//! primitives.
+ghost use Rattle.std.specs.Prelude.{◌≤◌, ◌<◌, length};
+ghost use Rattle.sno_pattern.specs.Shape.{IsPrimitive};
+ghost use Rattle.sno_pattern.specs.Table.{tree};
+
+use super::drawing::{push_head, push_number};
+use super::forms::table_of;
+use super::notation::forms_of;
+use super::rows::{Question, check_rows, parts};
+use sno_pattern::{Arg, BuildError, Patterns, Shape};
+use sno_value::{PatId, Prim};
+use std::alloc::{AllocError, Global};
+use std::test::Fail;
+
+/// How many nodes a table holds at most.
+const MOST_NODES: u32 = 4_000_000;
+
+/// All ends of a primitive from a cursor in a subject, in order of trial: `FORM from CURSOR of SUBJECT`.
+#[derive(Drop)]
+struct Ends;
+
+impl Question for Ends {
+    fn answer(alloc: Global, text: &'static str) -> Result<String, Fail> {
+        let (words, rest) = parts(text, " from ")?;
+        let (at, subject) = parts(rest, " of ")?;
+        let at: usize = at.parse()?;
+        let subject = subject.as_bytes();
+        let forms = forms_of(alloc, words)?;
+        let (patterns, id) = table_of(alloc, &forms)?;
+        if at > subject.len() {
+            return Err(Fail::from("the cursor is outside"));
+        }
+        match patterns.shape(id) {
+            Shape::Primitive => {
+                let text = ends_of(alloc, &patterns, id, subject, at)?;
+                Ok(text)
+            }
+            _ => Err(Fail::from("no primitive")),
+        }
+    }
+}
+
+/// The ends by their numbers, where each of them is the one behind the one before it.
+fn ends_of(
+    alloc: Global,
+    patterns: &Patterns,
+    id: PatId,
+    subject: &[u8],
+    at: usize,
+) -> Result<String, AllocError>
+    requires id { id.0 < length patterns.now }
+    requires primitive { IsPrimitive (tree patterns.now id.0) }
+    requires at { at ≤ length subject.now }
+{
+    let mut text = String::new(alloc);
+    text.push_str("ends")?;
+    let mut behind = patterns.end_at(id, subject, at, 0);
+    'ends: for i in 0..1000usize {
+        let end = patterns.end_at(id, subject, at, i);
+        push_end(alloc, &mut text, end, behind)?;
+        let Some(end) = end else {
+            break;
+        };
+        behind = patterns.end_behind(id, subject, at, end);
+    }
+    Ok(text)
+}
+
+/// Adds an end by its number, and a sign where it is another than that behind the end before it.
+fn push_end(
+    alloc: Global,
+    text: &mut String,
+    end: Option<usize>,
+    behind: Option<usize>,
+) -> Result<(), AllocError> {
+    if end != behind {
+        text.push_str(" but")?;
+        push_number(alloc, text, behind)?;
+    }
+    push_number(alloc, text, end)?;
+    Ok(())
+}
+
+const COUNTS: &str = r"
+LEN:2 from 1 of ABC => ends 3
+LEN:2 from 2 of ABC => ends
+LEN:0 from 0 of  => ends 0
+LEN:9223372036854775807 from 3 of ABC => ends
+POS:1 from 1 of ABC => ends 1
+POS:1 from 0 of ABC => ends
+RPOS:0 from 3 of ABC => ends 3
+RPOS:1 from 3 of ABC => ends
+TAB:1 from 0 of ABC => ends 1
+TAB:1 from 2 of ABC => ends
+TAB:4 from 0 of ABC => ends
+RTAB:1 from 0 of ABC => ends 2
+RTAB:1 from 3 of ABC => ends
+";
+
+#[test]
+fn counts(rt: HostRuntime) -> Result<(), Fail> {
+    check_rows::<Ends, _>(&rt, COUNTS)
+}
+
+const SETS: &str = r"
+ANY:BC from 2 of ABC => ends 3
+ANY:BC from 0 of ABC => ends
+ANY:BC from 3 of ABC => ends
+NOTANY:BC from 0 of ABC => ends 1
+NOTANY:BC from 1 of ABC => ends
+NOTANY:BC from 3 of ABC => ends
+SPAN:AB from 0 of ABAC => ends 3
+SPAN:BAB from 0 of ABA => ends 3
+SPAN:AB from 0 of CAB => ends
+SPAN:AB from 2 of AB => ends
+BREAK:, from 0 of ABC => ends
+BREAK:, from 0 of ,A => ends 0
+BREAK:;, from 1 of AB,; => ends 2
+";
+
+#[test]
+fn sets(rt: HostRuntime) -> Result<(), Fail> {
+    check_rows::<Ends, _>(&rt, SETS)
+}
+
+const SEVERAL_ENDS: &str = r"
+ARB from 0 of AB => ends 0 1 2
+ARB from 2 of AB => ends 2
+BAL from 0 of (A)B => ends 3 4
+BAL from 1 of (A)B => ends 2
+BAL from 0 of ()) => ends 2
+BAL from 0 of ) => ends
+BAL from 0 of )( => ends
+BAL from 0 of (() => ends
+BAL from 1 of A => ends
+REM from 1 of ABC => ends 3
+FAIL from 1 of ABC => ends
+TEXT:BC from 1 of ABC => ends 3
+TEXT:BC from 0 of ABC => ends
+TEXT: from 0 of  => ends 0
+";
+
+#[test]
+fn several_ends(rt: HostRuntime) -> Result<(), Fail> {
+    check_rows::<Ends, _>(&rt, SEVERAL_ENDS)
+}
+
+/// The first and the last byte of each word of a mask, and their neighbours.
+const CORNERS: &[u8] = b"\x00\x3f\x40\x7f\x80\xbf\xc0\xff";
+
+const NEIGHBOURS: &[u8] = b"\x01\x3e\x41\x7e\x81\xbe\xc1\xfe";
+
+#[test]
+fn words_of_masks(rt: HostRuntime) -> Result<(), Fail> {
+    let mut patterns = Patterns::new(rt.alloc());
+    let span = patterns.prim(Prim::Span, Arg::Set(CORNERS))?;
+    assert_eq!(rt; patterns.end_at(span, CORNERS, 0, 0), Some(8));
+    let until = patterns.prim(Prim::Break, Arg::Set(CORNERS))?;
+    assert_eq!(rt; patterns.end_at(until, NEIGHBOURS, 0, 0), None);
+    Ok(())
+}
+
+/// The heads of all nodes of a table in order, in the notation of the forms, and which of them are quiet; then how many
+/// there are.
+#[derive(Drop)]
+struct Heads;
+
+impl Question for Heads {
+    fn answer(alloc: Global, text: &'static str) -> Result<String, Fail> {
+        let forms = forms_of(alloc, text)?;
+        let (patterns, _) = table_of(alloc, &forms)?;
+        let mut text = String::new(alloc);
+        'nodes: for number in 0..patterns.len() {
+            let id = PatId(number);
+            push_head(alloc, &mut text, patterns.shape(id))?;
+            push_quiet(&mut text, patterns.is_quiet(id))?;
+        }
+        push_number(alloc, &mut text, Some(patterns.len() as usize))?;
+        Ok(text)
+    }
+}
+
+fn push_quiet(text: &mut String, quiet: bool) -> Result<(), AllocError> {
+    if quiet {
+        text.push_str(" quiet")?;
+    }
+    text.push_str(",")?;
+    Ok(())
+}
+
+const HEADS: &str = r"
+TEXT:A FENCE ABORT SUCCEED ARBNO:0 |:0,4 &:5,1 .:5,7 $:6,7 @:7 *:3 *SPAN:4 => primitive quiet, FENCE, ABORT, SUCCEED, ARBNO 0 quiet, | 0 4 quiet, & 5 1, . 5 7 quiet, $ 6 7, @ 7 quiet, * 3, *SPAN 4, 12
+@:7 *:3 *SPAN:4 &:0,2 ARBNO:3 => @ 7 quiet, * 3, *SPAN 4, & 0 2, ARBNO 3, 5
+";
+
+#[test]
+fn heads_and_numbers(rt: HostRuntime) -> Result<(), Fail> {
+    check_rows::<Heads, _>(&rt, HEADS)
+}
+
+#[test]
+fn refusals(rt: HostRuntime) -> Result<(), Fail> {
+    let mut patterns = Patterns::new(rt.alloc());
+    let null_set = patterns.prim(Prim::Span, Arg::Set(b""));
+    assert_eq!(rt; null_set, Err(BuildError::NullSet));
+    let below_zero = patterns.prim(Prim::Len, Arg::Count(-1));
+    assert_eq!(rt; below_zero, Err(BuildError::BadCount));
+    let least = patterns.prim(Prim::Pos, Arg::Count(i64::MIN));
+    assert_eq!(rt; least, Err(BuildError::BadCount));
+    assert_eq!(rt; patterns.len(), 0);
+    assert_eq!(rt; patterns.prim(Prim::Len, Arg::Count(0)), Ok(PatId(0)));
+    Ok(())
+}
+
+/// A table with as many nodes as it may hold: a text, and then concatenations of the one before with it.
+#[test]
+fn full(rt: HostRuntime) -> Result<(), Fail> {
+    let mut patterns = Patterns::new(rt.alloc());
+    let first = patterns.text(b"A")?;
+    let mut deepest = first;
+    for _node in 1..MOST_NODES {
+        deepest = patterns.cat(deepest, first)?;
+    }
+    assert_eq!(rt; deepest.0, 3_999_999);
+    assert_eq!(rt; patterns.arb(), Err(BuildError::Full));
+    assert_eq!(rt; patterns.text(b"A"), Err(BuildError::Full));
+    assert_eq!(rt; patterns.alt(first, deepest), Err(BuildError::Full));
+    let good = patterns.prim(Prim::Len, Arg::Count(1));
+    assert_eq!(rt; good, Err(BuildError::Full));
+    let bad_count = patterns.prim(Prim::Len, Arg::Count(-1));
+    assert_eq!(rt; bad_count, Err(BuildError::BadCount));
+    let null_set = patterns.prim(Prim::Any, Arg::Set(b""));
+    assert_eq!(rt; null_set, Err(BuildError::NullSet));
+    assert_eq!(rt; patterns.len(), 4_000_000);
+    assert!(rt; patterns.is_quiet(deepest));
+    let shape = patterns.shape(deepest);
+    assert_eq!(rt; shape, Shape::Cat(PatId(3_999_998), first));
+    Ok(())
+}

@@ -1,0 +1,241 @@
+//! Refused memory: a stack of points that refuses growths, which are then asked for again.
+ghost use Rattle.std.specs.Prelude.{◌≡◌, ◌<◌, ◌+◌, false, length, IfOk};
+
+use sno_match::{CopiedGoals, Engine, Event, Goal, Pending, Points, Top};
+use sno_pattern::{BuildError, Patterns};
+use sno_value::PatId;
+use std::alloc::{AllocError, Global};
+use std::process::Abort;
+use std::test::Fail;
+
+/// Refuses growths. Which ones, the number of the pattern says, since nothing else reaches a stack from a test: every
+/// second one for the pattern with the number 3, the first alone for that with 4, the second for that with 5, and so on.
+#[derive(Drop)]
+struct Refusing {
+    inner: CopiedGoals,
+    pattern: u32,
+    asked: u32,
+}
+
+impl Refusing {
+    /// Whether the growth that is asked for now is refused.
+    fn refuses(&mut self) -> bool
+        ensures { self.new.inner ≡ self.old.inner }
+    {
+        self.asked = self.asked.saturating_add(1);
+        if self.pattern == 3 {
+            self.asked % 2 == 1
+        } else {
+            self.asked == self.pattern.saturating_sub(3)
+        }
+    }
+}
+
+impl Points for Refusing {
+    ghost use Rattle.sno_match.specs.Copied.{points_of};
+
+    ghost points = { λ s. points_of s.inner.top s.inner.below.items };
+
+    ghost records = { λ s. 0 };
+
+    fn empty(alloc: Global) -> Refusing {
+        Refusing {
+            inner: CopiedGoals::empty(alloc),
+            pattern: 0,
+            asked: 0,
+        }
+    }
+
+    fn depth(&self) -> usize {
+        self.inner.depth()
+    }
+
+    fn count_records(&self) -> usize {
+        self.inner.count_records()
+    }
+
+    fn top(&self) -> Top {
+        self.inner.top()
+    }
+
+    fn replace(&mut self, front: &[Goal], cursor: usize) -> Result<(), AllocError> {
+        if self.refuses() {
+            return Err(AllocError);
+        }
+        self.inner.replace(front, cursor)
+    }
+
+    fn branch(&mut self, front: &[Goal], cursor: usize, next: usize) -> Result<(), AllocError> {
+        if self.refuses() {
+            return Err(AllocError);
+        }
+        self.inner.branch(front, cursor, next)
+    }
+
+    fn close(&mut self, assignment: Pending) -> Result<(), AllocError> {
+        if self.refuses() {
+            return Err(AllocError);
+        }
+        self.inner.close(assignment)
+    }
+
+    fn pop(&mut self) {
+        self.inner.pop()
+    }
+
+    fn finish(&mut self, way: &mut Vec<Pending>) -> Result<(), AllocError> {
+        if self.refuses() {
+            return Err(AllocError);
+        }
+        self.inner.finish(way)
+    }
+
+    fn begin(&mut self, goal: Goal, cursor: usize) -> Result<(), AllocError> {
+        if let Goal::Match(pattern) = goal {
+            self.pattern = pattern.0;
+            self.asked = 0;
+        }
+        self.inner.begin(goal, cursor)
+    }
+}
+
+/// Adds 'A' | 'AA'.
+fn add_choice(table: &mut Patterns) -> Result<PatId, BuildError>
+    ensures { IfOk result (λ id. id.0 < length table.new) }
+{
+    let a = table.text(b"A")?;
+    let aa = table.text(b"AA")?;
+    let choice = table.alt(a, aa)?;
+    Ok(choice)
+}
+
+/// Adds ARBNO('A' | 'AA').
+fn add_repetition(table: &mut Patterns) -> Result<PatId, BuildError>
+    ensures { IfOk result (λ id. id.0 < length table.new) }
+{
+    let choice = add_choice(table)?;
+    let some = table.arbno(choice)?;
+    Ok(some)
+}
+
+/// The ends of its ways in AAA from 0, and their counts of steps.
+const WAYS: [(usize, u32); 7] = [(0, 1), (1, 6), (2, 11), (3, 16), (3, 27), (2, 36), (3, 41)];
+
+/// The count of steps when no way is left.
+const ALL_STEPS: u32 = 48;
+
+/// The growths behind `new`: one for each step but 19, 21, 23, 30, 32, 44, 46 and 48, which fail, and one for each way.
+const GROWTHS: u32 = 47;
+
+/// The next event, asked for again after each refusal: none was told, and the steps are no fewer than those of the event
+/// before, and no more than those of this one.
+fn ask_again<P: Points>(
+    rt: &impl Abort,
+    m: &mut Engine<P>,
+    table: &Patterns,
+    steps: u32,
+    refused: &mut u32,
+) -> Option<Event>
+    requires table { m.old.nodes ≡ table.now }
+    requires asked { m.old.waits ≡ false }
+    ensures { m.new.nodes ≡ table.now }
+{
+    let told = m.told();
+    let since = m.steps();
+    'asking: for _ in 0..1000 {
+        match m.next(table) {
+            Ok(event) => return Some(event),
+            Err(_) => {
+                *refused = refused.saturating_add(1);
+                assert_eq!(rt; m.told(), told);
+                assert!(rt; since <= m.steps());
+                assert!(rt; m.steps() <= steps);
+            }
+        }
+    }
+    None
+}
+
+/// Asks the repetition for all its events, and gives the number of refusals. An Err is a refusal before the first.
+fn asked_again<P: Points>(
+    rt: &impl Abort,
+    table: &Patterns,
+    pattern: PatId,
+    alloc: Global,
+) -> Result<u32, AllocError>
+    requires { pattern.0 < length table.now }
+{
+    let mut m = Engine::<P>::new(alloc, table, pattern, b"AAA", true, 1000)?;
+    let mut refused = 0u32;
+    'ways: for (end, steps) in &WAYS {
+        let told = ask_again(rt, &mut m, table, *steps, &mut refused);
+        let way = Event::Way {
+            start: 0,
+            end: *end,
+        };
+        assert_eq!(rt; told, Some(way));
+        assert_eq!(rt; m.steps(), *steps);
+        assert!(rt; !m.is_waiting());
+    }
+    let told = ask_again(rt, &mut m, table, ALL_STEPS, &mut refused);
+    assert_eq!(rt; told, Some(Event::Exhausted));
+    assert_eq!(rt; m.steps(), ALL_STEPS);
+    assert_eq!(rt; m.told(), 8);
+    Ok(refused)
+}
+
+#[test]
+fn every_second_growth_is_refused(rt: HostRuntime) -> Result<(), Fail> {
+    let mut table = Patterns::new(rt.alloc());
+    let some = add_repetition(&mut table)?;
+    assert_eq!(rt; some.0, 3);
+    let refused = asked_again::<Refusing>(&rt, &table, some, rt.alloc())?;
+    assert_eq!(rt; refused, GROWTHS);
+    Ok(())
+}
+
+/// Each growth behind `new` is refused once, in a match of its own; that in `new` is left to the test below.
+#[test]
+fn each_growth_is_refused_once(rt: HostRuntime) -> Result<(), Fail> {
+    let mut table = Patterns::new(rt.alloc());
+    let choice = add_choice(&mut table)?;
+    let _third = table.arbno(choice)?;
+    let mut growths = 0u32;
+    'growths: for k in 0..1000u32 {
+        let some = table.arbno(choice)?;
+        assert_eq!(rt; some.0, k + 4);
+        let refused = asked_again::<Refusing>(&rt, &table, some, rt.alloc())?;
+        if refused == 0 {
+            break;
+        }
+        assert_eq!(rt; refused, 1);
+        growths = k + 1;
+    }
+    assert_eq!(rt; growths, GROWTHS);
+    Ok(())
+}
+
+/// With `rt try --test --fail-alloc N` the Nth allocation is refused, wherever it stands: while the table is built, in
+/// `new` or in `next`. What was refused is asked for again.
+#[test]
+fn a_refused_allocation_is_no_event(rt: HostRuntime) -> Result<(), Fail> {
+    let mut table = Patterns::new(rt.alloc());
+    let mut before = 0u32;
+    let some = match add_repetition(&mut table) {
+        Ok(some) => some,
+        Err(_) => {
+            before = 1;
+            add_repetition(&mut table)?
+        }
+    };
+    let refused = match asked_again::<CopiedGoals>(&rt, &table, some, rt.alloc()) {
+        Ok(refused) => refused,
+        Err(_) => {
+            before += 1;
+            asked_again::<CopiedGoals>(&rt, &table, some, rt.alloc())?
+        }
+    };
+    assert!(rt; before <= 1);
+    assert!(rt; refused <= 1 - before);
+    Ok(())
+}

@@ -1,0 +1,259 @@
+//! The words of the command line, and the texts of help.
+use super::rows::{Question, check_rows, check_texts};
+use sno_io::{Job, command, status_of};
+use std::alloc::Global;
+use std::test::Fail;
+
+/// The job that words ask for, which stand with `|` between them; or the status where they are refused.
+#[derive(Drop)]
+struct Commands;
+
+impl Question for Commands {
+    fn answer(alloc: Global, text: &[u8]) -> Result<String, Fail> {
+        let words = words_of(alloc, text)?;
+        match command(alloc, &words) {
+            Ok(job) => Ok(job_text(alloc, &job)?),
+            Err(error) => Ok(format!(in alloc; "status {}", status_of(&error))?),
+        }
+    }
+}
+
+fn words_of<'a>(alloc: Global, text: &'a [u8]) -> Result<Vec<&'a str>, Fail> {
+    let mut words = Vec::new(alloc);
+    for word in str::from_utf8(text)?.split("|") {
+        words.push(word)?;
+    }
+    Ok(words)
+}
+
+fn job_text(alloc: Global, job: &Job<'_>) -> Result<String, Fail> {
+    let text = match job {
+        Job::Check { file } => format!(in alloc; "check [{file}]")?,
+        Job::Run { file, limits } => {
+            let (statements, steps) = (limits.statements, limits.match_steps);
+            format!(in alloc; "run [{file}] {statements} statements, {steps} steps")?
+        }
+        Job::Ways {
+            anchored,
+            steps,
+            pattern,
+            subject,
+        } => {
+            let place = if *anchored { "anchored" } else { "anywhere" };
+            format!(in alloc; "ways [{pattern}] [{subject}] {place}, {steps} steps")?
+        }
+    };
+    Ok(text)
+}
+
+const CHECKS: &str = r"
+snobol4|check|f.sno => check [f.sno]
+other name|check|dir/f => check [dir/f]
+snobol4|check|--|-f => check [-f]
+snobol4|check|--|--help => check [--help]
+snobol4|check|- => check [-]
+snobol4|check| => check []
+";
+
+#[test]
+fn accepts_check(rt: HostRuntime) -> Result<(), Fail> {
+    check_rows::<Commands, _>(&rt, CHECKS)
+}
+
+const RUNS: &str = r"
+snobol4|run|F => run [F] 1000000 statements, 1000000 steps
+other name|run|dir/f => run [dir/f] 1000000 statements, 1000000 steps
+snobol4|run|--|-f => run [-f] 1000000 statements, 1000000 steps
+snobol4|run|--|--statements => run [--statements] 1000000 statements, 1000000 steps
+snobol4|run|- => run [-] 1000000 statements, 1000000 steps
+snobol4|run| => run [] 1000000 statements, 1000000 steps
+snobol4|run|--statements|7|--match-steps|9|F => run [F] 7 statements, 9 steps
+snobol4|run|--match-steps=9|F|--statements=7 => run [F] 7 statements, 9 steps
+snobol4|run|--statements=1|F => run [F] 1 statements, 1000000 steps
+snobol4|run|--statements=5|F => run [F] 5 statements, 1000000 steps
+snobol4|run|--statements=+005|F => run [F] 5 statements, 1000000 steps
+snobol4|run|--statements=4294967297|F => run [F] 4294967297 statements, 1000000 steps
+snobol4|run|--statements=1000000000000|F => run [F] 1000000000000 statements, 1000000 steps
+snobol4|run|--match-steps=0|F => run [F] 1000000 statements, 0 steps
+snobol4|run|--match-steps=1|F => run [F] 1000000 statements, 1 steps
+snobol4|run|--match-steps=1000000|F => run [F] 1000000 statements, 1000000 steps
+snobol4|run|--match-steps=1000000000|F => run [F] 1000000 statements, 1000000000 steps
+";
+
+#[test]
+fn accepts_run(rt: HostRuntime) -> Result<(), Fail> {
+    check_rows::<Commands, _>(&rt, RUNS)
+}
+
+const WAYS: &str = r"
+snobol4|ways|'A'|AB => ways ['A'] [AB] anywhere, 1000000 steps
+snobol4|ways|--anchor|--steps|5|'A'|AB => ways ['A'] [AB] anchored, 5 steps
+snobol4|ways|--anchor|--steps=5|'A'|AB => ways ['A'] [AB] anchored, 5 steps
+snobol4|ways|'A'|AB|--steps|+5|--anchor => ways ['A'] [AB] anchored, 5 steps
+snobol4|ways|'A'|--steps|005|--anchor|AB => ways ['A'] [AB] anchored, 5 steps
+other name|ways|--|'A'|AB => ways ['A'] [AB] anywhere, 1000000 steps
+snobol4|ways|--|-X|--anchor => ways [-X] [--anchor] anywhere, 1000000 steps
+snobol4|ways|--steps|1000000000|-| => ways [-] [] anywhere, 1000000000 steps
+snobol4|ways|--steps|1000000|'A'|AB => ways ['A'] [AB] anywhere, 1000000 steps
+";
+
+#[test]
+fn accepts_ways(rt: HostRuntime) -> Result<(), Fail> {
+    check_rows::<Commands, _>(&rt, WAYS)
+}
+
+const REFUSED: &str = r"
+snobol4
+snobol4|ways
+snobol4|ways|'A'
+snobol4|ways|'A'|AB|C
+snobol4|way|'A'|AB
+snobol4|check
+snobol4|check|a|b
+snobol4|check|--anchor|f
+snobol4|check|--steps|5|f
+snobol4|check|-f
+snobol4|check|f|--|-g
+snobol4|checks|f
+snobol4|--|check|f
+snobol4|--anchor|ways|'A'|AB
+snobol4|ways|--anchor|--anchor|'A'|AB
+snobol4|ways|--anchor=x|'A'|AB
+snobol4|ways|--anch|'A'|AB
+snobol4|ways|--steps|5|--steps|5|'A'|AB
+snobol4|ways|--steps|1000000001|'A'|AB
+snobol4|ways|--steps|99999999999999999999|'A'|AB
+snobol4|ways|--steps|-1|'A'|AB
+snobol4|ways|--steps|many|'A'|AB
+snobol4|ways|--steps=|'A'|AB
+snobol4|ways|--steps| 5|'A'|AB
+snobol4|ways|'A'|AB|--steps
+snobol4|ways|-X|AB
+snobol4|ways|'A'|-1
+snobol4|ways|--version|'A'|AB
+snobol4|help|runs
+snobol4|run
+snobol4|run|--
+snobol4|run|--statements|5
+snobol4|run|a|b
+snobol4|run|-f
+snobol4|runs|f
+snobol4|--statements=5|run|f
+snobol4|run|f|--match-steps
+snobol4|run|--statements|-1|f
+snobol4|run|--statements=5|--statements=5|f
+snobol4|run|--anchor|F
+snobol4|run|--steps=5|F
+snobol4|run|--statement=5|F
+snobol4|run|--statements=|F
+snobol4|run|--statements=many|F
+snobol4|run|--statements=0|F
+snobol4|run|--statements=1000000000001|F
+snobol4|run|--statements=99999999999999999999|F
+snobol4|run|--match-steps=1000000001|F
+snobol4|run|--match-steps=4294967296|F
+";
+
+#[test]
+fn refuses(rt: HostRuntime) -> Result<(), Fail> {
+    check_texts::<Commands, _>(&rt, "status 64", REFUSED)
+}
+
+const HELPS: &str = r"
+snobol4|--help
+snobol4|-h
+snobol4|help
+snobol4|help|run
+snobol4|help|check
+snobol4|help|ways
+snobol4|run|--help
+snobol4|run|-h|--statements|0
+snobol4|check|--help
+snobol4|check|-h
+snobol4|ways|--help
+snobol4|ways|-h|--steps|many
+";
+
+#[test]
+fn helps(rt: HostRuntime) -> Result<(), Fail> {
+    check_texts::<Commands, _>(&rt, "status 0", HELPS)
+}
+
+#[test]
+fn refuses_no_words(rt: HostRuntime) {
+    match command(rt.alloc(), &[]) {
+        Ok(_) => assert!(rt; false),
+        Err(error) => assert!(rt; status_of(&error) == 64),
+    }
+}
+
+const WAYS_HELP: &str = "List the ways in which a pattern matches a subject
+
+Usage: snobol4 ways [OPTIONS] <PATTERN> <SUBJECT>
+
+Arguments:
+  <PATTERN>  A pattern, written as in a program
+  <SUBJECT>  The text in which it is matched
+
+Options:
+      --anchor     Start at the subject's first byte alone
+      --steps <N>  The most steps of the match: 0 to 1000000000 [default: 1000000]
+  -h, --help       Print help
+";
+
+const RUN_HELP: &str = "Run a program
+
+Usage: snobol4 run [OPTIONS] <FILE>
+
+Arguments:
+  <FILE>  The file that holds the program
+
+Options:
+      --statements <N>   The most statements of the run: 1 to 1000000000000 [default: 1000000]
+      --match-steps <N>  The most steps of each match: 0 to 1000000000 [default: 1000000]
+  -h, --help             Print help
+";
+
+const CHECK_HELP: &str = "Check a program: nothing is written where it is accepted
+
+Usage: snobol4 check <FILE>
+
+Arguments:
+  <FILE>  The file that holds the program
+
+Options:
+  -h, --help  Print help
+";
+
+const HELP: &str = "A SNOBOL4 interpreter with a resumable pattern matcher
+
+Usage: snobol4 <COMMAND>
+
+Commands:
+  run    Run a program
+  check  Check a program: nothing is written where it is accepted
+  ways   List the ways in which a pattern matches a subject
+  help   Print this message or the help of the given subcommand(s)
+
+Options:
+  -h, --help  Print help
+";
+
+/// The text that is told where words are refused.
+fn help_text(alloc: Global, text: &[u8]) -> Result<String, Fail> {
+    let words = words_of(alloc, text)?;
+    match command(alloc, &words) {
+        Ok(_) => Err(Fail::from("accepted")),
+        Err(error) => Ok(format!(in alloc; "{error}")?),
+    }
+}
+
+#[test]
+fn shows_help(rt: HostRuntime) -> Result<(), Fail> {
+    let alloc = rt.alloc();
+    assert!(rt; help_text(alloc, b"snobol4|--help")?.as_str() == HELP);
+    assert!(rt; help_text(alloc, b"snobol4|run|--help")?.as_str() == RUN_HELP);
+    assert!(rt; help_text(alloc, b"snobol4|check|--help")?.as_str() == CHECK_HELP);
+    assert!(rt; help_text(alloc, b"snobol4|ways|--help")?.as_str() == WAYS_HELP);
+    Ok(())
+}

@@ -1,0 +1,184 @@
+//! The lines of an input.
+ghost use Rattle.std.specs.Prelude.{◌≡◌, None, false, true};
+
+use super::rows::{Question, check_rows};
+use sno_io::{Device, LineError, Lines, Source};
+use std::alloc::Global;
+use std::io::{self, ErrorKind, Read};
+use std::process::Abort;
+use std::test::Fail;
+
+/// Gives its bytes `at_once` at a time, and fails where it is asked more than `reads` times.
+#[derive(Drop)]
+struct Pieces<'a> {
+    rest: &'a [u8],
+    at_once: usize,
+    reads: usize,
+    asked: usize,
+}
+
+impl<'a> Read for Pieces<'a> {
+    fn read(&mut self, buf: &mut [u8]) -> io::Result<usize> {
+        self.asked = self.asked.saturating_add(1);
+        if self.asked > self.reads {
+            return Err(ErrorKind::BrokenPipe.into());
+        }
+        let count = self.rest.len().min(buf.len()).min(self.at_once);
+        buf[..count].copy_from_slice(&self.rest[..count]);
+        self.rest = &self.rest[count..];
+        Ok(count)
+    }
+}
+
+fn reader_of<'a>(rest: &'a [u8], at_once: usize, reads: usize) -> Device<Pieces<'a>>
+    ensures { result.has_failed ≡ false }
+{
+    Device::new(Pieces {
+        rest,
+        at_once,
+        reads,
+        asked: 0,
+    })
+}
+
+/// Tells the next line in brackets, `-` at the end, or the error; and what is held then in parentheses, where wanted.
+fn tell_next(
+    alloc: Global,
+    told: &mut String,
+    lines: &mut Lines,
+    device: &mut Device<Pieces<'_>>,
+    tells_held: bool,
+) -> Result<(), Fail>
+    requires sound { lines.old.stopped ≡ None → device.old.has_failed ≡ false }
+    requires same { lines.old.stopped ≡ None → lines.old.told_end ≡ true → device.old.told_end ≡ true }
+    ensures sound { lines.new.stopped ≡ None → device.new.has_failed ≡ false }
+    ensures same { lines.new.stopped ≡ None → lines.new.told_end ≡ true → device.new.told_end ≡ true }
+{
+    let line = line_text(alloc, lines.next(device))?;
+    told.push_str(line.as_str())?;
+    if tells_held {
+        told.push_str("(")?;
+        told.push_str(str::from_utf8(lines.held())?)?;
+        told.push_str(")")?;
+    }
+    Ok(())
+}
+
+fn line_text(alloc: Global, line: Result<Option<Vec<u8>>, LineError>) -> Result<String, Fail> {
+    match line {
+        Ok(Some(line)) => Ok(format!(in alloc; "[{}]", str::from_utf8(&line)?)?),
+        Ok(None) => Ok(String::from_str(alloc, "-")?),
+        Err(error) => Ok(format!(in alloc; "{error:?}")?),
+    }
+}
+
+/// What is told of the first four calls, and how often the reader was asked; behind that `!` where it has failed.
+fn four_calls(
+    alloc: Global,
+    text: &[u8],
+    at_once: usize,
+    reads: usize,
+    tells_held: bool,
+) -> Result<(String, usize), Fail> {
+    let mut device = reader_of(text, at_once, reads);
+    let mut lines = Lines::new(alloc);
+    let mut told = String::new(alloc);
+    tell_next(alloc, &mut told, &mut lines, &mut device, tells_held)?;
+    tell_next(alloc, &mut told, &mut lines, &mut device, tells_held)?;
+    tell_next(alloc, &mut told, &mut lines, &mut device, tells_held)?;
+    tell_next(alloc, &mut told, &mut lines, &mut device, tells_held)?;
+    if Source::failed(&device) {
+        told.push_str("!")?;
+    }
+    Ok((told, device.into_inner().asked))
+}
+
+/// The lines of an input, behind the numbers of bytes that come at once: they are the same for each of these. A reader of
+/// up to 100 bytes at once that is asked once more than it has to be fails.
+#[derive(Drop)]
+struct Inputs;
+
+impl Question for Inputs {
+    fn answer(alloc: Global, text: &[u8]) -> Result<String, Fail> {
+        let Some((sizes, text)) = str::from_utf8(text)?.split_once("|") else {
+            return Err(Fail::from("no sizes"));
+        };
+        let mut told = String::new(alloc);
+        for size in sizes.split_whitespace() {
+            let size: usize = size.parse()?;
+            let reads = text.len().div_ceil(size.clamp(1, 100)).saturating_add(1);
+            let (lines, _) = four_calls(alloc, text.as_bytes(), size, reads, false)?;
+            if !told.is_empty() && told != lines {
+                return Err(Fail::from("other lines"));
+            }
+            told = lines;
+        }
+        Ok(told)
+    }
+}
+
+const LINES: &str = r"
+1 2 3 100| => ----
+1 2 3 100|\n => []---
+1 2 3 100|\n\n => [][]--
+1 2 3 100|CAT => [CAT]---
+1 2 3 100|CAT\n => [CAT]---
+1 2 3 100|CAT  \nDOG => [CAT  ][DOG]--
+1 2 3 100|CAT\n\nDOG\n => [CAT][][DOG]-
+1 2 3 100|a\r\nb\r => [a\r][b\r]--
+1 2 3 100|\r\r\n => [\r\r]---
+1 2 3 100|1\n2\n3\n4\n5 => [1][2][3][4]
+1 8192 1000000 2000000|\<1000000:x\>\nnext => [\<1000000:x\>][next]--
+";
+
+#[test]
+fn gives_lines(rt: HostRuntime) -> Result<(), Fail> {
+    check_rows::<Inputs, _>(&rt, LINES)
+}
+
+/// The lines of an input and what is held behind each, behind how many bytes come at once and how many reads succeed.
+#[derive(Drop)]
+struct Reads;
+
+impl Question for Reads {
+    fn answer(alloc: Global, text: &[u8]) -> Result<String, Fail> {
+        let mut words = str::from_utf8(text)?.split("|");
+        let at_once: usize = words.next().unwrap_or("").parse()?;
+        let reads: usize = words.next().unwrap_or("").parse()?;
+        let text = words.next().unwrap_or("").as_bytes();
+        let (told, asked) = four_calls(alloc, text, at_once, reads, true)?;
+        Ok(format!(in alloc; "{told} {asked}")?)
+    }
+}
+
+const HELD: &str = r"
+9|3|one\ntwo\nthree => [one](two\nt)[two](t)[three]()-() 3
+4|0|one\n => ReadFault()ReadFault()ReadFault()ReadFault()! 1
+6|1|one\ntwo\n => [one](tw)ReadFault(tw)ReadFault(tw)ReadFault(tw)! 2
+";
+
+#[test]
+fn holds_what_was_read(rt: HostRuntime) -> Result<(), Fail> {
+    check_rows::<Reads, _>(&rt, HELD)
+}
+
+/// A line that is too long is refused again, and what was read stays held.
+fn check_refused<R: Abort + AllocGlobal>(rt: &R, text: &[u8], at_once: usize) {
+    let mut device = reader_of(text, at_once, 2_000_000);
+    let mut lines = Lines::new(rt.alloc());
+    let first = lines.next(&mut device).err();
+    let held = lines.held().len();
+    assert!(rt; first == Some(LineError::TooLong) && text.starts_with(lines.held()));
+    let second = lines.next(&mut device).err();
+    assert!(rt; second == Some(LineError::TooLong) && lines.held().len() == held);
+}
+
+#[test]
+fn refuses_a_longer_line(rt: HostRuntime) -> Result<(), Fail> {
+    let mut text = vec![in rt.alloc(); b'x'; 1_000_001]?;
+    check_refused(&rt, &text, 8192);
+    text.extend_from_slice(b"\nnext")?;
+    check_refused(&rt, &text, 1);
+    check_refused(&rt, &text, 2_000_000);
+    Ok(())
+}

@@ -1,0 +1,153 @@
+//! TRIM, DUPL, REPLACE and LGT on strings.
+use super::integers::integer;
+use super::rows::{Question, check_rows};
+use sno_value::{TextError, dupl, lgt, replace, trim};
+use std::alloc::{AllocError, Global};
+use std::test::Fail;
+
+/// What a function gives of the texts behind its name, with `|` between them: a text in brackets, or none, how it is
+/// refused, or whether it holds.
+#[derive(Drop)]
+struct Calls;
+
+impl Question for Calls {
+    fn answer(alloc: Global, text: &[u8]) -> Result<String, Fail> {
+        let mut words = str::from_utf8(text)?.split("|");
+        let function = words.next().unwrap_or("");
+        let first = words.next().unwrap_or("").as_bytes();
+        let second = words.next().unwrap_or("");
+        let third = words.next().unwrap_or("").as_bytes();
+        match function {
+            "TRIM" => bracketed(alloc, trim(first)),
+            "DUPL" => copies(alloc, first, integer(second)?),
+            "REPLACE" => outcome(alloc, replace(alloc, first, second.as_bytes(), third)?),
+            _ => Ok(format!(in alloc; "{}", lgt(first, second.as_bytes()))?),
+        }
+    }
+}
+
+fn copies(alloc: Global, text: &[u8], count: i64) -> Result<String, Fail> {
+    match dupl(alloc, text, count) {
+        Ok(copied) => outcome(alloc, copied),
+        Err(error) => Ok(format!(in alloc; "{error}")?),
+    }
+}
+
+fn outcome(alloc: Global, text: Option<Vec<u8>>) -> Result<String, Fail> {
+    match text {
+        Some(text) => bracketed(alloc, &text),
+        None => Ok(String::from_str(alloc, "none")?),
+    }
+}
+
+fn bracketed(alloc: Global, text: &[u8]) -> Result<String, Fail> {
+    let text = str::from_utf8(text)?;
+    Ok(format!(in alloc; "[{text}]")?)
+}
+
+const TRIMMED: &str = r"
+TRIM| => []
+TRIM|\s => []
+TRIM|A => [A]
+TRIM|A \s => [A]
+TRIM| A B\s => [ A B]
+TRIM|A\t\s => [A\t]
+TRIM|A \t => [A \t]
+TRIM|\<1000000: \> => []
+TRIM|\<1000000: \>A => [\<1000000: \>A]
+";
+
+#[test]
+fn trims(rt: HostRuntime) -> Result<(), Fail> {
+    check_rows::<Calls, _>(&rt, TRIMMED)
+}
+
+const COPIES: &str = r"
+DUPL|AB|3 => [ABABAB]
+DUPL|AB|1 => [AB]
+DUPL|AB|0 => []
+DUPL||9223372036854775807 => []
+DUPL||0 => []
+DUPL|A|-1 => none
+DUPL|A|-9223372036854775808 => none
+DUPL||-1 => none
+-- up to the limit
+DUPL|AB|500000 => [\<500000:AB\>]
+DUPL|A|1000000 => [\<1000000:A\>]
+DUPL|\<1000000:A\>|1 => [\<1000000:A\>]
+DUPL|\<1000001:A\>|0 => []
+DUPL|AB|500001 => string too long
+DUPL|A|1000001 => string too long
+DUPL|A|9223372036854775807 => string too long
+DUPL|AB|9223372036854775807 => string too long
+DUPL|\<1000000:A\>|2 => string too long
+DUPL|\<1000001:A\>|1 => string too long
+";
+
+#[test]
+fn duplicates(rt: HostRuntime) -> Result<(), Fail> {
+    check_rows::<Calls, _>(&rt, COPIES)
+}
+
+const REPLACED: &str = r"
+REPLACE|ABA|AB|XY => [XYX]
+REPLACE|A|AA|XY => [Y]
+REPLACE|A|AB|X => none
+REPLACE|A|| => none
+REPLACE||A|X => []
+REPLACE|AB|BA|AB => [BA]
+REPLACE|ABC|BAB|123 => [23C]
+REPLACE|\<1000000:A\>|\<1000000:A\>|\<999999:X\>Z => [\<1000000:Z\>]
+";
+
+#[test]
+fn replaces(rt: HostRuntime) -> Result<(), Fail> {
+    check_rows::<Calls, _>(&rt, REPLACED)
+}
+
+const COMPARED: &str = r"
+LGT|A| => true
+LGT|| => false
+LGT||A => false
+LGT|B|A => true
+LGT|A|A => false
+LGT|AB|A => true
+LGT|A|AB => false
+LGT|a|B => true
+LGT|B|AZ => true
+LGT|\0| => true
+LGT|\<1000001:A\>|\<1000000:A\> => true
+LGT|\<1000000:A\>|\<1000001:A\> => false
+";
+
+#[test]
+fn compares(rt: HostRuntime) -> Result<(), Fail> {
+    check_rows::<Calls, _>(&rt, COMPARED)
+}
+
+#[test]
+fn every_byte(rt: HostRuntime) -> Result<(), Fail> {
+    for byte in 0..=u8::MAX {
+        let kept = if byte == 32 { 0 } else { 1 };
+        assert!(rt;
+            trim(&[byte]).len() == kept && trim(&[byte, 32]).len() == kept,
+            "byte {byte}"
+        );
+        assert!(rt; lgt(&[byte], &[127]) == (byte > 127), "byte {byte}");
+        let other = byte ^ 255;
+        let replaced = replace(rt.alloc(), &[byte, other], &[byte], &[7])?;
+        assert!(rt;
+            replaced.as_deref() == Some([7, other].as_slice()),
+            "byte {byte}"
+        );
+    }
+    Ok(())
+}
+
+/// Want of memory, which no row can have.
+#[test]
+fn no_memory(rt: HostRuntime) -> Result<(), Fail> {
+    let text = TextError::from(AllocError).to_string(rt.alloc())?;
+    assert!(rt; text.as_str() == "no memory");
+    Ok(())
+}

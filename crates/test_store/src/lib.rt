@@ -1,0 +1,5 @@
+//! Tests of the store: worked rows of its calls.
+#![tactic(auto)]
+
+#[cfg(test)]
+mod tests;

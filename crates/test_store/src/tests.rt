@@ -1,0 +1,144 @@
+//! Worked rows: calls of one store, and what they answer.
+mod arrays;
+mod symbols;
+mod tables;
+
+use sno_pattern::Patterns;
+use sno_store::{Store, StoreError};
+use sno_value::{ExprId, Name, ObjId, PatId, SymId, Text, Value};
+use std::alloc::{AllocError, Global};
+use std::process::Abort;
+use std::test::Fail;
+
+/// A value of a row.
+#[derive(Clone, Copy)]
+enum Row {
+    Str(&'static str),
+    Int(i64),
+    Pattern(u32),
+    Expression(u32),
+    Name(Name),
+    Array(u32),
+    Table(u32),
+}
+
+impl Row {
+    /// The value.
+    fn value(self, alloc: Global) -> Result<Value, AllocError> {
+        Ok(match self {
+            Row::Str(text) => Value::Str(Text::new(Vec::from_slice(alloc, text.as_bytes())?)),
+            Row::Int(number) => Value::Int(number),
+            Row::Pattern(number) => Value::Pat(PatId(number)),
+            Row::Expression(number) => Value::Expr(ExprId(number)),
+            Row::Name(name) => Value::Name(name),
+            Row::Array(number) => Value::Array(ObjId(number)),
+            Row::Table(number) => Value::Table(ObjId(number)),
+        })
+    }
+}
+
+/// A call, and what it answers: a number, a place or a text, or the number of an error.
+#[derive(Clone, Copy)]
+enum Step {
+    Symbol(&'static str, Result<u32, u32>),
+    SymbolText(u32, &'static str),
+    Get(Name, Row),
+    Set(Name, Row),
+    NewArray(&'static str, Row, Result<u32, u32>),
+    NewTable(Result<u32, u32>),
+    Element(u32, &'static [i64], Result<Option<u32>, u32>),
+    Prototype(u32, Result<&'static [u8], u32>),
+    Find(u32, Row, Result<Option<u32>, u32>),
+    Entry(u32, Row, Result<u32, u32>),
+    TableToArray(u32, Result<Option<u32>, u32>),
+}
+
+/// The number of the error that a refusal is.
+fn error_of(refusal: StoreError) -> u32 {
+    match refusal {
+        StoreError::WrongType => 1,
+        StoreError::NullName => 6,
+        StoreError::Full => 9,
+        StoreError::BadPrototype => 12,
+        StoreError::NoMemory => 0,
+    }
+}
+
+/// The number of an object, or of the error.
+fn object_of(answer: Result<ObjId, StoreError>) -> Result<u32, u32> {
+    match answer {
+        Ok(id) => Ok(id.0),
+        Err(refusal) => Err(error_of(refusal)),
+    }
+}
+
+/// The place that a name of the object's part is, or the number of the error.
+fn place_of(object: u32, answer: Result<Option<Name>, StoreError>) -> Result<Option<u32>, u32> {
+    match answer {
+        Ok(Some(Name::Elem(ObjId(id), place)) | Some(Name::Entry(ObjId(id), place))) => {
+            Ok(if id == object { Some(place) } else { None })
+        }
+        Ok(_none) => Ok(None),
+        Err(refusal) => Err(error_of(refusal)),
+    }
+}
+
+/// Makes a call that may change the store, and says whether it answers what the step says.
+fn changes(store: &mut Store, alloc: Global, step: Step) -> Result<bool, AllocError> {
+    Ok(match step {
+        Step::Symbol(text, want) => match store.symbol(text.as_bytes()) {
+            Ok(id) => want == Ok(id.0),
+            Err(refusal) => want == Err(error_of(refusal)),
+        },
+        Step::Set(name, value) => {
+            store.set(name, value.value(alloc)?);
+            true
+        }
+        Step::NewArray(text, value, want) => {
+            let value = value.value(alloc)?;
+            object_of(store.new_array(text.as_bytes(), &value)) == want
+        }
+        Step::NewTable(want) => object_of(store.new_table()) == want,
+        Step::Entry(id, key, want) => match store.entry(ObjId(id), key.value(alloc)?) {
+            Ok(name) => place_of(id, Ok(Some(name))) == Ok(want.ok()),
+            Err(refusal) => want == Err(error_of(refusal)),
+        },
+        Step::TableToArray(id, want) => match store.table_to_array(ObjId(id)) {
+            Ok(Some(array)) => want == Ok(Some(array.0)),
+            Ok(None) => want == Ok(None),
+            Err(refusal) => want == Err(error_of(refusal)),
+        },
+        other => {
+            let answers = reads(store, alloc, other)?;
+            answers
+        }
+    })
+}
+
+/// Makes a call that changes nothing, and says whether it answers what the step says.
+fn reads(store: &Store, alloc: Global, step: Step) -> Result<bool, AllocError> {
+    Ok(match step {
+        Step::SymbolText(number, want) => store.symbol_text(SymId(number)) == want.as_bytes(),
+        Step::Get(name, want) => *store.get(name) == want.value(alloc)?,
+        Step::Element(id, subscripts, want) => {
+            place_of(id, store.element(ObjId(id), subscripts)) == want
+        }
+        Step::Prototype(id, want) => match store.prototype(ObjId(id)) {
+            Ok(text) => want == Ok(text),
+            Err(refusal) => want == Err(error_of(refusal)),
+        },
+        Step::Find(id, key, want) => place_of(id, store.find(ObjId(id), &key.value(alloc)?))
+            == want,
+        _ => false,
+    })
+}
+
+/// Makes the calls of a new store in turn, and checks their answers.
+fn check(rt: &impl Abort, alloc: Global, steps: &[Step]) -> Result<(), Fail> {
+    let mut patterns = Patterns::new(alloc);
+    let mut store = Store::new(alloc, &mut patterns)?;
+    for (i, step) in steps.iter().enumerate() {
+        assert!(rt; changes(&mut store, alloc, *step)?, "step {i}");
+    }
+    Ok(())
+}
