@@ -3,15 +3,17 @@ use Rattle.std.proofs.Common.{◌≡◌, ℕ, ◌-◌, arith, ℤ, pos, negsuc, 
 use Rattle.std.specs.List.{AllByRecursion}
 use Rattle.std.proofs.lemmas.List.{take_all}
 use Rattle.sno_value.specs.declared.ids.PatId.{PatId}
+use Rattle.sno_value.specs.declared.ids.ExprId.{ExprId}
 use Rattle.sno_value.specs.declared.kind.PrimitiveKind.{PrimitiveKind}
 use Rattle.sno_value.specs.declared.value.Value.{Value as Stored}
+use Rattle.sno_value.specs.declared.value.Value.TheVariants as stored
 use Rattle.sno_pattern.specs.declared.argument.Arg.TheVariants.{Count}
-use Rattle.sno_pattern.specs.Pattern.{Pattern, Arbno}
+use Rattle.sno_pattern.specs.Pattern.{Arbno}
 use Rattle.sno_pattern.specs.Table.{Node}
 use Rattle.sno_machine.specs.declared.machine.Exit.{Exit}
-use Rattle.sno_machine.specs.Action.{End, Error, Action, gives, stops, settles, and_then}
-use Rattle.sno_machine.specs.Values.{Value, Pat, shown, IsValueOf}
-use Rattle.sno_machine.specs.Operators.{argument, as_pattern, makes_value, count_primitive, set_primitive, repetition, rest}
+use Rattle.sno_machine.specs.Action.{Action}
+use Rattle.sno_machine.specs.Values.{Value, shown, IsValueOf}
+use Rattle.sno_machine.specs.Operators.{argument, as_pattern, makes_value, count_primitive, set_primitive, primitive, primitive_value, repetition, rest}
 use Rattle.sno_machine.specs.Variables.{wrong_type}
 use Rattle.sno_machine.specs.State.{State, Does, tree_of, IsPatternOf}
 use Rattle.sno_machine.specs.Primitives.{with_bytes, makes_primitive}
@@ -24,17 +26,23 @@ count_none kind x h = rw h refl
 pub set_none : (kind : PrimitiveKind) (x : Option (List ℕ)) → x ≡ None → set_primitive kind x ≡ wrong_type
 set_none kind x h = rw h refl
 
-stops_then : {A B : Type 0} (why : End) (next : A → Action B) → and_then (stops why) next ≡ stops why
-unfolding settles
-stops_then why next = refl
-
-pub count_value : (kind : PrimitiveKind) (n : ℤ) → count_primitive kind (Some n) ≡ as_value (makes_primitive kind (Count n))
+pub count_value : (kind : PrimitiveKind) (n : ℤ) → count_primitive kind (Some n) ≡ makes_primitive kind (Count n)
 count_value kind (pos n) = refl
-count_value kind (negsuc n) = sym (stops_then (Error 7) (λ (p : Pattern). gives (Pat p)))
+count_value kind (negsuc n) = refl
 
-pub set_value : (kind : PrimitiveKind) (bytes : List ℕ) → set_primitive kind (Some bytes) ≡ as_value (with_bytes kind bytes)
-set_value kind [] = sym (stops_then (Error 6) (λ (p : Pattern). gives (Pat p)))
+pub set_value : (kind : PrimitiveKind) (bytes : List ℕ) → set_primitive kind (Some bytes) ≡ with_bytes kind bytes
+set_value kind [] = refl
 set_value kind (byte ∷ bytes) = refl
+
+-- an argument that is no expression makes the primitive at once
+pub primitive_at_once : (kind : PrimitiveKind) (nodes : List Node) (x : Stored) → ((expression : ExprId) → x ≡ stored.Expr expression → ⊥) → primitive_value kind (shown nodes x) ≡ as_value (primitive kind (shown nodes x))
+primitive_at_once kind nodes (stored.Str bytes) isnt = refl
+primitive_at_once kind nodes (stored.Int number) isnt = refl
+primitive_at_once kind nodes (stored.Pat id) isnt = refl
+primitive_at_once kind nodes (stored.Expr id) isnt = absurd (isnt id refl)
+primitive_at_once kind nodes (stored.Name target) isnt = refl
+primitive_at_once kind nodes (stored.Array id) isnt = refl
+primitive_at_once kind nodes (stored.Table id) isnt = refl
 
 pub body_refused : (x : Value) (a b : State) (e : Exit) → Does {X = PatId} tree_of IsPatternOf (as_pattern x) a b (Err e) → Does {X = Stored} shown IsValueOf (repetition x) a b (Err e)
 body_refused x a b e h = then_err tree_of IsPatternOf shown IsValueOf (as_pattern x) (λ p. makes_value (Arbno p)) a b e h

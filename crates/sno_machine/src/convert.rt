@@ -9,7 +9,7 @@ ghost use Rattle.sno_machine.specs.Variables.{text_of};
 ghost use Rattle.sno_machine.specs.Converted.{IsThere, has_text};
 ghost use Rattle.sno_machine.specs.State.{State, Does, tree_of, IsPatternOf};
 
-use crate::machine::{DATA_TYPE, Exit, LATER, Machine, error};
+use crate::machine::{DATA_TYPE, Exit, Machine, error};
 use sno_value::{PatId, Text, Value, int_text, to_int};
 use std::alloc::Global;
 
@@ -97,7 +97,7 @@ pub fn is_patternable(value: &Value) -> bool
     }
 }
 
-/// The pattern that a value stands for; error 1 where there is none.
+/// The pattern that a value stands for; error 1 where there is none. An expression is a deferred part.
 pub fn as_pattern(machine: &mut Machine, value: Value) -> Result<PatId, Exit>
     requires { IsValueOf machine.old.nodes value }
     ensures { Does tree_of IsPatternOf (as_pattern (shown machine.old.nodes value)) machine.old machine.new result }
@@ -113,7 +113,10 @@ pub fn as_pattern(machine: &mut Machine, value: Value) -> Result<PatId, Exit>
             Ok(id)
         }
         Value::Pat(id) => Ok(id),
-        Value::Expr(_) => Err(error(LATER)),
+        Value::Expr(expression) => {
+            let id = machine.defer(expression)?;
+            Ok(id)
+        }
         _ => Err(error(DATA_TYPE)),
     }
 }

@@ -4,11 +4,11 @@ ghost use Rattle.std.specs.List.{AllByRecursion};
 ghost use Rattle.sno_value.specs.Kind.{takes_count};
 ghost use Rattle.sno_pattern.specs.Table.{Node};
 ghost use Rattle.sno_machine.specs.Values.{shown, IsValueOf};
-ghost use Rattle.sno_machine.specs.Operators.{argument, called, count_primitive, repetition, set_primitive};
+ghost use Rattle.sno_machine.specs.Operators.{answer, argument, called, count_primitive, primitive, primitive_value, repetition, set_primitive};
 ghost use Rattle.sno_machine.specs.Numbers.{number_of};
 ghost use Rattle.sno_machine.specs.Functions.{plain};
 ghost use Rattle.sno_machine.specs.Variables.{text_of};
-ghost use Rattle.sno_machine.specs.State.{State, Does};
+ghost use Rattle.sno_machine.specs.State.{State, Does, tree_of, IsPatternOf};
 
 use crate::builtins::{Builtin, Plain};
 use crate::containers::{array, convert, prototype, table};
@@ -18,7 +18,7 @@ use crate::numbers::{comparison, remainder};
 use crate::texts::{copies, is_after, replaced, size, trimmed};
 use crate::types::{datatype, differ, ident, integer};
 use sno_pattern::Arg;
-use sno_value::{Prim, Text, Value};
+use sno_value::{PatId, Prim, Text, Value};
 use std::alloc::Global;
 
 /// What a function gives of its operands. Missing operands are null, and further ones are dropped.
@@ -35,11 +35,7 @@ pub fn called(
         Some(Builtin::Later) => Err(error(LATER)),
         Some(Builtin::Primitive(prim)) => {
             let operand = argument(machine.alloc(), operands, 0);
-            if prim.takes_count() {
-                count_primitive(machine, prim, &operand)
-            } else {
-                set_primitive(machine, prim, operand)
-            }
+            primitive_value(machine, prim, operand)
         }
         Some(Builtin::Arbno) => {
             let operand = argument(machine.alloc(), operands, 0);
@@ -102,24 +98,59 @@ pub fn argument(alloc: Global, operands: &mut [Value], k: usize) -> Value
     }
 }
 
-/// A primitive with a count.
-fn count_primitive(machine: &mut Machine, prim: Prim, operand: &Value) -> Result<Value, Exit>
-    requires { IsTrue (takes_count prim) }
-    ensures { Does shown IsValueOf (count_primitive prim (number_of (shown machine.old.nodes operand.now))) machine.old machine.new result }
+/// What a function that makes a primitive gives of its argument. An expression makes a deferred one.
+fn primitive_value(machine: &mut Machine, prim: Prim, operand: Value) -> Result<Value, Exit>
+    ensures { Does shown IsValueOf (primitive_value prim (shown machine.old.nodes operand)) machine.old machine.new result }
 {
-    let count = number_of(operand)?;
-    let id = machine.prim(prim, Arg::Count(count))?;
+    if let Value::Expr(expression) = operand {
+        let id = machine.defer_prim(prim, expression)?;
+        return Ok(Value::Pat(id));
+    }
+    let id = primitive(machine, prim, operand)?;
     Ok(Value::Pat(id))
 }
 
+/// The answer to a deferred part that a match has reached: the pattern that the value stands for, or the primitive whose
+/// argument it is. It is error 1 where there is none.
+pub fn answer(machine: &mut Machine, prim: Option<Prim>, value: Value) -> Result<PatId, Exit>
+    requires { IsValueOf machine.old.nodes value }
+    ensures { Does tree_of IsPatternOf (answer prim (shown machine.old.nodes value)) machine.old machine.new result }
+{
+    match prim {
+        None => as_pattern(machine, value),
+        Some(prim) => primitive(machine, prim, value),
+    }
+}
+
+/// A primitive with its argument; error 1 where that has no number, or no text.
+fn primitive(machine: &mut Machine, prim: Prim, operand: Value) -> Result<PatId, Exit>
+    ensures { Does tree_of IsPatternOf (primitive prim (shown machine.old.nodes operand)) machine.old machine.new result }
+{
+    if prim.takes_count() {
+        count_primitive(machine, prim, &operand)
+    } else {
+        set_primitive(machine, prim, operand)
+    }
+}
+
+/// A primitive with a count.
+fn count_primitive(machine: &mut Machine, prim: Prim, operand: &Value) -> Result<PatId, Exit>
+    requires { IsTrue (takes_count prim) }
+    ensures { Does tree_of IsPatternOf (count_primitive prim (number_of (shown machine.old.nodes operand.now))) machine.old machine.new result }
+{
+    let count = number_of(operand)?;
+    let id = machine.prim(prim, Arg::Count(count))?;
+    Ok(id)
+}
+
 /// A primitive with a set of bytes.
-fn set_primitive(machine: &mut Machine, prim: Prim, operand: Value) -> Result<Value, Exit>
+fn set_primitive(machine: &mut Machine, prim: Prim, operand: Value) -> Result<PatId, Exit>
     requires { IsFalse (takes_count prim) }
-    ensures { Does shown IsValueOf (set_primitive prim (text_of (shown machine.old.nodes operand))) machine.old machine.new result }
+    ensures { Does tree_of IsPatternOf (set_primitive prim (text_of (shown machine.old.nodes operand))) machine.old machine.new result }
 {
     let set = text_of(machine.alloc(), operand)?;
     let id = machine.prim(prim, Arg::Set(&set))?;
-    Ok(Value::Pat(id))
+    Ok(id)
 }
 
 /// ARBNO(P).

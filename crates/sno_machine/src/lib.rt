@@ -19,7 +19,7 @@ mod unary_operators;
 
 pub use builtins::{Builtin, Plain, Relation, function_named};
 pub use convert::{as_pattern, null, number_of, text_of};
-pub use functions::{argument, called};
+pub use functions::{answer, argument, called};
 pub use items::{item, item_name};
 pub use keywords::{Keywords, is_settable};
 pub use lines::line_of;

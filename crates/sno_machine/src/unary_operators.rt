@@ -7,13 +7,14 @@ ghost use Rattle.sno_machine.specs.Variables.{named_by};
 ghost use Rattle.sno_machine.specs.State.{State, Does, Reads, IsReady, feed, itself, any};
 
 use crate::convert::{null, number_of, text_of};
-use crate::machine::{DATA_TYPE, Exit, LATER, Machine, NO_VARIABLE, error};
+use crate::machine::{DATA_TYPE, Exit, Machine, NO_VARIABLE, error};
 use crate::operators::computed;
 use sno_io::Source;
 use sno_text::UnaryOperator;
 use sno_value::{Name, Value, sub};
 
-/// A unary operator on its operand, which is a name behind `.` and `@`.
+/// A unary operator on its operand, which is a name behind `.` and `@`. `*` is none, since it leaves its operand as it is:
+/// evaluation gives the expression before it comes here.
 pub fn unary<R: Source>(
     machine: &mut Machine,
     reader: &mut R,
@@ -35,7 +36,7 @@ pub fn unary<R: Source>(
         UnaryOperator::Cursor => cursor_pattern(machine, &x),
         UnaryOperator::Query => Ok(null(machine.alloc())),
         UnaryOperator::Not => Err(Exit::Failure),
-        UnaryOperator::Defer => Err(error(LATER)),
+        UnaryOperator::Defer => Err(Exit::Failure),
     }
 }
 

@@ -3,22 +3,23 @@ use mir.Syntax.{w64}
 use mir.Val.{SFits}
 use Rattle.std.proofs.lemmas.Int.{to_z-of_z}
 use Rattle.std.proofs.lemmas.Result.{err_from_is_err_and}
-use Rattle.sno_machine.proofs.Conversions.{missing, value_made, value_refused}
+use Rattle.sno_machine.specs.State.{tree_of, IsPatternOf}
+use Rattle.sno_machine.proofs.Conversions.{missing_in}
 use Rattle.sno_machine.proofs.Arguments.{count_none, count_value}
 use Rattle.sno_machine.proofs.functions.count_primitive.Goals as goal
 
 pub returns-in_err-count : goal.returns-in_err-count
 returns-in_err-count c =
     let p = err_from_is_err_and c.from_residual.result c.from_residual.ensures.1 in
-    rw (p.1, p.2) (missing {X = ℤ} (λ n. n) _ _ c.args.machine.now _ (count_none _ _) (c.in_err-count.ensures c.args.machine.now.nodes))
+    rw (p.1, p.2) (missing_in {X = ℤ} (λ n. n) tree_of IsPatternOf _ _ c.args.machine.now _ (count_none _ _) (c.in_err-count.ensures c.args.machine.now.nodes))
 
 pub returns-in_err-id : goal.returns-in_err-id
 returns-in_err-id c =
     let p = err_from_is_err_and c.from_residual-in_err-id.result c.from_residual-in_err-id.ensures.1 in
     let fits : SFits w64 c.in_ok-count.count = search rules in
-    rw (p.1, p.2, c.in_ok-count.ensures c.args.machine.now.nodes, count_value) (value_refused _ _ _ _ (simp to_z-of_z at c.in_err-id.ensures))
+    rw (p.1, p.2, c.in_ok-count.ensures c.args.machine.now.nodes, count_value) (simp to_z-of_z at c.in_err-id.ensures)
 
 pub returns : goal.returns
 returns c =
     let fits : SFits w64 c.in_ok-count.count = search rules in
-    rw (c.in_ok-count.ensures c.args.machine.now.nodes, count_value) (value_made _ _ _ _ (simp to_z-of_z at c.in_ok-id.ensures))
+    rw (c.in_ok-count.ensures c.args.machine.now.nodes, count_value) (simp to_z-of_z at c.in_ok-id.ensures)

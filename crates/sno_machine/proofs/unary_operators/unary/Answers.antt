@@ -1,7 +1,7 @@
 use Rattle.std.proofs.lemmas.Result.{err_from_is_err_and}
 use Rattle.sno_machine.specs.Values.{shown, IsValueOf}
 use Rattle.sno_machine.specs.State.{itself, any}
-use Rattle.sno_machine.proofs.Outcomes.{then_err, fails_does, stops_does}
+use Rattle.sno_machine.proofs.Outcomes.{then_err, fails_does}
 use Rattle.sno_machine.proofs.Reading.{reads_nothing, ready_unread, then_reads}
 use Rattle.sno_machine.proofs.unary_operators.unary.Goals as goal
 
@@ -33,4 +33,4 @@ pub returns-in-Not : goal.returns-in-Not
 returns-in-Not g c = rw c.in-Not.is (reads_nothing shown IsValueOf _ _ _ _ _ c.requires.ready (fails_does shown IsValueOf c.args.machine.now))
 
 pub returns-in-Defer : goal.returns-in-Defer
-returns-in-Defer g c = rw (c.in-Defer.is, c.error.ensures) (reads_nothing shown IsValueOf _ _ _ _ _ c.requires.ready (stops_does shown IsValueOf c.args.machine.now 90))
+returns-in-Defer g c = rw c.in-Defer.is (reads_nothing shown IsValueOf _ _ _ _ _ c.requires.ready (fails_does shown IsValueOf c.args.machine.now))
