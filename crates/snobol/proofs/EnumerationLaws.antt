@@ -1,34 +1,46 @@
 -- The listing of a pattern, from what its evaluation did.
-use Rattle.std.proofs.Common.{◌≡◌, ℕ, ◌≤◌, ◌<◌, Bool, true, false, nat_lt, List, [], ◌∷◌, ◌++◌, length, codes, refl, ap, sym, ◌∙◌, subst, arith, Option, Some, None, Result, Ok, Err, if◌then◌else◌, inr}
+use Rattle.std.proofs.Common.{◌≡◌, ℕ, suc, ◌+◌, ◌*◌, ◌≤◌, ◌<◌, slice_get, Bool, true, false, nat_lt, List, [], ◌∷◌, ◌++◌, length, codes, refl, ap, sym, ◌∙◌, subst, arith, Option, Some, None, Result, Ok, Err, if◌then◌else◌, ◌⊎◌, inl, inr}
 use Rattle.std.proofs.lemmas.Bool.{le-ltb, lt-ltb}
 use Rattle.std.proofs.lemmas.List.{append-nil}
 use Rattle.std.specs.Io.KnownBytes.{Appends, Consumes}
 use Rattle.sno_io.specs.Devices.{Begins}
 use Rattle.sno_value.specs.declared.ids.ExprId.{ExprId}
 use Rattle.sno_value.specs.declared.ids.PatId.{PatId}
+use Rattle.sno_value.specs.declared.kind.PrimitiveKind.{PrimitiveKind}
 use Rattle.sno_pattern.specs.Pattern.{Pattern}
 use Rattle.sno_pattern.specs.Table.{Node, tree}
 use Rattle.sno_text.specs.Source.{Source, IsTable}
 use Rattle.sno_text.specs.Trees.{Tree, Stands}
 use Rattle.sno_text.specs.Refusals.{IsAccepted}
-use Rattle.sno_match.specs.Search.{trace}
+use Rattle.sno_match.specs.declared.event.Pending.{Pending}
+use Rattle.sno_match.specs.declared.event.Event.{Event as Told}
+use Rattle.sno_match.specs.declared.event.Event.TheVariants as V
+use Rattle.sno_match.specs.Events.{in_trace, is_last, is_value}
+use Rattle.sno_match.specs.Search.{Value, Answer, trace}
 use Rattle.sno_machine.specs.declared.machine.Exit.{Exit}
 use Rattle.sno_machine.specs.declared.machine.Exit.TheVariants.{Failure, Halt}
 use Rattle.sno_machine.specs.declared.machine.Stop.{Stop}
 use Rattle.sno_machine.specs.declared.machine.Stop.TheVariants.{Error as HasError, NoMemory, ReadFault, WriteFault}
 use Rattle.sno_machine.specs.World.{World, new_world, new_keywords}
-use Rattle.sno_machine.specs.Action.{End, Error, Ending, Got, Fails, Stops, Outcome, Action, settled, settles, stops, and_then}
+use Rattle.sno_machine.specs.Action.{End, Error, Ending, Got, Fails, Stops, Outcome, Action, gives, settled, settles, stops, and_then}
 use Rattle.snobol.specs.Forms.{value}
 use Rattle.sno_machine.specs.Operators.{as_pattern}
 use Rattle.snobol.specs.Evaluate.{expression}
-use Rattle.sno_machine.specs.State.{State, new_state, world, MeetsReading, Reads, Feed, tree_of, IsPatternOf}
-use Rattle.sno_machine.specs.Session.{listed_all}
+use Rattle.sno_machine.specs.State.{State, new_state, world, MeetsReading, Reads, Feed, tree_of, IsPatternOf, itself, any}
+use Rattle.sno_machine.specs.Session.{listed}
 use Rattle.sno_machine.specs.Variables.{writes}
-use Rattle.sno_machine.specs.Performs.{Ends, Performs}
 use Rattle.sno_machine.proofs.Performing.{appends_nothing}
 use Rattle.snobol.specs.declared.enumeration.WaysOutcome.{WaysOutcome}
 use Rattle.snobol.specs.Reading.{IsRead}
-use Rattle.snobol.specs.Listing.{lists_ways, lists, listing, Tells, IsListed, IsListing, outcome_of}
+use Rattle.snobol.specs.declared.enumeration.WaysOutcome.TheVariants as ways
+use Rattle.snobol.specs.Listing.{lists_event, lists_events, lists_ways, lists, listing, IsListed, IsListing}
+use Rattle.snobol.specs.Running.{Devices, CanRun, Runs, MeetsRunning}
+use Rattle.snobol.specs.Sessions.{after_one, answers, most_events}
+use Rattle.snobol.specs.Given.{given_of, IsGivenOf}
+use Rattle.snobol.specs.Told.{Tells, outcome_told}
+use Rattle.snobol.proofs.RunningLaws.{does_runs, then_runs, then_ended}
+use Rattle.snobol.proofs.SessionLaws.{IsTurn, left, left_next, left_first, left_over, answer_then, answer_ended}
+use Rattle.sno_machine.proofs.Outcomes.{grows_none, gives_does, no_memory_does}
 
 -- the pattern that is listed
 abbrev pub built : Source → ExprId → Action Pattern
@@ -65,48 +77,126 @@ did_meet see fits act anchored limit b f g r none did =
     (ap (λ (bytes : List ℕ). bytes ++ []) (nothing_given f g did.given none did.consumed)) (did.meets [] (λ told. refl))
 
 listing_is : (source : Source) (e : ExprId) (subject : List ℕ) (anchored : Bool) (limit : ℕ) → length subject ≤ 1_000_000
-    → listing source e subject anchored limit ≡ settles (built source e) (lists_ways subject anchored limit) (start anchored limit)
+    → listing source e subject anchored limit ≡ settles (built source e) (lists_ways source subject anchored limit) (start anchored limit)
 listing_is source e subject anchored limit short =
     let fits : nat_lt 1_000_000 (length subject) ≡ false = le-ltb _ _ short in
-    ap (λ (b : Bool). (if b then stops (Error 8) else settles (built source e) (lists_ways subject anchored limit)) (start anchored limit)) fits
+    ap (λ (b : Bool). (if b then stops (Error 8) else settles (built source e) (lists_ways source subject anchored limit)) (start anchored limit)) fits
+
+-- the session of a listing
+
+abbrev pub to_end : Source → Pattern → List ℕ → Bool → ℕ → List Answer → ℕ → Action Unit
+to_end source p subject anchored limit = left (lists_event subject) (answers source) (λ given. trace p subject anchored limit given) (gives tt) limit
+
+line_of_event : (source : Source) (subject : List ℕ) (given : List Answer) (event : Told) (way : List Pending) (next : List Answer → Action Unit) → is_value event ≡ false
+    → after_one (lists_event subject) (answers source) next given (in_trace event way) ≡ and_then (listed subject (in_trace event way)) (λ done. next given)
+line_of_event source subject given (V.Way start end) way next no_value = refl
+line_of_event source subject given (V.Assign target start end) way next no_value = refl
+line_of_event source subject given (V.Cursor target at) way next no_value = refl
+line_of_event source subject given (V.Value prim expr) way next no_value = absurd (cc no_value)
+line_of_event source subject given V.Exhausted way next no_value = refl
+line_of_event source subject given V.Aborted way next no_value = refl
+line_of_event source subject given V.Limit way next no_value = refl
+
+-- an event whose line is written and that takes effect, and what follows it
+pub event_then : (source : Source) (p : Pattern) (subject : List ℕ) (anchored : Bool) (limit told : ℕ) (given : List Answer) (event : Told) (way : List Pending) (n : ℕ) (a b c : State) (d e f : Devices) (r : Result Unit Exit) → is_value event ≡ false → told ≤ 2 * limit + 2
+    → slice_get (trace p subject anchored limit given) told ≡ Some (in_trace event way, n) → Runs {X = Unit} itself any (listed subject (in_trace event way)) a b d e (Ok tt) → Runs {X = Unit} itself any (to_end source p subject anchored limit given (suc told)) b c e f r
+    → Runs {X = Unit} itself any (to_end source p subject anchored limit given told) a c d f r
+event_then source p subject anchored limit told given event way n a b c d e f r no_value few at did rest =
+    subst (λ (act : Action Unit). Runs {X = Unit} itself any act a c d f r) (sym (left_next (lists_event subject) (answers source) (λ more. trace p subject anchored limit more) (gives tt) limit told given (in_trace event way, n) few at ∙ line_of_event source subject given event way (λ more. to_end source p subject anchored limit more (suc told)) no_value))
+    (then_runs {X = Unit} {Y = Unit} itself any itself any (listed subject (in_trace event way)) (λ done. to_end source p subject anchored limit given (suc told)) a b c d e f tt r did rest)
+
+pub event_ended : (source : Source) (p : Pattern) (subject : List ℕ) (anchored : Bool) (limit told : ℕ) (given : List Answer) (event : Told) (way : List Pending) (n : ℕ) (a b : State) (d e : Devices) (x : Exit) → is_value event ≡ false → told ≤ 2 * limit + 2
+    → slice_get (trace p subject anchored limit given) told ≡ Some (in_trace event way, n) → Runs {X = Unit} itself any (listed subject (in_trace event way)) a b d e (Err x)
+    → Runs {X = Unit} itself any (to_end source p subject anchored limit given told) a b d e (Err x)
+event_ended source p subject anchored limit told given event way n a b d e x no_value few at did =
+    subst (λ (act : Action Unit). Runs {X = Unit} itself any act a b d e (Err x)) (sym (left_next (lists_event subject) (answers source) (λ more. trace p subject anchored limit more) (gives tt) limit told given (in_trace event way, n) few at ∙ line_of_event source subject given event way (λ more. to_end source p subject anchored limit more (suc told)) no_value))
+    (then_ended {X = Unit} {Y = Unit} itself any itself any (listed subject (in_trace event way)) (λ done. to_end source p subject anchored limit given (suc told)) a b d e x did)
+
+-- a deferred part, and what follows its answer
+pub value_then : (source : Source) (p : Pattern) (subject : List ℕ) (anchored : Bool) (limit told : ℕ) (given : List Answer) (primitive : Option PrimitiveKind) (e n : ℕ) (a b c : State) (d f g : Devices) (x : Option PatId) (r : Result Unit Exit) → IsTurn p subject anchored limit given told (Value primitive e, n)
+    → Runs given_of IsGivenOf (answers source primitive e) a b d f (Ok x) → Runs {X = Unit} itself any (to_end source p subject anchored limit (given ++ given_of b.nodes x ∷ []) (suc told)) b c f g r → Runs {X = Unit} itself any (to_end source p subject anchored limit given told) a c d g r
+value_then source p subject anchored limit told given primitive e n a b c d f g x r turn did rest =
+    answer_then {Y = Unit} itself any (lists_event subject) (answers source) (λ more. trace p subject anchored limit more) (gives (tt {0})) limit told given primitive e n a b c d f g x r turn.0 turn.1 did rest
+
+pub value_ended : (source : Source) (p : Pattern) (subject : List ℕ) (anchored : Bool) (limit told : ℕ) (given : List Answer) (primitive : Option PrimitiveKind) (e n : ℕ) (a b : State) (d f : Devices) (x : Exit) → IsTurn p subject anchored limit given told (Value primitive e, n)
+    → Runs {X = Option PatId} given_of IsGivenOf (answers source primitive e) a b d f (Err x) → Runs {X = Unit} itself any (to_end source p subject anchored limit given told) a b d f (Err x)
+value_ended source p subject anchored limit told given primitive e n a b d f x turn did =
+    answer_ended {Y = Unit} itself any (lists_event subject) (answers source) (λ more. trace p subject anchored limit more) (gives (tt {0})) limit told given primitive e n a b d f x turn.0 turn.1 did
+
+-- want of memory
+pub unlisted : (act : Action Unit) (s : State) (d : Devices) → CanRun s d → Runs {X = Unit} itself any act s s d d (Err (Halt NoMemory))
+unlisted act s d can = does_runs {X = Unit} itself any act s s d (Err (Halt NoMemory)) can (no_memory_does {X = Unit} itself any act s s (grows_none s.nodes) refl)
+
+-- the last event has a line
+pub last_told : (event : Told) → (event ≡ V.Exhausted) ⊎ ((event ≡ V.Aborted) ⊎ (event ≡ V.Limit)) → (is_value event ≡ false) × (is_last event ≡ true)
+last_told event (inl e) = rw e (refl, refl)
+last_told event (inr (inl e)) = rw e (refl, refl)
+last_told event (inr (inr e)) = rw e (refl, refl)
+
+-- and so has any that isn't a deferred part
+pub line_told : (event : Told) → ((prim : Option PrimitiveKind) (expr : ExprId) → event ≡ V.Value prim expr → ⊥) → (event ≡ V.Exhausted → ⊥) → (event ≡ V.Aborted → ⊥) → (event ≡ V.Limit → ⊥) → (is_value event ≡ false) × (is_last event ≡ false)
+line_told (V.Way start end) value_not exhausted_not aborted_not limit_not = (refl, refl)
+line_told (V.Assign target start end) value_not exhausted_not aborted_not limit_not = (refl, refl)
+line_told (V.Cursor target at) value_not exhausted_not aborted_not limit_not = (refl, refl)
+line_told (V.Value prim expr) value_not exhausted_not aborted_not limit_not = absurd (value_not prim expr refl)
+line_told V.Exhausted value_not exhausted_not aborted_not limit_not = absurd (exhausted_not refl)
+line_told V.Aborted value_not exhausted_not aborted_not limit_not = absurd (aborted_not refl)
+line_told V.Limit value_not exhausted_not aborted_not limit_not = absurd (limit_not refl)
+
+-- behind the last event
+pub events_over : (source : Source) (p : Pattern) (subject : List ℕ) (anchored : Bool) (limit told : ℕ) (given : List Answer) (s : State) (d : Devices) → CanRun s d → length (trace p subject anchored limit given) ≤ told
+    → Runs {X = Unit} itself any (to_end source p subject anchored limit given told) s s d d (Ok tt)
+events_over source p subject anchored limit told given s d can all =
+    rw (left_over (lists_event subject) (answers source) (λ more. trace p subject anchored limit more) (gives (tt {0})) limit told given all)
+    (does_runs {X = Unit} itself any (gives tt) s s d (Ok tt) can (gives_does {X = Unit} itself any s tt tt refl tt))
 
 -- it is listed
-pub listed : (source : Source) (e : ExprId) (subject : List ℕ) (anchored : Bool) (limit : ℕ) (b : State) (f g : Feed) (id : PatId) → length subject ≤ 1_000_000 → Nothing f → Reads tree_of IsPatternOf (built source e) (begun anchored limit) b f g (Ok id)
-    → listing source e subject anchored limit ≡ listed_all subject (trace (tree b.nodes id.0) subject anchored limit []) (world b [])
+pub listed_of : (source : Source) (e : ExprId) (subject : List ℕ) (anchored : Bool) (limit : ℕ) (b : State) (f g : Feed) (id : PatId) → length subject ≤ 1_000_000 → Nothing f → Reads tree_of IsPatternOf (built source e) (begun anchored limit) b f g (Ok id)
+    → listing source e subject anchored limit ≡ lists_events source (tree b.nodes id.0) subject anchored limit (most_events limit) [] 0 (world b [])
 unfolding settles
-listed source e subject anchored limit b f g id short none did =
-    listing_is source e subject anchored limit short ∙ ap (λ (o : Outcome Pattern). settled o.ending o.world o.wrote (lists_ways subject anchored limit)) (did_meet tree_of IsPatternOf (built source e) anchored limit b f g _ none did)
+listed_of source e subject anchored limit b f g id short none did =
+    listing_is source e subject anchored limit short ∙ ap (λ (o : Outcome Pattern). settled o.ending o.world o.wrote (lists_ways source subject anchored limit)) (did_meet tree_of IsPatternOf (built source e) anchored limit b f g _ none did)
 
-tells_of : (o : Outcome Unit) (after : World) (wrote : List ℕ) (r : Result Unit Stop) → Ends o after wrote r → Tells o wrote r
-tells_of o after wrote (Ok done) h = (ap (λ (p : Outcome Unit). p.ending) h, ap (λ (p : Outcome Unit). p.wrote) h)
-tells_of o after wrote (Err (HasError code)) h = h
-tells_of o after wrote (Err NoMemory) h = h
-tells_of o after wrote (Err ReadFault) h = h
-tells_of o after wrote (Err WriteFault) h = h
+-- the whole session of a listing
+pub whole_listing : (source : Source) (p : Pattern) (subject : List ℕ) (anchored : Bool) (limit : ℕ) → to_end source p subject anchored limit [] 0 ≡ lists_events source p subject anchored limit (most_events limit) [] 0
+whole_listing source p subject anchored limit = left_first (lists_event subject) (answers source) (λ given. trace p subject anchored limit given) (gives (tt {0})) limit
 
 -- what was performed is told
-pub told : (act : Action Unit) (o : Outcome Unit) (a b : State) (x y : Option (List ℕ)) (r : Result Unit Stop) → o ≡ act (world a []) → Performs act a b x y r → (wrote : List ℕ) × Appends x y wrote × Tells o wrote r
-told act o a b x y r is did = (did.wrote, did.appends, rw is (tells_of (act (world a [])) (world b []) did.wrote r (did.ends [])))
+tells_of : (o : Outcome Unit) (after : World) (wrote : List ℕ) (r : Result Unit Exit) → MeetsRunning (λ done. done) o after wrote r → Tells o wrote r
+tells_of o after wrote (Ok done) h = (ap (λ (p : Outcome Unit). p.ending) h, ap (λ (p : Outcome Unit). p.wrote) h)
+tells_of o after wrote (Err Failure) h = (ap (λ (p : Outcome Unit). p.ending) h, ap (λ (p : Outcome Unit). p.wrote) h)
+tells_of o after wrote (Err (Halt (HasError code))) h = h
+tells_of o after wrote (Err (Halt NoMemory)) h = h
+tells_of o after wrote (Err (Halt ReadFault)) h = h
+tells_of o after wrote (Err (Halt WriteFault)) h = h
+
+pub told : (act : Action Unit) (o : Outcome Unit) (a b : State) (d e : Devices) (r : Result Unit Exit) → o ≡ act (world a []) → Nothing d.reader → Runs {X = Unit} itself any act a b d e r → (wrote : List ℕ) × Appends d.taken e.taken wrote × Tells o wrote r
+told act o a b d e r is none did = (
+  did.wrote,
+  did.appends,
+  rw is (subst (λ (bytes : List ℕ). Tells (act (world a bytes)) did.wrote r) (ap (λ (bytes : List ℕ). bytes ++ []) (nothing_given d.reader e.reader did.given none did.consumed))
+      (tells_of (act (world a (did.given ++ []))) (world b []) did.wrote r (did.meets [] (λ end. refl)))),
+)
 
 -- it failed while it was built
 pub listed_failure : (source : Source) (e : ExprId) (subject : List ℕ) (anchored : Bool) (limit : ℕ) (b : State) (f g : Feed) → length subject ≤ 1_000_000 → Nothing f → Reads {X = PatId} tree_of IsPatternOf (built source e) (begun anchored limit) b f g (Err Failure)
     → listing source e subject anchored limit ≡ record { ending = Got tt; world = world b []; wrote = codes "exhausted\n" }
 unfolding settles
 listed_failure source e subject anchored limit b f g short none did =
-    listing_is source e subject anchored limit short ∙ ap (λ (o : Outcome Pattern). settled o.ending o.world o.wrote (lists_ways subject anchored limit)) (did_meet tree_of IsPatternOf (built source e) anchored limit b f g _ none did)
+    listing_is source e subject anchored limit short ∙ ap (λ (o : Outcome Pattern). settled o.ending o.world o.wrote (lists_ways source subject anchored limit)) (did_meet tree_of IsPatternOf (built source e) anchored limit b f g _ none did)
 
-settled_stop : (subject : List ℕ) (anchored : Bool) (limit code : ℕ) (end : Ending Pattern) (w : World) (wrote : List ℕ) → end ≡ Stops (Error code) → wrote ≡ []
-    → ((settled end w wrote (lists_ways subject anchored limit)).ending ≡ Stops (Error code)) × ((settled end w wrote (lists_ways subject anchored limit)).wrote ≡ [])
-settled_stop subject anchored limit code end w wrote e n = rw (e, n) (refl, refl)
+settled_stop : (source : Source) (subject : List ℕ) (anchored : Bool) (limit code : ℕ) (end : Ending Pattern) (w : World) (wrote : List ℕ) → end ≡ Stops (Error code) → wrote ≡ []
+    → ((settled end w wrote (lists_ways source subject anchored limit)).ending ≡ Stops (Error code)) × ((settled end w wrote (lists_ways source subject anchored limit)).wrote ≡ [])
+settled_stop source subject anchored limit code end w wrote e n = rw (e, n) (refl, refl)
 
 -- it ended the listing, which has written nothing
 pub listed_stop : (source : Source) (e : ExprId) (subject : List ℕ) (anchored : Bool) (limit : ℕ) (b : State) (f g : Feed) (why : Stop) → length subject ≤ 1_000_000 → Nothing f → g.broken ≡ false → Reads {X = PatId} tree_of IsPatternOf (built source e) (begun anchored limit) b f g (Err (Halt why))
-    → Tells (listing source e subject anchored limit) [] (Err why)
+    → Tells (listing source e subject anchored limit) [] (Err (Halt why))
 unfolding settles
 listed_stop source e subject anchored limit b f g (HasError code) short none sound did =
     let o = built source e (start anchored limit) in
     let met = did_meet {X = PatId} tree_of IsPatternOf (built source e) anchored limit b f g (Err (Halt (HasError code))) none did in
-    rw (listing_is source e subject anchored limit short) (settled_stop subject anchored limit code o.ending o.world o.wrote met.0 met.1)
+    rw (listing_is source e subject anchored limit short) (settled_stop source subject anchored limit code o.ending o.world o.wrote met.0 met.1)
 listed_stop source e subject anchored limit b f g NoMemory short none sound did = ((listing source e subject anchored limit).wrote, refl)
 listed_stop source e subject anchored limit b f g ReadFault short none sound did = absurd (cc (sym did.cause ∙ sound))
 listed_stop source e subject anchored limit b f g WriteFault short none sound did = absurd (did_meet {X = PatId} tree_of IsPatternOf (built source e) anchored limit b f g (Err (Halt WriteFault)) none did)
@@ -119,20 +209,23 @@ stop_unwritten act anchored limit b f g ReadFault none did e = cc e
 stop_unwritten act anchored limit b f g WriteFault none did e = did_meet {X = PatId} tree_of IsPatternOf act anchored limit b f g (Err (Halt WriteFault)) none did
 
 -- a beginning of the line of a pattern that has no way
-pub told_in_part : (o : Outcome Unit) (lines part : List ℕ) → o.wrote ≡ lines → Begins part lines → Tells o part (Err WriteFault)
+pub told_in_part : (o : Outcome Unit) (lines part : List ℕ) → o.wrote ≡ lines → Begins part lines → Tells o part (Err (Halt WriteFault))
 told_in_part o lines part e b = rw e b
 
 -- what was told of a pattern that is read is its listing
-pub is_listing : (pattern subject : List ℕ) (anchored : Bool) (limit : ℕ) (source : Source) (e : ExprId) (outcome : WaysOutcome) (end : Result Unit Stop) (wrote : List ℕ)
-    → IsRead pattern source e → outcome ≡ outcome_of end → Tells (listing source e subject anchored limit) wrote end → IsListing pattern subject anchored limit outcome wrote
+pub is_listing : (pattern subject : List ℕ) (anchored : Bool) (limit : ℕ) (source : Source) (e : ExprId) (outcome : WaysOutcome) (end : Result Unit Exit) (wrote : List ℕ)
+    → IsRead pattern source e → outcome ≡ outcome_told end → Tells (listing source e subject anchored limit) wrote end → IsListing pattern subject anchored limit outcome wrote
 is_listing pattern subject anchored limit source e outcome (Ok done) wrote read is told =
-    rw is (record { source = source; number = e; read = read; ends = told.0; written = told.1 })
-is_listing pattern subject anchored limit source e outcome (Err (HasError code)) wrote read is told =
-    rw is (record { source = source; number = e; read = read; ends = told.0; written = told.1 })
-is_listing pattern subject anchored limit source e outcome (Err NoMemory) wrote read is told =
+    rw is (record { source = source; number = e; read = read; ends = rw told.0 refl; written = told.1 })
+is_listing pattern subject anchored limit source e outcome (Err Failure) wrote read is told =
+    rw is (record { source = source; number = e; read = read; ends = rw told.0 refl; written = told.1 })
+is_listing pattern subject anchored limit source e outcome (Err (Halt (HasError code))) wrote read is told =
+    rw is (record { source = source; number = e; read = read; ends = rw told.0 refl; written = told.1 })
+is_listing pattern subject anchored limit source e outcome (Err (Halt NoMemory)) wrote read is told =
     rw is (inr (record { source = source; number = e; read = read; begins = told }))
-is_listing pattern subject anchored limit source e outcome (Err ReadFault) wrote read is told = absurd told
-is_listing pattern subject anchored limit source e outcome (Err WriteFault) wrote read is told =
+is_listing pattern subject anchored limit source e outcome (Err (Halt ReadFault)) wrote read is told =
+    rw is (inr (record { source = source; number = e; read = read; begins = told }))
+is_listing pattern subject anchored limit source e outcome (Err (Halt WriteFault)) wrote read is told =
     rw is (record { source = source; number = e; read = read; begins = told })
 
 -- an expression that the reader accepts is read
@@ -141,7 +234,7 @@ is_read text source e accepted same number table =
     record { tree = accepted.0; accepted = accepted.1; stands = accepted.2; source_text = same; number = number; table = table }
 
 -- a subject that is too long
-pub too_long : (pattern subject : List ℕ) (anchored : Bool) (limit : ℕ) (source : Source) (e : ExprId) → IsRead pattern source e → 1_000_000 < length subject → IsListed pattern subject anchored limit (Stops (Error 8)) []
+pub too_long : (pattern subject : List ℕ) (anchored : Bool) (limit : ℕ) (source : Source) (e : ExprId) → IsRead pattern source e → 1_000_000 < length subject → IsListed pattern subject anchored limit (ways.Error 8) []
 too_long pattern subject anchored limit source e read h =
     let long : nat_lt 1_000_000 (length subject) ≡ true = lt-ltb 1_000_000 (length subject) h in
     record { source = source; number = e; read = read; ends = rw long refl; written = rw long refl }

@@ -12,5 +12,7 @@ pub mod StatementLaws
 pub mod GotoLaws
 pub mod RunLaws
 pub mod TargetLaws
+pub mod AnswerLaws
+pub mod SessionLaws
 pub mod MatchLaws
 pub mod AskingLaws

@@ -2,6 +2,8 @@ pub mod Forms
 pub mod Evaluate
 pub mod Pile
 pub mod Reading
+pub mod Sessions
+pub mod Given
 pub mod Matches
 pub mod Begun
 pub mod Statements
@@ -10,4 +12,5 @@ pub mod Running
 pub mod Targets
 pub mod Asking
 pub mod Listing
+pub mod Told
 pub mod Jobs

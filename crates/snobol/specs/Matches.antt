@@ -1,13 +1,15 @@
 -- A match up to its first way.
-use Rattle.std.specs.Prelude.{ℕ, List, [], ◌∷◌}
+use Rattle.std.specs.Prelude.{ℕ, Bool, List, [], ◌∷◌}
 use Rattle.sno_match.specs.declared.event.Pending.{Pending}
 use Rattle.sno_pattern.specs.Pattern.{Pattern}
-use Rattle.sno_match.specs.Search.{Event, Way, Assign, Cursor, Value, Ended, Exhausted, Aborted, Limit, Waiting, trace}
+use Rattle.sno_match.specs.Search.{Event, Answer, Way, Assign, Cursor, Value, Ended, Exhausted, Aborted, Limit, Waiting, trace}
 use Rattle.sno_machine.specs.Values.{Str}
 use Rattle.sno_machine.specs.Action.{Error, Action, gives, fails, stops, and_then}
 use Rattle.sno_machine.specs.Variables.{assigns}
 use Rattle.sno_machine.specs.Keywords.{is_anchored}
 use Rattle.sno_machine.specs.Session.{part_of, effect}
+use Rattle.sno_text.specs.Source.{Source}
+use Rattle.snobol.specs.Sessions.{answers, session, most_events}
 
 -- the assignments that waited for the end of the match, in their order
 abbrev pub performs_pending : List ℕ → List Pending → Action Unit
@@ -24,11 +26,10 @@ after_event subject (Ended Aborted) next = fails
 after_event subject (Ended Waiting) next = fails
 after_event subject event next = and_then (effect subject event) (λ done. next)
 
--- the events in their order, up to the first way
-abbrev pub first_way : List ℕ → List (Event × ℕ) → Action (ℕ × ℕ)
-first_way subject [] = fails
-first_way subject (told ∷ events) = after_event subject told.0 (first_way subject events)
+-- the events of a match, up to the first way
+abbrev pub first_way : Source → Pattern → List ℕ → Bool → ℕ → ℕ → List Answer → ℕ → Action (ℕ × ℕ)
+first_way source p subject anchored limit = session (after_event subject) (answers source) (λ given. trace p subject anchored limit given) fails
 
 -- a pattern is matched against a subject, and gives where it begins and ends
-abbrev pub matches : Pattern → List ℕ → Action (ℕ × ℕ)
-matches p subject w = first_way subject (trace p subject (is_anchored w.keywords.anchor) w.keywords.steps []) w
+abbrev pub matches : Source → Pattern → List ℕ → Action (ℕ × ℕ)
+matches source p subject w = first_way source p subject (is_anchored w.keywords.anchor) w.keywords.steps (most_events w.keywords.steps) [] 0 w

@@ -1,6 +1,7 @@
 //! The evaluator of SNOBOL4 expressions, and the listing of the ways in which a pattern matches.
 #![tactic(auto)]
 
+mod answers;
 mod apply;
 mod enumeration;
 mod evaluate;

@@ -1,49 +1,57 @@
 //! The listing of the events of a match.
-ghost use Rattle.std.specs.Prelude.{◌≡◌, ◌<◌, ◌≤◌, ◌||◌, [], false, true, length, OnOk};
+ghost use Rattle.std.specs.Prelude.{◌≡◌, ◌<◌, ◌≤◌, [], false, true, length, OnOk};
 ghost use Rattle.sno_pattern.specs.Table.{tree};
-ghost use Rattle.sno_match.specs.Search.{trace};
-ghost use Rattle.sno_match.specs.Events.{in_trace, is_last, is_value};
+ghost use Rattle.sno_match.specs.Events.{in_trace};
 ghost use Rattle.sno_match.specs.Within.{IsWithin};
-ghost use Rattle.sno_machine.specs.Session.{listed, listed_all};
+ghost use Rattle.sno_machine.specs.Session.{listed};
 ghost use Rattle.sno_machine.specs.Performs.{Performs};
+ghost use Rattle.sno_machine.specs.State.{itself, any};
+ghost use Rattle.snobol.specs.Forms.{IsOrdered};
+ghost use Rattle.snobol.specs.Listing.{lists_events};
+ghost use Rattle.snobol.specs.Running.{Runs, CanRun, devices};
+ghost use Rattle.snobol.specs.Sessions.{most_events};
 
-use sno_io::{Sink, put};
-use sno_machine::{Machine, Stop, line_of, take_effect};
+use crate::answers::answer_to;
+use sno_io::{Sink, Source, put};
+use sno_machine::{Exit, Machine, Stop, line_of, take_effect};
 use sno_match::{Event, Matcher, Pending};
+use sno_text::Program;
 use sno_value::PatId;
 
-/// Whether nothing more is told behind an event.
-fn is_over(event: Event) -> bool
-    ensures { result ≡ (is_last event || is_value event) }
-{
-    matches!(
-        event,
-        Event::Exhausted | Event::Aborted | Event::Limit | Event::Value { .. }
-    )
-}
-
-/// Lists the events of a match, up to the last: each event's line is written, and then it takes effect.
-pub(crate) fn list_ways<W: Sink>(
+/// Lists the events of a match, up to the last: each event's line is written, and then it takes effect. A deferred part
+/// is evaluated, and has no line.
+pub(crate) fn list_ways<R: Source, W: Sink>(
     machine: &mut Machine,
+    program: &Program,
+    reader: &mut R,
     pattern: PatId,
     subject: &[u8],
     anchored: bool,
     limit: u32,
     writer: &mut W,
-) -> Result<(), Stop>
+) -> Result<(), Exit>
+    requires ordered { IsOrdered program.now }
     requires pattern { pattern.0 < length machine.old.nodes }
     requires subject { length subject.now ≤ 1_000_000 }
-    requires sound { W.broken writer.old ≡ false }
-    ensures does { Performs (listed_all subject.now (trace (tree machine.old.nodes pattern.0) subject.now anchored limit [])) machine.old machine.new (W.taken writer.old) (W.taken writer.new) result }
-    ensures fault { result ≡ Err Stop.WriteFault → W.broken writer.new ≡ true }
+    requires ready { CanRun machine.old (devices (R.left reader.old) (R.at_end reader.old) (R.broken reader.old) (W.taken writer.old) (W.broken writer.old)) }
+    ensures { Runs itself any (lists_events program.now (tree machine.old.nodes pattern.0) subject.now anchored limit (most_events limit) [] 0) machine.old machine.new
+        (devices (R.left reader.old) (R.at_end reader.old) (R.broken reader.old) (W.taken writer.old) (W.broken writer.old))
+        (devices (R.left reader.new) (R.at_end reader.new) (R.broken reader.new) (W.taken writer.new) (W.broken writer.new)) result }
 {
     let alloc = machine.alloc();
     let mut matcher = Matcher::new(alloc, machine.patterns(), pattern, subject, anchored, limit)?;
     'events: loop {
         let event = matcher.next(machine.patterns())?;
-        list_event(machine, subject, event, matcher.pending(), writer)?;
-        if is_over(event) {
-            return Ok(());
+        match event {
+            Event::Value { prim, expr } => {
+                let given = answer_to(machine, program, reader, prim, expr)?;
+                matcher.answer(machine.patterns(), given)?;
+            }
+            Event::Exhausted | Event::Aborted | Event::Limit => {
+                list_event(machine, subject, event, matcher.pending(), writer)?;
+                return Ok(());
+            }
+            _ => list_event(machine, subject, event, matcher.pending(), writer)?,
         }
     }
 }

@@ -3,6 +3,7 @@ mod asking;
 mod assignments;
 mod choices;
 mod containers;
+mod deferred;
 mod errors;
 mod faults;
 mod forms;

@@ -39,12 +39,8 @@ fn errors_of_patterns(rt: HostRuntime) -> Result<(), Fail> {
     check_rows::<Ways, _>(&rt, ERRORS_OF_PATTERNS)
 }
 
-/// Unevaluated expressions, and DEFINE, whose arguments aren't evaluated.
+/// DEFINE, whose arguments aren't evaluated.
 const FORMS_THAT_ARE_STILL_TO_COME: &str = r"
-*X => status 1: snobol4: error 90\n
-~*X => status 1: snobol4: error 90\n
-?*(1 / 0) => status 1: snobol4: error 90\n
-LEN(*X) => status 1: snobol4: error 90\n
 DEFINE('F()') => status 1: snobol4: error 90\n
 DEFINE(1 / 0) => status 1: snobol4: error 90\n
 ";

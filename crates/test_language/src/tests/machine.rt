@@ -98,11 +98,11 @@ const OPERATORS: &str = r"
 & A null => Array(ObjId(0)), 7 patterns
 & 1 T => error 1, 7 patterns
 | 1 T => error 1, 7 patterns
-| *X 1 => error 90, 7 patterns
+| *X 1 => Pat(PatId(9)), 10 patterns
 . A OUTPUT => error 1, 7 patterns
 $ BAL OUTPUT => error 1, 7 patterns
 . 1 1 => error 1, 7 patterns
-. *X OUTPUT => error 90, 7 patterns
+. *X OUTPUT => Pat(PatId(8)), 9 patterns
 ";
 
 #[test]

@@ -1,60 +1,111 @@
-use Rattle.std.proofs.Common.{◌≡◌, ◌∙◌, suc, sym, ap, arith, length, refl}
+use Rattle.std.proofs.Common.{◌≡◌, ◌∙◌, suc, sym, ap, arith, length, refl, ◌++◌, ◌∷◌, [], ◌≤◌, List, Ok, Err}
 use Rattle.std.proofs.lemmas.Result.{err_from_is_err_and}
-use Rattle.sno_match.specs.Events.{is_last, is_value}
-use Rattle.sno_match.specs.Session.{trace_of}
-use Rattle.snobol.proofs.ListingLaws.{told_next, neither}
-use Rattle.sno_machine.proofs.Performing.{no_memory, listed_next, listed_stop, listed_none}
+use Rattle.sno_pattern.specs.Table.{tree}
+use Rattle.sno_match.specs.Search.{Answer, trace}
+use Rattle.sno_match.specs.Session.{Session}
+use Rattle.snobol.specs.Given.{given_of, IsGivenOf}
+use Rattle.snobol.proofs.RunningLaws.{performs_runs, reads_runs}
+use Rattle.snobol.proofs.EnumerationLaws.{whole_listing, value_then, value_ended, unlisted, last_told, line_told, events_over, event_then, event_ended}
+use Rattle.snobol.proofs.SessionLaws.{turn_of, trace_followed, given_to, follows_on, follows_answer, given_same, given_answer}
 use Rattle.snobol.proofs.listing.list_ways.Goals as goal
 
-pub returns-in_err-matcher-clause-does : goal.returns-in_err-matcher-clause-does
-returns-in_err-matcher-clause-does g c =
+pub returns-in_err-matcher : goal.returns-in_err-matcher
+returns-in_err-matcher g c =
     let p = err_from_is_err_and c.from_residual.result c.from_residual.ensures.1 in
-    rw p.1 (rw p.2 (no_memory _ _ _ _ refl))
+    rw (p.1, p.2) (unlisted _ _ _ c.requires.ready)
 
-pub returns-in_err-event-clause-does : goal.returns-in_err-event-clause-does
-returns-in_err-event-clause-does g c =
+pub returns-in_err-event : goal.returns-in_err-event
+returns-in_err-event g c =
     let p = err_from_is_err_and c.from_residual-in_err-event.result c.from_residual-in_err-event.ensures.1 in
     let i = c.events.invariant in
-    rw (p.1, p.2, ← i.trace) (i.leads _ _ _ (no_memory _ _ _ _ refl))
+    rw (p.1, p.2, ← whole_listing c.args.program.now _ c.args.subject.now c.args.anchored c.args.limit) (i.leads _ _ _ (unlisted _ _ _ i.can))
 
-pub returns-in_err-list_event-clause-does : goal.returns-in_err-list_event-clause-does
-returns-in_err-list_event-clause-does g c =
-    let p = err_from_is_err_and c.from_residual-in_err-list_event.result c.from_residual-in_err-list_event.ensures.1 in
+pub returns-in_err-given-in-Value : goal.returns-in_err-given-in-Value
+returns-in_err-given-in-Value g c =
+    let p = err_from_is_err_and c.from_residual-in_err-given-in-Value.result c.from_residual-in_err-given-in-Value.ensures.1 in
     let i = c.events.invariant in
-    let at = told_next c.events.matcher c.next.new.self c.in_ok-event.event c.in_ok-event.ensures.same c.in_ok-event.ensures.ok i.ended in
-    let did = rw c.pending.ensures.value at c.in_err-list_event.ensures.does in
-    rw (p.1, p.2, ← i.trace) (i.leads _ _ _ (listed_stop _ (trace_of c.events.matcher) c.events.matcher.told _ _ _ _ _ _ at did))
+    let turn = rw c.in-Value.is at (turn_of c.events.matcher c.next.new.self _ _ _ _ _ c.in_ok-event.event i.follows c.in_ok-event.ensures.same c.in_ok-event.ensures.ok c.in_ok-event.ensures.counts) in
+    let runs = reads_runs given_of IsGivenOf _ _ _ _ _ (g.W.Sink.taken c.events.writer) (g.W.Sink.broken c.events.writer) _ i.can.writes c.in_err-given-in-Value.ensures in
+    rw (p.1, p.2, ← whole_listing c.args.program.now _ c.args.subject.now c.args.anchored c.args.limit) (i.leads _ _ _ (value_ended _ _ _ _ _ _ _ c.in-Value.prim c.in-Value.expr.0 _ _ _ _ _ _ turn runs))
 
-pub returns-then-is_over-clause-does : goal.returns-then-is_over-clause-does
-returns-then-is_over-clause-does g c =
+pub returns-in_err-answer-in-Value : goal.returns-in_err-answer-in-Value
+returns-in_err-answer-in-Value g c =
+    let p = err_from_is_err_and c.from_residual-in_err-answer-in-Value.result c.from_residual-in_err-answer-in-Value.ensures.1 in
     let i = c.events.invariant in
+    let turn = rw c.in-Value.is at (turn_of c.events.matcher c.next.new.self _ _ _ _ _ c.in_ok-event.event i.follows c.in_ok-event.ensures.same c.in_ok-event.ensures.ok c.in_ok-event.ensures.counts) in
+    let runs = reads_runs given_of IsGivenOf _ _ _ _ _ (g.W.Sink.taken c.events.writer) (g.W.Sink.broken c.events.writer) _ i.can.writes c.in_ok-given-in-Value.ensures in
+    rw (p.1, p.2, ← whole_listing c.args.program.now _ c.args.subject.now c.args.anchored c.args.limit) (i.leads _ _ _ (value_then _ _ _ _ _ _ _ c.in-Value.prim c.in-Value.expr.0 _ _ _ _ _ _ _ c.in_ok-given-in-Value.given _ turn runs (unlisted _ _ _ runs.ready)))
+
+pub events-preserved-in-Continue-branch-4 : goal.events-preserved-in-Continue-branch-4
+events-preserved-in-Continue-branch-4 g c =
+    let i = c.events.invariant in
+    let turn = rw c.in-Value.is at (turn_of c.events.matcher c.next.new.self _ _ _ _ _ c.in_ok-event.event i.follows c.in_ok-event.ensures.same c.in_ok-event.ensures.ok c.in_ok-event.ensures.counts) in
+    let runs = reads_runs given_of IsGivenOf _ _ _ _ _ (g.W.Sink.taken c.events.writer) (g.W.Sink.broken c.events.writer) _ i.can.writes c.in_ok-given-in-Value.ensures in
+    let x = c.in_ok-given-in-Value.given in
     let told = c.in_ok-event.ensures.ok in
-    let at = told_next c.events.matcher c.next.new.self c.in_ok-event.event c.in_ok-event.ensures.same told i.ended in
-    let did = rw c.pending.ensures.value at c.in_ok-list_event.ensures.does in
-    let grows = told.grows i.ended in
-    let over = told.stops (sym c.is_over.ensures ∙ c.if-is_over.true) in
-    let same = ap length c.in_ok-event.ensures.same.trace in
-    let all : length (trace_of c.events.matcher) ≡ suc c.events.matcher.told = omega arith in
-    rw (← i.trace) (i.leads _ _ _ (listed_next _ (trace_of c.events.matcher) c.events.matcher.told _ _ _ _ _ _ _ _ at did (listed_none _ (trace_of c.events.matcher) _ _ _ all)))
+    let grows = told.grows i.follows.ended in
+    let table = c.in_ok-event.ensures.table ∙ c.patterns-in-events.ensures in
+    let on = follows_on c.events.matcher c.next.new.self _ _ _ _ _ c.in_ok-event.event i.follows table c.in_ok-event.ensures.same told (rw c.in-Value.is refl) in
+    let is = rw c.patterns-in-Value.ensures at c.in_ok-answer-in-Value.ensures.ok in
+    let given = given_answer c.next.new.self c.answer.new.self _ _ _ _ _ _ x on runs.grows is ∙ ap (λ (before : List Answer). before ++ given_of c.answer_to.new.machine.nodes x ∷ []) (given_same c.events.matcher c.next.new.self _ i.follows.nodes table c.in_ok-event.ensures.same) in
+    let same = ap (λ (m : Session). m.told) is in
+    let next : c.answer.new.self.told ≡ suc c.events.matcher.told = omega arith in
+    record {
+      follows = follows_answer c.next.new.self c.answer.new.self _ _ _ _ _ _ x on runs.grows runs.answer is;
+      waits = ap (λ (m : Session). m.waits) is;
+      can = runs.ready;
+      leads = λ e z r h. i.leads e z r (value_then _ _ _ _ _ _ _ c.in-Value.prim c.in-Value.expr.0 _ _ _ _ _ _ _ x r turn runs (rw (given, next) at h));
+    }
+
+pub returns-in_err-list_event-in-Exhausted : goal.returns-in_err-list_event-in-Exhausted
+returns-in_err-list_event-in-Exhausted g c =
+    let p = err_from_is_err_and c.from_residual-in_err-list_event-in-Exhausted.result c.from_residual-in_err-list_event-in-Exhausted.ensures.1 in
+    let i = c.events.invariant in
+    let turn = turn_of c.events.matcher c.next.new.self _ _ _ _ _ c.in_ok-event.event i.follows c.in_ok-event.ensures.same c.in_ok-event.ensures.ok c.in_ok-event.ensures.counts in
+    let last = last_told c.in_ok-event.event c.in-Exhausted.is in
+    let did = c.in_err-list_event-in-Exhausted.ensures in
+    let runs = performs_runs _ _ _ _ _ _ (g.W.Sink.broken c.events.writer) _ (Err c.in_err-list_event-in-Exhausted.field-0.0) i.can.reads did.nodes tt did.fault (rw c.pending.ensures.value at did.does) in
+    rw (p.1, p.2, ← whole_listing c.args.program.now _ c.args.subject.now c.args.anchored c.args.limit) (i.leads _ _ _ (event_ended _ _ _ _ _ _ _ c.in_ok-event.event c.next.new.self.way _ _ _ _ _ _ last.0 turn.0 turn.1 runs))
+
+pub returns-in-Exhausted : goal.returns-in-Exhausted
+returns-in-Exhausted g c =
+    let i = c.events.invariant in
+    let turn = turn_of c.events.matcher c.next.new.self _ _ _ _ _ c.in_ok-event.event i.follows c.in_ok-event.ensures.same c.in_ok-event.ensures.ok c.in_ok-event.ensures.counts in
+    let last = last_told c.in_ok-event.event c.in-Exhausted.is in
+    let did = c.in_ok-list_event-in-Exhausted.ensures in
+    let runs = performs_runs _ _ _ _ _ _ (g.W.Sink.broken c.events.writer) _ (Ok tt) i.can.reads did.nodes did.sound (λ e. absurd (cc e)) (rw c.pending.ensures.value at did.does) in
+    let told = c.in_ok-event.ensures.ok in
+    let grows = told.grows i.follows.ended in
+    let over = told.stops (rw last.1 refl) in
+    let same = ap length (c.in_ok-event.ensures.same.trace ∙ trace_followed c.events.matcher _ _ _ _ _ i.follows) in
+    let all : length (trace (tree c.args.machine.now.nodes c.args.pattern.0) c.args.subject.now c.args.anchored c.args.limit (given_to c.events.matcher)) ≤ suc c.events.matcher.told = omega arith in
+    rw (← whole_listing c.args.program.now _ c.args.subject.now c.args.anchored c.args.limit) (i.leads _ _ _ (event_then _ _ _ _ _ _ _ c.in_ok-event.event c.next.new.self.way _ _ _ _ _ _ _ _ last.0 turn.0 turn.1 runs (events_over c.args.program.now (tree c.args.machine.now.nodes c.args.pattern.0) c.args.subject.now c.args.anchored c.args.limit _ (given_to c.events.matcher) _ _ runs.ready all)))
 
 pub events-preserved : goal.events-preserved
 events-preserved g c =
     let i = c.events.invariant in
+    let turn = turn_of c.events.matcher c.next.new.self _ _ _ _ _ c.in_ok-event.event i.follows c.in_ok-event.ensures.same c.in_ok-event.ensures.ok c.in_ok-event.ensures.counts in
+    let on = line_told c.in_ok-event.event c.in_default.not-Value c.in_default.not-Exhausted c.in_default.not-Aborted c.in_default.not-Limit in
+    let did = c.in_ok-list_event-in_default.ensures in
+    let runs = performs_runs _ _ _ _ _ _ (g.W.Sink.broken c.events.writer) _ (Ok tt) i.can.reads did.nodes did.sound (λ e. absurd (cc e)) (rw c.pending-in_default.ensures.value at did.does) in
     let told = c.in_ok-event.ensures.ok in
-    let same = c.in_ok-event.ensures.same in
-    let at = told_next c.events.matcher c.next.new.self c.in_ok-event.event same told i.ended in
-    let did = rw c.pending.ensures.value at c.in_ok-list_event.ensures.does in
-    let grows = told.grows i.ended in
+    let grows = told.grows i.follows.ended in
+    let table = c.in_ok-event.ensures.table ∙ c.patterns-in-events.ensures in
     let next : c.next.new.self.told ≡ suc c.events.matcher.told = omega arith in
-    let on = neither (is_last c.in_ok-event.event) (is_value c.in_ok-event.event) (sym c.is_over.ensures ∙ c.if-is_over.false) in
+    let given = given_same c.events.matcher c.next.new.self _ i.follows.nodes table c.in_ok-event.ensures.same in
     record {
-      nodes = c.in_ok-event.ensures.table ∙ (c.patterns-in-events.ensures ∙ sym c.in_ok-list_event.ensures.nodes);
-      table = c.in_ok-list_event.ensures.nodes ∙ i.table;
-      subject = same.subject ∙ i.subject;
-      trace = same.trace ∙ i.trace;
-      waits = told.waits ∙ on.1;
-      ended = told.ended ∙ on.0;
-      told = c.in_ok-event.ensures.counts.told;
-      leads = λ e z r h. rw same.trace (i.leads e z r (listed_next _ (trace_of c.events.matcher) c.events.matcher.told _ _ _ _ _ _ _ _ at did (rw (same.trace, next) at h)));
-      sound = c.in_ok-list_event.ensures.sound;
+      follows = rw did.nodes (follows_on c.events.matcher c.next.new.self _ _ _ _ _ c.in_ok-event.event i.follows table c.in_ok-event.ensures.same told on.1);
+      waits = told.waits ∙ on.0;
+      can = runs.ready;
+      leads = λ e z r h. i.leads e z r (event_then _ _ _ _ _ _ _ c.in_ok-event.event c.next.new.self.way _ _ _ _ _ _ _ r on.0 turn.0 turn.1 runs (rw (given, next) at h));
     }
+
+pub returns-in_err-list_event-in_default : goal.returns-in_err-list_event-in_default
+returns-in_err-list_event-in_default g c =
+    let p = err_from_is_err_and c.from_residual-in_err-list_event-in_default.result c.from_residual-in_err-list_event-in_default.ensures.1 in
+    let i = c.events.invariant in
+    let turn = turn_of c.events.matcher c.next.new.self _ _ _ _ _ c.in_ok-event.event i.follows c.in_ok-event.ensures.same c.in_ok-event.ensures.ok c.in_ok-event.ensures.counts in
+    let on = line_told c.in_ok-event.event c.in_default.not-Value c.in_default.not-Exhausted c.in_default.not-Aborted c.in_default.not-Limit in
+    let did = c.in_err-list_event-in_default.ensures in
+    let runs = performs_runs _ _ _ _ _ _ (g.W.Sink.broken c.events.writer) _ (Err c.in_err-list_event-in_default.field-0.0) i.can.reads did.nodes tt did.fault (rw c.pending-in_default.ensures.value at did.does) in
+    rw (p.1, p.2, ← whole_listing c.args.program.now _ c.args.subject.now c.args.anchored c.args.limit) (i.leads _ _ _ (event_ended _ _ _ _ _ _ _ c.in_ok-event.event c.next.new.self.way _ _ _ _ _ _ on.0 turn.0 turn.1 runs))

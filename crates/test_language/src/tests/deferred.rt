@@ -1,0 +1,98 @@
+//! Expressions that aren't evaluated until a match reaches them, worked out by hand.
+use super::asking::{Programs, Values, Ways};
+use super::rows::check_rows;
+use std::test::Fail;
+
+/// An expression is evaluated each time that it is reached, and each time its value takes its place.
+const EXPRESSIONS_IN_MATCHES: &str = r"
+--anchor ; LEN(1) $ X *X ; AA => set X 0 1\nway 0 2\nexhausted\n
+--anchor ; LEN(1) $ X *X ; AB => set X 0 1\nexhausted\n
+LEN(1) $ X *X ; ABB => set X 0 1\nset X 1 2\nway 1 3\nset X 2 3\nexhausted\n
+*X ; A => way 0 0\nway 1 1\nexhausted\n
+--anchor ; *'A' ; A => way 0 1\nexhausted\n
+--anchor ; *12 ; 12 => way 0 2\nexhausted\n
+--anchor ; **'A' ; A => way 0 1\nexhausted\n
+--anchor ; *LEN(1) *LEN(1) ; AB => way 0 2\nexhausted\n
+--anchor ; *('A' | 'AB') ; AB => way 0 1\nway 0 2\nexhausted\n
+--anchor ; *INPUT | 'A' ; A => way 0 1\nexhausted\n
+--anchor ; *~'A' | 'A' ; A => way 0 1\nexhausted\n
+--anchor ; *(LEN(1) . X) 'B' ; AB => way 0 2 X=0-1\nexhausted\n
+--anchor ; LEN(1) $ OUTPUT *OUTPUT ; AA => set OUTPUT 0 1\nA\nway 0 2\nexhausted\n
+--anchor ; ARBNO(*'A') 'B' ; AAB => way 0 3\nexhausted\n
+--anchor ; *TABLE() ; A => status 1: snobol4: error 1\n
+--anchor ; *(1 / 0) ; A => status 1: snobol4: error 3\n
+--anchor ; 'B' *(1 / 0) ; A => exhausted\n
+~*X => exhausted\n
+--anchor ; ?*(1 / 0) ; A => way 0 0\nexhausted\n
+";
+
+#[test]
+fn expressions_in_matches(rt: HostRuntime) -> Result<(), Fail> {
+    check_rows::<Ways, _>(&rt, EXPRESSIONS_IN_MATCHES)
+}
+
+/// The argument of a primitive may be such an expression. The second row's steps are the concatenation, `$`, LEN(1), the
+/// close of `$`, the deferred LEN, and the LEN that takes its place.
+const ARGUMENTS_IN_MATCHES: &str = r"
+--anchor ; LEN(1) $ N LEN(*N) ; 2ABC => set N 0 1\nway 0 3\nexhausted\n
+--anchor --steps 6 ; LEN(1) $ N LEN(*N) ; 2ABC => set N 0 1\nway 0 3\nexhausted\n
+--anchor --steps 5 ; LEN(1) $ N LEN(*N) ; 2ABC => set N 0 1\nlimit\n
+--anchor ; LEN(1) $ N LEN(*N) ; 0A => set N 0 1\nway 0 1\nexhausted\n
+LEN(1) $ N POS(*N) ; 1A => set N 0 1\nway 0 1\nset N 1 2\nstatus 1: snobol4: error 1\n
+--anchor ; LEN(1) $ S SPAN(*S) ; BBBA => set S 0 1\nway 0 3\nexhausted\n
+--anchor ; LEN(1) $ S BREAK(*S) LEN(1) ; BAAB => set S 0 1\nway 0 4\nexhausted\n
+--anchor ; RTAB(*1) ; ABC => way 0 2\nexhausted\n
+--anchor ; ANY(*X) ; A => status 1: snobol4: error 6\n
+--anchor ; LEN(*'-1') ; A => status 1: snobol4: error 7\n
+--anchor ; LEN(*LEN(1)) ; A => status 1: snobol4: error 1\n
+--anchor ; LEN(**1) ; A => status 1: snobol4: error 1\n
+--anchor ; NOTANY(*INPUT) | REM ; A => way 0 1\nexhausted\n
+";
+
+#[test]
+fn arguments_in_matches(rt: HostRuntime) -> Result<(), Fail> {
+    check_rows::<Ways, _>(&rt, ARGUMENTS_IN_MATCHES)
+}
+
+const EXPRESSIONS_AS_VALUES: &str = r"
+DATATYPE(*X) => <EXPRESSION>
+DATATYPE(*X 'A') => <PATTERN>
+DATATYPE(*X | 'A') => <PATTERN>
+DATATYPE(*X '') => <EXPRESSION>
+DATATYPE(*X . Y) => <PATTERN>
+DATATYPE(LEN(*X)) => <PATTERN>
+DATATYPE(CONVERT(*X,'PATTERN')) => <PATTERN>
+DATATYPE(ARBNO(*X)) => <PATTERN>
+CONVERT(*X,'STRING') => fails
+IDENT(*X,*X) => error 1
+DIFFER(*X,1) => <>
+*X + 1 => error 1
+*X => error 1
+?*X => <>
+~*X => fails
+";
+
+#[test]
+fn expressions_as_values(rt: HostRuntime) -> Result<(), Fail> {
+    check_rows::<Values, _>(&rt, EXPRESSIONS_AS_VALUES)
+}
+
+/// A pattern may name itself, since its name is read only when a match comes to it.
+const PROGRAMS_WITH_EXPRESSIONS: &str = r"
+ &ANCHOR = 1\n P = '(' *P ')' | 'X'\n '((X))' P . W :F(END)\n OUTPUT = W\nEND\n => ((X))\n
+--match-steps 300 ;  P = *P 'A' | 'A'\n 'A' P\nEND\n => status 5: snobol4: error 21 in statement 2\n
+--match-steps 1000 ;  P = *Q\n Q = *P\n 'A' P\nEND\n => status 5: snobol4: error 21 in statement 3\n
+ P = *Y\n Y = 'B'\n 'AB' P . Z\n Y = 'A'\n 'AB' P . W\n OUTPUT = Z W\nEND\n => BA\n
+ 'ABB' LEN(1) $ X *X . Y\n OUTPUT = X Y\nEND\n => BB\n
+ X = *(1 / 0)\n 'A' 'B' X :S(END)\n OUTPUT = 'not reached'\nEND\n => not reached\n
+ 'A' *(1 / 0)\nEND\n => status 1: snobol4: error 3 in statement 1\n
+ 'A' *INPUT :S(END)\n OUTPUT = 'fails'\nEND\n => fails\n
+ 'AB' LEN(1) *INPUT . X\n OUTPUT = X\nEND\n <- B\n => B\n
+ T = TABLE()\n T<*X> = 1\nEND\n => status 1: snobol4: error 1 in statement 2\n
+ S = 'AXB'\n C = 'X'\n S *C = '-'\n OUTPUT = S\nEND\n => A-B\n
+";
+
+#[test]
+fn programs_with_expressions(rt: HostRuntime) -> Result<(), Fail> {
+    check_rows::<Programs, _>(&rt, PROGRAMS_WITH_EXPRESSIONS)
+}
