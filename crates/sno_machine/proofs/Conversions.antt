@@ -11,7 +11,7 @@ use Rattle.sno_pattern.specs.Pattern.{Pattern, Cat}
 use Rattle.sno_pattern.specs.Table.{Node}
 use Rattle.sno_machine.specs.declared.machine.Exit.{Exit}
 use Rattle.sno_machine.specs.declared.machine.Exit.TheVariants.{Failure, Halt}
-use Rattle.sno_machine.specs.declared.machine.Stop.TheVariants.{Error as HasError, NoMemory, ReadFault, WriteFault}
+use Rattle.sno_machine.specs.declared.machine.Stop.TheVariants.{Error as HasError, ErrorIn as HasErrorIn, NoMemory, ReadFault, WriteFault, Ended as HasEnded}
 use Rattle.sno_machine.specs.Action.{Action, gives, and_then, either}
 use Rattle.sno_machine.specs.Values.{Value, Pat, Name, shown, IsValueOf, is_null}
 use Rattle.sno_machine.specs.Operators.{operation, makes_value, is_patternable, as_pattern, joined_patterns, joined, concatenation, pattern_with_target}
@@ -32,6 +32,8 @@ missing_in see look suits o act s (Halt (HasError code)) none h = rw (none h.0, 
 missing_in see look suits o act s (Halt NoMemory) none h = no_memory_does look suits act s s (grows_none s.nodes) refl
 missing_in see look suits o act s (Halt ReadFault) none h = absurd h
 missing_in see look suits o act s (Halt WriteFault) none h = absurd h
+missing_in see look suits o act s (Halt (HasErrorIn code statement)) none h = absurd h
+missing_in see look suits o act s (Halt HasEnded) none h = absurd h
 
 pub missing : {X A : Type 0} (see : X → A) (o : Option A) (act : Action Value) (s : State) (e : Exit) → (o ≡ None → act ≡ wrong_type) → IsThere see o (Err e) → Does {X = Stored} shown IsValueOf act s s (Err e)
 missing see o act s e none h = missing_in see shown IsValueOf o act s e none h
@@ -60,6 +62,8 @@ first_missing x y (Halt (HasError code)) h = rw h.0 (refl, h.1)
 first_missing x y (Halt NoMemory) h = h
 first_missing x y (Halt ReadFault) h = h
 first_missing x y (Halt WriteFault) h = h
+first_missing x y (Halt (HasErrorIn code statement)) h = h
+first_missing x y (Halt HasEnded) h = h
 
 pub second_missing : (x y : Option ℤ) (n : ℤ) (e : Exit) → x ≡ Some n → IsThere {X = ℤ} (λ n. n) y (Err e) → IsThere {X = ℤ × ℤ} (λ p. p) (both x y) (Err e)
 second_missing x y n Failure is h = h
@@ -67,6 +71,8 @@ second_missing x y n (Halt (HasError code)) is h = rw (is, h.0) (refl, h.1)
 second_missing x y n (Halt NoMemory) is h = h
 second_missing x y n (Halt ReadFault) is h = h
 second_missing x y n (Halt WriteFault) is h = h
+second_missing x y n (Halt (HasErrorIn code statement)) is h = h
+second_missing x y n (Halt HasEnded) is h = h
 
 pub arithmetic_operation : (operator : Operator) (x y : Value) → is_arithmetic operator ≡ true → operation operator x y ≡ on_numbers (calculated operator) (number_of x) (number_of y)
 arithmetic_operation Add x y h = refl

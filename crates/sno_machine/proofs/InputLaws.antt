@@ -94,6 +94,7 @@ line_reads a reading f g outcome line going sound same fault = record {
   meets = λ more none. line_meets a (record a { reading = reading }) _ _ (world a (line.given ++ more)) (world (record a { reading = reading }) more) outcome (sym (append_assoc a.reading.held line.given more)) refl (line.line more none);
   answer = line_answer a.nodes a.keywords.trim _ _ outcome (line.line [] (λ told. refl));
   kept = refl;
+  calls = refl;
   tells = same;
   ready = line_ready (record a { reading = reading }) g a.keywords.trim outcome going sound same;
   cause = line_cause g a.keywords.trim outcome fault;

@@ -10,7 +10,7 @@ use Rattle.sno_store.specs.Arrays.{element_name}
 use Rattle.sno_store.specs.Tables.{find_entry}
 use Rattle.sno_machine.specs.declared.machine.Exit.{Exit}
 use Rattle.sno_machine.specs.declared.machine.Exit.TheVariants.{Failure, Halt}
-use Rattle.sno_machine.specs.declared.machine.Stop.TheVariants.{Error as HasError, NoMemory, ReadFault, WriteFault}
+use Rattle.sno_machine.specs.declared.machine.Stop.TheVariants.{Error as HasError, ErrorIn as HasErrorIn, NoMemory, ReadFault, WriteFault, Ended as HasEnded}
 use Rattle.sno_machine.specs.Action.{Action, gives, fails, either}
 use Rattle.sno_machine.specs.Values.{Value, Str, Array, shown, IsValueOf}
 use Rattle.sno_machine.specs.Variables.{wrong_type, holds}
@@ -65,6 +65,8 @@ numbers_refused nodes xs k x (Halt (HasError code)) h is there = (numbers_end no
 numbers_refused nodes xs k x (Halt NoMemory) h is there = there
 numbers_refused nodes xs k x (Halt ReadFault) h is there = there
 numbers_refused nodes xs k x (Halt WriteFault) h is there = there
+numbers_refused nodes xs k x (Halt (HasErrorIn code statement)) h is there = there
+numbers_refused nodes xs k x (Halt HasEnded) h is there = there
 
 pub unnumbered : (id : ObjId) (o : Option (List ℤ)) → o ≡ None → element_numbered id o ≡ wrong_type
 unnumbered id o h = rw h refl

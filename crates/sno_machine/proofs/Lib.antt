@@ -8,6 +8,10 @@ pub mod ObjectsKnown
 pub mod ObjectLaws
 pub mod Numbered
 pub mod Stores
+pub mod CallLaws
+pub mod CallsKnown
+pub mod DefinitionLaws
+pub mod Calls
 pub mod Reading
 pub mod InputLaws
 pub mod Performing

@@ -20,6 +20,14 @@ pub all_same : {X : Type 0} (P : X → Type 0) (n : ℕ) (x : X) → P x → All
 all_same P zero x p = tt
 all_same P (suc n) x p = (p, all_same P n x p)
 
+pub all_append : {X : Type 0} (P : X → Type 0) (xs ys : List X) → AllByRecursion P xs → AllByRecursion P ys → AllByRecursion P (xs ++ ys)
+all_append P [] ys h k = k
+all_append P (x ∷ xs) ys h k = (h.0, all_append P xs ys h.1 k)
+
+pub all_front : {X : Type 0} (P : X → Type 0) (xs : List X) (x : X) → AllByRecursion P (xs ++ x ∷ []) → AllByRecursion P xs × P x
+all_front P [] x h = (tt, h.0)
+all_front P (y ∷ xs) x h = let front = all_front P xs x h.1 in ((h.0, front.0), front.1)
+
 -- what holds of a member, if there is one
 abbrev pub IfThere : {X : Type 0} → (X → Type 0) → Option X → Type 0
 IfThere P None = Unit {0}

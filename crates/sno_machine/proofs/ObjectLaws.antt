@@ -5,11 +5,10 @@ use Rattle.sno_value.specs.declared.value.Value.TheVariants as stored
 use Rattle.sno_pattern.specs.Table.{Node}
 use Rattle.sno_store.specs.Contents.{Contents}
 use Rattle.sno_store.specs.Objects.{Object}
-use Rattle.sno_store.specs.Outcomes.{IsDone, IsAnswered, IsError, itself as as_told}
+use Rattle.sno_store.specs.Outcomes.{IsDone, IsAnswered, itself as as_told}
 use Rattle.sno_store.specs.Stored.{is_null, is_key, same_key, stored_notions}
 use Rattle.sno_store.specs.declared.error.StoreError.{StoreError}
-use Rattle.sno_store.specs.declared.error.StoreError.TheVariants.{NullName, Full, WrongType, BadPrototype, NoMemory}
-use Rattle.sno_machine.specs.World.{World}
+use Rattle.sno_store.specs.declared.error.StoreError.TheVariants.{NullName, Full, WrongType, BadPrototype, CallLevel, NoMemory}
 use Rattle.sno_machine.specs.Values.{Value, Str, shown, IsValueOf, is_null as is_null_value}
 use Rattle.sno_machine.specs.Action.{Error, Got, Stops, Outcome, gives, and_then}
 use Rattle.sno_machine.specs.declared.machine.Exit.TheVariants.{Halt}
@@ -17,6 +16,7 @@ use Rattle.sno_machine.specs.declared.machine.Stop.TheVariants.{Error as HasErro
 use Rattle.sno_machine.specs.Containers.{is_key as may_be_key, is_same_key, notions, after_change, answers, does, asks}
 use Rattle.sno_machine.specs.State.{State, world, Does, IsKnown, itself, any, exit_of_store}
 use Rattle.sno_machine.proofs.Objects.{mapped, map_made}
+use Rattle.sno_machine.proofs.Stores.{calls_untouched, store_untouched}
 use Rattle.sno_machine.proofs.ObjectOperations.{Agrees}
 use Rattle.sno_machine.proofs.ObjectsKnown.{AllKnown, Leaves}
 use Rattle.sno_machine.proofs.Outcomes.{grows_none, no_memory_does, gives_does, then_got, then_err}
@@ -95,30 +95,31 @@ done_ok {X = X} s new operation meant x same h = record {
       ap (λ (r : Result (X × List (Object Value)) ℕ). after_change r (world s more)) (same s.store.objects ∙ ap (map_made (shown s.nodes)) h.0)
       ∙ ap (λ (c : Contents). record { ending = Got x; world = world (record s { store = c }) more; wrote = [] }) (sym h.1);
   answer = tt;
-  unread = refl;
+  unread = calls_untouched s new (ap (λ (c : Contents). c.calls) h.1);
 }
 
 refused_as : {X : Type 0} (s : State) (new : Contents) (meant : List (Object Value) → Result (X × List (Object Value)) ℕ) (code : ℕ) → meant (mapped (shown s.nodes) s.store.objects) ≡ Err code
     → (more : List ℕ) → does meant (world s more) ≡ record { ending = Stops (Error code); world = world s more; wrote = [] }
 refused_as {X = X} s new meant code is more = ap (λ (r : Result (X × List (Object Value)) ℕ). after_change r (world s more)) is
 
-does_refused : {X : Type 0} (s : State) (new : Contents) (meant : List (Object Value) → Result (X × List (Object Value)) ℕ) (code : ℕ) → meant (mapped (shown s.nodes) s.store.objects) ≡ Err code
+does_refused : {X : Type 0} (s : State) (new : Contents) (meant : List (Object Value) → Result (X × List (Object Value)) ℕ) (code : ℕ) → new ≡ s.store → meant (mapped (shown s.nodes) s.store.objects) ≡ Err code
     → Does {X = X} itself any (does meant) s (record s { store = new }) (Err (Halt (HasError code)))
-does_refused s new meant code is = record {
+does_refused s new meant code same is = record {
   grows = grows_none s.nodes;
   meets = λ more. (ap (λ (o : Outcome _). o.ending) (refused_as s new meant code is more), ap (λ (o : Outcome _). o.wrote) (refused_as s new meant code is more));
   answer = tt;
-  unread = refl;
+  unread = store_untouched s new same;
 }
 
 pub done_err : {X : Type 0} (s : State) (new : Contents) (operation : List (Object Stored) → Result (X × List (Object Stored)) ℕ) (meant : List (Object Value) → Result (X × List (Object Value)) ℕ) (e : StoreError)
     → ((objects : List (Object Stored)) → meant (mapped (shown s.nodes) objects) ≡ map_made (shown s.nodes) (operation objects))
     → IsDone {X = X} as_told operation s.store new (Err e) → Does {X = X} itself any (does meant) s (record s { store = new }) (Err (exit_of_store e))
-done_err s new operation meant NullName same h = does_refused s new meant 6 (same s.store.objects ∙ ap (map_made (shown s.nodes)) h.0)
-done_err s new operation meant Full same h = does_refused s new meant 9 (same s.store.objects ∙ ap (map_made (shown s.nodes)) h.0)
-done_err s new operation meant WrongType same h = does_refused s new meant 1 (same s.store.objects ∙ ap (map_made (shown s.nodes)) h.0)
-done_err s new operation meant BadPrototype same h = does_refused s new meant 12 (same s.store.objects ∙ ap (map_made (shown s.nodes)) h.0)
-done_err s new operation meant NoMemory same h = no_memory_does itself any (does meant) s (record s { store = new }) (grows_none s.nodes) refl
+done_err s new operation meant NullName same h = does_refused s new meant 6 h.1 (same s.store.objects ∙ ap (map_made (shown s.nodes)) h.0)
+done_err s new operation meant Full same h = does_refused s new meant 9 h.1 (same s.store.objects ∙ ap (map_made (shown s.nodes)) h.0)
+done_err s new operation meant WrongType same h = does_refused s new meant 1 h.1 (same s.store.objects ∙ ap (map_made (shown s.nodes)) h.0)
+done_err s new operation meant BadPrototype same h = does_refused s new meant 12 h.1 (same s.store.objects ∙ ap (map_made (shown s.nodes)) h.0)
+done_err s new operation meant CallLevel same h = does_refused s new meant 10 h.1 (same s.store.objects ∙ ap (map_made (shown s.nodes)) h.0)
+done_err s new operation meant NoMemory same h = no_memory_does itself any (does meant) s (record s { store = new }) (grows_none s.nodes) (store_untouched s new h.1)
 
 left_known : {X : Type 0} (nodes : List Node) (x : X) (objects : List (Object Stored)) (r : Result (X × List (Object Stored)) ℕ) → r ≡ Ok (x, objects) → Leaves nodes r → AllKnown nodes objects
 left_known nodes x objects r is h = subst (λ r. Leaves nodes r) is h
@@ -127,7 +128,7 @@ left_known nodes x objects r is h = subst (λ r. Leaves nodes r) is h
 pub done_known : {X : Type 0} (nodes : List Node) (old new : Contents) (operation : List (Object Stored) → Result (X × List (Object Stored)) ℕ) (r : Result X StoreError)
     → IsKnown nodes old → Leaves nodes (operation old.objects) → IsDone as_told operation old new r → IsKnown nodes new
 done_known nodes old new operation (Ok x) k leaves h =
-    subst (IsKnown nodes) (sym h.1) (record { symbols = k.symbols; numbered = k.numbered; values = k.values; objects = left_known nodes x new.objects (operation old.objects) h.0 leaves })
+    subst (IsKnown nodes) (sym h.1) (record { symbols = k.symbols; numbered = k.numbered; values = k.values; objects = left_known nodes x new.objects (operation old.objects) h.0 leaves; calls = k.calls })
 done_known nodes old new operation (Err e) k leaves h = subst (IsKnown nodes) (sym h.1) k
 
 -- a question to the objects
@@ -154,6 +155,7 @@ asked_err look s told meant see fits NullName same h = asked_refused s meant see
 asked_err look s told meant see fits Full same h = asked_refused s meant see fits 9 (same ∙ h)
 asked_err look s told meant see fits WrongType same h = asked_refused s meant see fits 1 (same ∙ h)
 asked_err look s told meant see fits BadPrototype same h = asked_refused s meant see fits 12 (same ∙ h)
+asked_err look s told meant see fits CallLevel same h = asked_refused s meant see fits 10 (same ∙ h)
 asked_err look s told meant see fits NoMemory same h = absurd h
 
 -- the text of a prototype

@@ -9,12 +9,13 @@ use Rattle.sno_pattern.proofs.TableLaws.{tree-append}
 use Rattle.sno_machine.specs.declared.machine.Exit.{Exit}
 use Rattle.sno_machine.specs.declared.machine.Exit.TheVariants.{Failure, Halt}
 use Rattle.sno_machine.specs.declared.machine.Stop.{Stop}
-use Rattle.sno_machine.specs.declared.machine.Stop.TheVariants.{Error as HasError, NoMemory, ReadFault, WriteFault}
+use Rattle.sno_machine.specs.declared.machine.Stop.TheVariants.{Error as HasError, ErrorIn as HasErrorIn, NoMemory, ReadFault, WriteFault, Ended as HasEnded}
 use Rattle.sno_machine.specs.World.{World}
 use Rattle.sno_store.specs.Objects.{Object, ArrayOf, TableOf}
 use Rattle.sno_machine.specs.Values.{Pat, shown, shown_objects, map_entry, map_object, IsValueOf, IsEntryOf, IsObjectOf}
 use Rattle.sno_machine.specs.Action.{Error, Got, Outcome, Action, settled, settles, either, and_then, gives, fails, stops}
 use Rattle.sno_machine.specs.State.{State, world, untouched, Meets, Grows, Does}
+use Rattle.sno_machine.specs.Calls.{shown_saved}
 
 -- tables that grow
 
@@ -82,6 +83,21 @@ pub all_objects_stay : (old new : List Node) (os : List (Object Stored)) → Gro
 all_objects_stay old new [] g h = tt
 all_objects_stay old new (o ∷ os) g h = (object_stays old new o g h.0, all_objects_stay old new os g h.1)
 
+-- what calls have saved
+
+-- what was saved is shown the same in a table that has grown
+pub saved_shown_stay : (old new : List Node) (call : List (ℕ × Stored)) → Grows old new → AllByRecursion (λ saved. IsValueOf old saved.1) call → shown_saved new call ≡ shown_saved old call
+saved_shown_stay old new [] g h = refl
+saved_shown_stay old new (s ∷ call) g h = λ i. (s.0, shown_stays old new s.1 g h.0 i) ∷ saved_shown_stay old new call g h.1 i
+
+pub all_saved_stay : (old new : List Node) (call : List (ℕ × Stored)) → Grows old new → AllByRecursion (λ saved. IsValueOf old saved.1) call → AllByRecursion (λ saved. IsValueOf new saved.1) call
+all_saved_stay old new [] g h = tt
+all_saved_stay old new (s ∷ call) g h = (value_stays old new s.1 g h.0, all_saved_stay old new call g h.1)
+
+pub all_calls_stay : (old new : List Node) (calls : List (List (ℕ × Stored))) → Grows old new → AllByRecursion (AllByRecursion (λ saved. IsValueOf old saved.1)) calls → AllByRecursion (AllByRecursion (λ saved. IsValueOf new saved.1)) calls
+all_calls_stay old new [] g h = tt
+all_calls_stay old new (call ∷ calls) g h = (all_saved_stay old new call g h.0, all_calls_stay old new calls g h.1)
+
 -- the simplest actions
 
 pub gives_does : {X A : Type 0} (see : List Node → X → A) (fits : List Node → X → Type 0) (s : State) (x : X) (value : A) → see s.nodes x ≡ value → fits s.nodes x → Does see fits (gives value) s s (Ok x)
@@ -126,6 +142,8 @@ settled_stops see look k o w (HasError code) h = rw h.0 (refl, h.1)
 settled_stops see look k o w NoMemory h = tt
 settled_stops see look k o w ReadFault h = h
 settled_stops see look k o w WriteFault h = h
+settled_stops see look k o w (HasErrorIn code statement) h = h
+settled_stops see look k o w HasEnded h = h
 
 pub settles_halt : {X Y A B : Type 0} (see : List Node → X → A) (fits : List Node → X → Type 0) (look : List Node → Y → B) (suits : List Node → Y → Type 0) (act : Action A) (k : Option A → Action B) (a b : State) (why : Stop)
     → Does see fits act a b (Err (Halt why)) → Does look suits (settles act k) a b (Err (Halt why))

@@ -6,7 +6,7 @@ use Rattle.sno_io.specs.Devices.{Begins}
 use Rattle.sno_io.proofs.Bytes.{appends_then}
 use Rattle.sno_value.specs.declared.value.Name.{Name as Target}
 use Rattle.sno_machine.specs.declared.machine.Stop.{Stop}
-use Rattle.sno_machine.specs.declared.machine.Stop.TheVariants.{Error as HasError, NoMemory, ReadFault, WriteFault}
+use Rattle.sno_machine.specs.declared.machine.Stop.TheVariants.{Error as HasError, ErrorIn as HasErrorIn, NoMemory, ReadFault, WriteFault, Ended as HasEnded}
 use Rattle.sno_machine.specs.World.{World}
 use Rattle.sno_machine.specs.Values.{Value}
 use Rattle.sno_machine.specs.Action.{Ending, Got, Fails, Stops, Outcome, Action, settled, settles, and_then, either, gives, fails}
@@ -23,7 +23,7 @@ use Rattle.sno_store.specs.Contents.{with_value as with_stored}
 use Rattle.sno_machine.specs.Values.{shown}
 use Rattle.sno_machine.specs.Variables.{is_output, assigns, outputs, stores, writes, with_value, text_of, wrong_type}
 use Rattle.sno_machine.specs.Lines.{line_of}
-use Rattle.sno_machine.proofs.Stores.{set_seen}
+use Rattle.sno_machine.proofs.Stores.{set_seen, set_untouched}
 use Rattle.sno_machine.specs.Performs.{Ends, Performs, IsLineOf}
 
 pub appends_nothing : (taken : Option (List ℕ)) → Appends taken taken []
@@ -44,6 +44,8 @@ ends_then o next b c first second (Ok done) is h = rw is (ap (λ (p : Outcome Un
 ends_then o next b c first second (Err (HasError code)) is h = rw is (h.0, ap (λ bytes. first ++ bytes) h.1)
 ends_then o next b c first second (Err NoMemory) is h = rw is (h.0, append_assoc first second h.0 ∙ ap (λ bytes. first ++ bytes) h.1)
 ends_then o next b c first second (Err ReadFault) is h = h
+ends_then o next b c first second (Err (HasErrorIn code statement)) is h = h
+ends_then o next b c first second (Err HasEnded) is h = h
 ends_then o next b c first second (Err WriteFault) is h = rw is (h.0, append_assoc first second h.0 ∙ ap (λ bytes. first ++ bytes) h.1)
 
 -- one after the other
@@ -66,6 +68,8 @@ ends_stop : (o : Outcome Unit) (next : Option Unit → Action Unit) (b : World) 
 ends_stop o next b wrote (HasError code) h = rw (h.0, h.1) (refl, refl)
 ends_stop o next b wrote NoMemory h = begins_settled o.ending o.world o.wrote wrote next h
 ends_stop o next b wrote ReadFault h = h
+ends_stop o next b wrote (HasErrorIn code statement) h = h
+ends_stop o next b wrote HasEnded h = h
 ends_stop o next b wrote WriteFault h = begins_settled o.ending o.world o.wrote wrote next h
 
 -- what ended a part ended the whole
@@ -82,7 +86,7 @@ stored name value a b taken isnt is = rw (isnt, is) (record {
   wrote = [];
   appends = appends_nothing taken;
   ends = λ more. ap (λ (w : World). record { ending = Got tt; world = w; wrote = [] }) (sym (set_seen a name value more));
-  unread = refl;
+  unread = set_untouched a name value;
 })
 
 -- what OUTPUT does with a value that has a text
@@ -103,7 +107,7 @@ output_written name value a b x y line out is has put =
       appends = put;
       ends = λ more. outputs_is name (shown a.nodes value) t.0 (world a more) t.1
           ∙ (λ i. record { ending = Got tt; world = sym (set_seen a name value more) i; wrote = sym t.2 i });
-      unread = refl;
+      unread = set_untouched a name value;
     })
 
 pub output_cut : (name : Target) (value : Stored) (a b : State) (x y : Option (List ℕ)) (line : Vec ℕ Global) (part : List ℕ) → is_output name ≡ true → untouched b ≡ untouched a
@@ -122,6 +126,8 @@ output_refused name value a x (HasError code) out h = rw (out, h.0, h.1) (record
 output_refused name value a x NoMemory out h = no_memory (assigns name (shown a.nodes value)) a a x refl
 output_refused name value a x ReadFault out h = absurd h
 output_refused name value a x WriteFault out h = absurd h
+output_refused name value a x (HasErrorIn code statement) out h = absurd h
+output_refused name value a x HasEnded out h = absurd h
 
 -- the line of an event
 

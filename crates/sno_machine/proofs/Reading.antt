@@ -2,11 +2,12 @@
 use Rattle.std.proofs.Common.{◌≡◌, ℕ, List, [], ◌++◌, refl, ap, sym, ◌∙◌, subst, append_assoc, Option, None, Some, Result, Ok, Err}
 use Rattle.std.specs.Io.KnownBytes.{Consumes}
 use Rattle.sno_io.proofs.Bytes.{consumes_then}
+use Rattle.sno_value.specs.declared.value.Value.{Value as Stored}
 use Rattle.sno_pattern.specs.Table.{Node}
 use Rattle.sno_machine.specs.declared.machine.Exit.{Exit}
 use Rattle.sno_machine.specs.declared.machine.Exit.TheVariants.{Failure, Halt}
 use Rattle.sno_machine.specs.declared.machine.Stop.{Stop}
-use Rattle.sno_machine.specs.declared.machine.Stop.TheVariants.{Error as HasError, NoMemory, ReadFault, WriteFault}
+use Rattle.sno_machine.specs.declared.machine.Stop.TheVariants.{Error as HasError, ErrorIn as HasErrorIn, NoMemory, ReadFault, WriteFault, Ended as HasEnded}
 use Rattle.sno_io.specs.Lines.{Reading}
 use Rattle.sno_machine.specs.World.{World, Keywords}
 use Rattle.sno_machine.specs.Action.{Outcome, Action, settled, settles, either, and_then, fails}
@@ -24,6 +25,8 @@ reading_meets see o w (Err (Halt (HasError code))) h = h
 reading_meets see o w (Err (Halt NoMemory)) h = tt
 reading_meets see o w (Err (Halt ReadFault)) h = tt
 reading_meets see o w (Err (Halt WriteFault)) h = h
+reading_meets see o w (Err (Halt (HasErrorIn code statement))) h = h
+reading_meets see o w (Err (Halt HasEnded)) h = h
 
 going_on : {X : Type 0} (r : Result X Exit) (P : Type 0) → P → OnGoing r P
 going_on (Ok x) P h = h
@@ -37,12 +40,17 @@ unfaulted see o w (Err (Halt (HasError code))) f h = tt
 unfaulted see o w (Err (Halt NoMemory)) f h = tt
 unfaulted see o w (Err (Halt ReadFault)) f h = absurd h
 unfaulted see o w (Err (Halt WriteFault)) f h = tt
+unfaulted see o w (Err (Halt (HasErrorIn code statement))) f h = tt
+unfaulted see o w (Err (Halt HasEnded)) f h = tt
 
 pub same_reading : (a b : State) → untouched b ≡ untouched a → b.reading ≡ a.reading
-same_reading a b u = ap (λ (p : Reading × Keywords). p.0) u
+same_reading a b u = ap (λ (p : Reading × Keywords × List (List (ℕ × Stored))). p.0) u
 
 pub same_keywords : (a b : State) → untouched b ≡ untouched a → b.keywords ≡ a.keywords
-same_keywords a b u = ap (λ (p : Reading × Keywords). p.1) u
+same_keywords a b u = ap (λ (p : Reading × Keywords × List (List (ℕ × Stored))). p.1) u
+
+pub same_calls : (a b : State) → untouched b ≡ untouched a → b.store.calls ≡ a.store.calls
+same_calls a b u = ap (λ (p : Reading × Keywords × List (List (ℕ × Stored))). p.2) u
 
 pub ready_unread : (a b : State) (f : Feed) → untouched b ≡ untouched a → IsReady a f → IsReady b f
 ready_unread a b f u ready = let s = same_reading a b u in record { going = rw s ready.going; same = λ told. ready.same (rw s at told); sound = ready.sound }
@@ -57,6 +65,7 @@ reads_nothing see fits act a b f r ready did = record {
   meets = λ more none. reading_meets (see b.nodes) (act (world a more)) (world b more) r (did.meets more);
   answer = did.answer;
   kept = same_keywords a b did.unread;
+  calls = same_calls a b did.unread;
   tells = (ready_unread a b f did.unread ready).same;
   ready = going_on r (IsReady b f) (ready_unread a b f did.unread ready);
   cause = unfaulted (see b.nodes) (act (world a [])) (world b []) r f (did.meets []);
@@ -83,6 +92,7 @@ reads_got {A = A} see fits look suits act k a b c f g h x r p q = record {
       (settled_reading (look c.nodes) k (act (world a (p.given ++ (q.given ++ more)))) _ (world c more) r (p.meets (q.given ++ more) (λ told. let n = q.ended told in none_given q.given more n.0 (none n.1))) (q.meets more none));
   answer = q.answer;
   kept = q.kept ∙ p.kept;
+  calls = q.calls ∙ p.calls;
   tells = q.tells;
   ready = q.ready;
   cause = q.cause;
@@ -101,6 +111,7 @@ reads_failed {A = A} see fits look suits act k a b c f g h r p q = record {
       (settled_reading (look c.nodes) k (act (world a (p.given ++ (q.given ++ more)))) _ (world c more) r (p.meets (q.given ++ more) (λ told. let n = q.ended told in none_given q.given more n.0 (none n.1))) (q.meets more none));
   answer = q.answer;
   kept = q.kept ∙ p.kept;
+  calls = q.calls ∙ p.calls;
   tells = q.tells;
   ready = q.ready;
   cause = q.cause;
@@ -111,12 +122,16 @@ settled_halt see look k o w (HasError code) h = rw h.0 (refl, h.1)
 settled_halt see look k o w NoMemory h = tt
 settled_halt see look k o w ReadFault h = tt
 settled_halt see look k o w WriteFault h = h
+settled_halt see look k o w (HasErrorIn code statement) h = h
+settled_halt see look k o w HasEnded h = h
 
 same_cause : (X Y : Type 0) (why : Stop) (f : Feed) → HasCause {X = X} (Err (Halt why)) f → HasCause {X = Y} (Err (Halt why)) f
 same_cause X Y (HasError code) f h = tt
 same_cause X Y NoMemory f h = tt
 same_cause X Y ReadFault f h = h
 same_cause X Y WriteFault f h = tt
+same_cause X Y (HasErrorIn code statement) f h = tt
+same_cause X Y HasEnded f h = tt
 
 pub reads_halt : {X Y A B : Type 0} (see : List Node → X → A) (fits : List Node → X → Type 0) (look : List Node → Y → B) (suits : List Node → Y → Type 0) (act : Action A) (k : Option A → Action B) (a b : State) (f g : Feed) (why : Stop)
     → Reads {X = X} see fits act a b f g (Err (Halt why)) → Reads {X = Y} look suits (settles act k) a b f g (Err (Halt why))
@@ -129,6 +144,7 @@ reads_halt {X = X} {Y = Y} see fits look suits act k a b f g why p = record {
   meets = λ more none. settled_halt (see b.nodes) (look b.nodes) k (act (world a (p.given ++ more))) (world b more) why (p.meets more none);
   answer = tt;
   kept = p.kept;
+  calls = p.calls;
   tells = p.tells;
   ready = tt;
   cause = same_cause X Y why g p.cause;

@@ -1,6 +1,5 @@
 -- What the store's calls do to the world.
-use Rattle.std.proofs.Common.{◌≡◌, ℕ, zero, suc, ◌==◌, ◌<◌, ◌≤◌, Bool, true, false, List, [], ◌∷◌, ◌++◌, if◌then◌else◌, length, set, get_or, slice_index_or, refl, ap, sym, ◌∙◌, subst, arith, Result, Ok, Err}
-use Rattle.std.specs.List.{AllByRecursion}
+use Rattle.std.proofs.Common.{◌≡◌, ℕ, ◌==◌, ◌<◌, ◌≤◌, Bool, true, false, List, [], ◌∷◌, ◌++◌, if◌then◌else◌, length, slice_index_or, refl, ap, sym, ◌∙◌, subst, arith, Result, Ok, Err}
 use Rattle.std.proofs.lemmas.Bool.{le-ltb, lt-ltb}
 use Rattle.std.proofs.lemmas.List.{map-append, map-set}
 use Rattle.std.proofs.Math.ListN.{get_or-map}
@@ -13,24 +12,24 @@ use Rattle.sno_pattern.specs.Table.{Node}
 use Rattle.sno_store.specs.First.{first_patterns}
 use Rattle.sno_store.specs.Contents.{Contents, new_contents, place, is_symbol, joining, with_symbol, IsJoined, value_of, with_value as with_stored}
 use Rattle.sno_store.specs.declared.error.StoreError.{StoreError}
-use Rattle.sno_store.specs.declared.error.StoreError.TheVariants.{NullName, Full, WrongType, BadPrototype, NoMemory}
+use Rattle.sno_store.specs.declared.error.StoreError.TheVariants.{NullName, Full, WrongType, BadPrototype, CallLevel, NoMemory}
 use Rattle.sno_machine.specs.declared.machine.Exit.TheVariants.{Halt}
 use Rattle.sno_machine.specs.declared.machine.Stop.TheVariants.{Error as HasError}
 use Rattle.sno_machine.specs.World.{World}
 use Rattle.sno_machine.specs.Values.{shown, IsValueOf}
 use Rattle.sno_machine.specs.Action.{Error, Got, Outcome, gives, stops}
 use Rattle.sno_machine.specs.Variables.{symbol, variable_named, joins, value_in, with_value, holds, name_value}
-use Rattle.sno_machine.specs.State.{State, world, Grows, Does, itself, any, IsKnown, exit_of_store}
+use Rattle.sno_machine.specs.State.{State, world, untouched, Grows, Does, itself, any, IsKnown, exit_of_store}
 use Rattle.sno_machine.proofs.Members.{all_end, all_set, all_at}
 use Rattle.sno_machine.proofs.Numbered.{numbered_with, numbered_place, new_numbered}
 use Rattle.sno_machine.proofs.Objects.{element_held, entry_held, element_set, entry_set}
 use Rattle.sno_machine.proofs.ObjectsKnown.{element_known, entry_known, element_set_known, entry_set_known}
-use Rattle.sno_machine.proofs.Outcomes.{grows_none, no_memory_does, all_values_stay, all_objects_stay}
+use Rattle.sno_machine.proofs.Outcomes.{grows_none, no_memory_does, all_values_stay, all_objects_stay, all_calls_stay}
 
 -- what is known of a store
 
 pub known_grown : (old new : List Node) (store : Contents) → Grows old new → IsKnown old store → IsKnown new store
-known_grown old new store g k = record { symbols = k.symbols; numbered = k.numbered; values = all_values_stay old new store.values g k.values; objects = all_objects_stay old new store.objects g k.objects }
+known_grown old new store g k = record { symbols = k.symbols; numbered = k.numbered; values = all_values_stay old new store.values g k.values; objects = all_objects_stay old new store.objects g k.objects; calls = all_calls_stay old new store.calls g k.calls }
 
 pub known_joined : (nodes : List Node) (name : List ℕ) (store : Contents) → length name ≤ 1_000_000 → IsKnown nodes store → IsKnown nodes (with_symbol name store)
 known_joined nodes name store short k = by (is_symbol name store.symbols) refl
@@ -42,12 +41,13 @@ known_joined nodes name store short k = by (is_symbol name store.symbols) refl
       symbols = all_end (λ symbol. length symbol ≤ 1_000_000) store.symbols name k.symbols short;
       values = all_end (IsValueOf nodes) store.values (stored.Str []) k.values (omega arith);
       objects = k.objects;
+      calls = k.calls;
     }
 
 pub known_set : (nodes : List Node) (name : Target) (value : Stored) (store : Contents) → IsValueOf nodes value → IsKnown nodes store → IsKnown nodes (with_stored name value store)
-known_set nodes (Var id) value store v k = record { symbols = k.symbols; numbered = k.numbered; values = all_set (IsValueOf nodes) store.values id.0 value k.values v; objects = k.objects }
-known_set nodes (Elem object i) value store v k = record { symbols = k.symbols; numbered = k.numbered; values = k.values; objects = element_set_known nodes i value store.objects object v k.objects }
-known_set nodes (Entry object i) value store v k = record { symbols = k.symbols; numbered = k.numbered; values = k.values; objects = entry_set_known nodes i value store.objects object v k.objects }
+known_set nodes (Var id) value store v k = record { symbols = k.symbols; numbered = k.numbered; values = all_set (IsValueOf nodes) store.values id.0 value k.values v; objects = k.objects; calls = k.calls }
+known_set nodes (Elem object i) value store v k = record { symbols = k.symbols; numbered = k.numbered; values = k.values; objects = element_set_known nodes i value store.objects object v k.objects; calls = k.calls }
+known_set nodes (Entry object i) value store v k = record { symbols = k.symbols; numbered = k.numbered; values = k.values; objects = entry_set_known nodes i value store.objects object v k.objects; calls = k.calls }
 
 -- a new store
 begins_known : IsKnown first_patterns new_contents
@@ -56,6 +56,7 @@ begins_known = record {
   numbered = new_numbered;
   values = (omega arith, (omega arith, (omega arith, (omega arith, (omega arith, (omega arith, (omega arith, (omega arith, (omega arith, tt)))))))));
   objects = tt;
+  calls = tt;
 }
 
 pub new_known : (nodes : List Node) → nodes ≡ first_patterns → IsKnown nodes new_contents
@@ -65,6 +66,21 @@ new_known nodes is = subst (λ ns. IsKnown ns new_contents) (sym is) begins_know
 
 abbrev at_store : State → Contents → List ℕ → World
 at_store a store more = world (record a { store = store }) more
+
+-- a name that joins leaves the calls as they are
+joined_calls : (name : List ℕ) (c : Contents) → (with_symbol name c).calls ≡ c.calls
+joined_calls name c = by (is_symbol name c.symbols)
+  where
+    by : (b : Bool) → (if b then c else record c { symbols = c.symbols ++ name ∷ []; values = c.values ++ stored.Str [] ∷ [] }).calls ≡ c.calls
+    by true = refl
+    by false = refl
+
+-- a store with the same calls changes nothing that evaluation leaves
+pub calls_untouched : (a : State) (new : Contents) → new.calls ≡ a.store.calls → untouched (record a { store = new }) ≡ untouched a
+calls_untouched a new same = λ i. (a.reading, a.keywords, same i)
+
+pub store_untouched : (a : State) (new : Contents) → new ≡ a.store → untouched (record a { store = new }) ≡ untouched a
+store_untouched a new same = calls_untouched a new (ap (λ (c : Contents). c.calls) same)
 
 abbrev number_given : Bool → Bool → ℕ → ℕ → Result ℕ StoreError
 number_given found full k n = if found then Ok k else (if full then Err Full else Ok n)
@@ -89,7 +105,7 @@ named a new (byte ∷ bytes) id short h = record {
   grows = grows_none a.nodes;
   meets = λ more. rw (le-ltb 1_000_000 (length (byte ∷ bytes)) short) (joined_by (is_symbol (byte ∷ bytes) a.store.symbols) (length a.store.symbols == 1_000_000) (byte ∷ bytes) a new id (place (byte ∷ bytes) a.store.symbols) more h.0 h.1);
   answer = tt;
-  unread = refl;
+  unread = calls_untouched a new (ap (λ (c : Contents). c.calls) h.1 ∙ joined_calls (byte ∷ bytes) a.store);
 }
 
 full_by : (found full : Bool) (name : List ℕ) (w : World) (k n : ℕ) (e : StoreError) → number_given found full k n ≡ Err e
@@ -98,15 +114,15 @@ full_by true full name w k n e is = absurd (cc is)
 full_by false true name w k n e is = let same : Full ≡ e = cc is in (sym same, refl)
 full_by false false name w k n e is = absurd (cc is)
 
-refused_full : (a : State) (new : Contents) (name : List ℕ) → length name ≤ 1_000_000 → joining name a.store.symbols ≡ Err Full → Does {X = Target} itself any (variable_named name) a (record a { store = new }) (Err (exit_of_store Full))
-refused_full a new [] short is = absurd (cc is)
-refused_full a new (byte ∷ bytes) short is =
+refused_full : (a : State) (new : Contents) (name : List ℕ) → length name ≤ 1_000_000 → joining name a.store.symbols ≡ Err Full → new ≡ a.store → Does {X = Target} itself any (variable_named name) a (record a { store = new }) (Err (exit_of_store Full))
+refused_full a new [] short is same = absurd (cc is)
+refused_full a new (byte ∷ bytes) short is same =
     let is_full : (more : List ℕ) → _ = λ more. full_by (is_symbol (byte ∷ bytes) a.store.symbols) (length a.store.symbols == 1_000_000) (byte ∷ bytes) (world a more) (place (byte ∷ bytes) a.store.symbols) (length a.store.symbols) Full is in
-    record { grows = grows_none a.nodes; meets = λ more. rw (le-ltb 1_000_000 (length (byte ∷ bytes)) short) (ap (λ (o : Outcome Target). o.ending) (is_full more).1, ap (λ (o : Outcome Target). o.wrote) (is_full more).1); answer = tt; unread = refl }
+    record { grows = grows_none a.nodes; meets = λ more. rw (le-ltb 1_000_000 (length (byte ∷ bytes)) short) (ap (λ (o : Outcome Target). o.ending) (is_full more).1, ap (λ (o : Outcome Target). o.wrote) (is_full more).1); answer = tt; unread = store_untouched a new same }
 
-refused_null : (a : State) (new : Contents) (name : List ℕ) → joining name a.store.symbols ≡ Err NullName → Does {X = Target} itself any (variable_named name) a (record a { store = new }) (Err (exit_of_store NullName))
-refused_null a new [] is = record { grows = grows_none a.nodes; meets = λ more. (refl, refl); answer = tt; unread = refl }
-refused_null a new (byte ∷ bytes) is =
+refused_null : (a : State) (new : Contents) (name : List ℕ) → joining name a.store.symbols ≡ Err NullName → new ≡ a.store → Does {X = Target} itself any (variable_named name) a (record a { store = new }) (Err (exit_of_store NullName))
+refused_null a new [] is same = record { grows = grows_none a.nodes; meets = λ more. (refl, refl); answer = tt; unread = store_untouched a new same }
+refused_null a new (byte ∷ bytes) is same =
     let none = full_by (is_symbol (byte ∷ bytes) a.store.symbols) (length a.store.symbols == 1_000_000) (byte ∷ bytes) (world a []) (place (byte ∷ bytes) a.store.symbols) (length a.store.symbols) NullName is in absurd (cc none.0)
 
 -- a name that isn't given is null, or the symbols are full
@@ -120,11 +136,12 @@ named_or_full (byte ∷ bytes) c e is null full = by (is_symbol (byte ∷ bytes)
     by false false is = cc is
 
 pub not_named : (a : State) (new : Contents) (name : List ℕ) (e : StoreError) → length name ≤ 1_000_000 → IsJoined name a.store new (Err e) → Does {X = Target} itself any (variable_named name) a (record a { store = new }) (Err (exit_of_store e))
-not_named a new name NullName short h = refused_null a new name h.0
-not_named a new name Full short h = refused_full a new name short h.0
+not_named a new name NullName short h = refused_null a new name h.0 h.1
+not_named a new name Full short h = refused_full a new name short h.0 h.1
 not_named a new name WrongType short h = absurd (named_or_full name a.store WrongType h.0 (λ e. cc e) (λ e. cc e))
 not_named a new name BadPrototype short h = absurd (named_or_full name a.store BadPrototype h.0 (λ e. cc e) (λ e. cc e))
-not_named a new name NoMemory short h = no_memory_does itself any (variable_named name) a (record a { store = new }) (grows_none a.nodes) refl
+not_named a new name CallLevel short h = absurd (named_or_full name a.store CallLevel h.0 (λ e. cc e) (λ e. cc e))
+not_named a new name NoMemory short h = no_memory_does itself any (variable_named name) a (record a { store = new }) (grows_none a.nodes) (store_untouched a new h)
 
 -- a name that was found before
 pub found_again : (s : State) (name : List ℕ) (id : SymId) → IsKnown s.nodes s.store → 0 < length name → slice_index_or s.store.symbols id.0 [] ≡ name → Does itself any (variable_named name) s s (Ok (Var id))
@@ -181,3 +198,8 @@ pub set_seen : (s : State) (name : Target) (value : Stored) (more : List ℕ) �
 set_seen s (Var id) value more = ap (λ vs. record (world s more) { values = vs }) (map-set (shown s.nodes) s.store.values id.0 value)
 set_seen s (Elem object i) value more = ap (λ os. record (world s more) { objects = os }) (sym (element_set (shown s.nodes) i value s.store.objects object))
 set_seen s (Entry object i) value more = ap (λ os. record (world s more) { objects = os }) (sym (entry_set (shown s.nodes) i value s.store.objects object))
+
+pub set_untouched : (s : State) (name : Target) (value : Stored) → untouched (record s { store = with_stored name value s.store }) ≡ untouched s
+set_untouched s (Var id) value = refl
+set_untouched s (Elem object i) value = refl
+set_untouched s (Entry object i) value = refl

@@ -3,7 +3,7 @@ use Rattle.std.specs.Prelude.{ℕ, List, [], ◌∷◌, Option, Some, None, code
 use Rattle.std.specs.Str.{bytes_eq}
 use Rattle.sno_value.specs.declared.kind.PrimitiveKind.TheVariants.{Len, Pos, Rpos, Tab, Rtab, Any, NotAny, Span, Break}
 use Rattle.sno_machine.specs.declared.builtins.Builtin.{Builtin}
-use Rattle.sno_machine.specs.declared.builtins.Builtin.TheVariants.{Primitive, Arbno, Convert, MakeArray, MakeTable, Prototype, Plain, Later}
+use Rattle.sno_machine.specs.declared.builtins.Builtin.TheVariants.{Primitive, Arbno, Convert, MakeArray, MakeTable, Prototype, Define, Plain}
 use Rattle.sno_machine.specs.declared.builtins.Conversion.{Conversion}
 use Rattle.sno_machine.specs.declared.builtins.Conversion.TheVariants.{ToString, ToInteger, ToPattern, ToArray}
 use Rattle.sno_machine.specs.declared.builtins.Plain.TheVariants.{Compare, Remdr, Ident, Differ, Lgt, Integer, Size, Trim, Dupl, Replace, Datatype}
@@ -33,10 +33,10 @@ text_functions =
     (codes "IDENT", Plain Ident) ∷ (codes "DIFFER", Plain Differ) ∷ (codes "LGT", Plain Lgt) ∷ (codes "INTEGER", Plain Integer) ∷ (codes "SIZE", Plain Size)
     ∷ (codes "TRIM", Plain Trim) ∷ (codes "DUPL", Plain Dupl) ∷ (codes "REPLACE", Plain Replace) ∷ (codes "DATATYPE", Plain Datatype) ∷ []
 
--- the functions of arrays and tables, and DEFINE, which is still to come
+-- the functions of arrays and tables, and DEFINE
 abbrev pub object_functions : List (List ℕ × Builtin)
 object_functions =
-    (codes "CONVERT", Convert) ∷ (codes "ARRAY", MakeArray) ∷ (codes "TABLE", MakeTable) ∷ (codes "PROTOTYPE", Prototype) ∷ (codes "DEFINE", Later) ∷ []
+    (codes "CONVERT", Convert) ∷ (codes "ARRAY", MakeArray) ∷ (codes "TABLE", MakeTable) ∷ (codes "PROTOTYPE", Prototype) ∷ (codes "DEFINE", Define) ∷ []
 
 -- the types to which CONVERT converts
 abbrev pub conversions : List (List ℕ × Conversion)

@@ -4,7 +4,7 @@ use Rattle.sno_value.specs.declared.value.Value.{Value as Stored}
 use Rattle.sno_value.specs.declared.value.Value.TheVariants.{Str, Int}
 use Rattle.sno_machine.specs.declared.machine.Exit.{Exit}
 use Rattle.sno_machine.specs.declared.machine.Exit.TheVariants.{Failure, Halt}
-use Rattle.sno_machine.specs.declared.machine.Stop.TheVariants.{Error as HasError, NoMemory, ReadFault, WriteFault}
+use Rattle.sno_machine.specs.declared.machine.Stop.TheVariants.{Error as HasError, ErrorIn as HasErrorIn, NoMemory, ReadFault, WriteFault, Ended as HasEnded}
 
 -- a string or an integer
 abbrev pub has_text : Stored → Bool
@@ -17,6 +17,8 @@ abbrev pub IsThere : {X A : Type 0} → (X → A) → Option A → Result X Exit
 IsThere see o (Ok x) = o ≡ Some (see x)
 IsThere see o (Err Failure) = ⊥
 IsThere see o (Err (Halt (HasError code))) = (o ≡ None) × (code ≡ 1)
+IsThere see o (Err (Halt (HasErrorIn code statement))) = ⊥
 IsThere see o (Err (Halt NoMemory)) = Unit {0}
 IsThere see o (Err (Halt ReadFault)) = ⊥
 IsThere see o (Err (Halt WriteFault)) = ⊥
+IsThere see o (Err (Halt HasEnded)) = ⊥

@@ -7,8 +7,9 @@ pub mod Keywords
 pub mod Numbers
 pub mod Functions
 pub mod Containers
-pub mod Operators
 pub mod State
+pub mod Calls
+pub mod Operators
 pub mod Lines
 pub mod Session
 pub mod Performs

@@ -5,7 +5,7 @@ use Rattle.std.specs.declared.vec.Vec.{Vec}
 use Rattle.std.specs.Io.KnownBytes.{Appends}
 use Rattle.sno_io.specs.Devices.{Begins}
 use Rattle.sno_machine.specs.declared.machine.Stop.{Stop}
-use Rattle.sno_machine.specs.declared.machine.Stop.TheVariants.{Error as HasError, NoMemory, ReadFault, WriteFault}
+use Rattle.sno_machine.specs.declared.machine.Stop.TheVariants.{Error as HasError, ErrorIn as HasErrorIn, NoMemory, ReadFault, WriteFault, Ended as HasEnded}
 use Rattle.sno_machine.specs.World.{World}
 use Rattle.sno_machine.specs.Action.{Error, Got, Stops, Outcome, Action}
 use Rattle.sno_machine.specs.State.{State, world, untouched}
@@ -14,9 +14,11 @@ use Rattle.sno_machine.specs.State.{State, world, untouched}
 abbrev pub Ends : Outcome Unit → World → List ℕ → Result Unit Stop → Type 0
 Ends o after wrote (Ok done) = o ≡ record { ending = Got tt; world = after; wrote = wrote }
 Ends o after wrote (Err (HasError code)) = (o.ending ≡ Stops (Error code)) × (o.wrote ≡ wrote)
+Ends o after wrote (Err (HasErrorIn code statement)) = ⊥
 Ends o after wrote (Err NoMemory) = Begins wrote o.wrote
 Ends o after wrote (Err ReadFault) = ⊥
 Ends o after wrote (Err WriteFault) = Begins wrote o.wrote
+Ends o after wrote (Err HasEnded) = ⊥
 
 -- The code did what the action does, where the writer had taken `taken` and then `now`.
 pub record Performs (act : Action Unit) (before after : State) (taken now : Option (List ℕ)) (result : Result Unit Stop) : Type 0 where
@@ -30,6 +32,8 @@ abbrev pub IsLineOf : Option (List ℕ) → Result (Vec ℕ Global) Stop → Typ
 IsLineOf None (Ok line) = ⊥
 IsLineOf (Some bytes) (Ok line) = line.items ≡ bytes ++ codes "\n"
 IsLineOf o (Err (HasError code)) = (o ≡ None) × (code ≡ 1)
+IsLineOf o (Err (HasErrorIn code statement)) = ⊥
 IsLineOf o (Err NoMemory) = Unit {0}
 IsLineOf o (Err ReadFault) = ⊥
 IsLineOf o (Err WriteFault) = ⊥
+IsLineOf o (Err HasEnded) = ⊥

@@ -20,7 +20,7 @@ use Rattle.sno_machine.specs.Variables.{line_kept}
 use Rattle.sno_machine.specs.Values.{shown, shown_objects, IsValueOf, IsObjectOf}
 use Rattle.sno_machine.specs.declared.machine.Exit.{Exit}
 use Rattle.sno_machine.specs.declared.machine.Exit.TheVariants.{Failure, Halt}
-use Rattle.sno_machine.specs.declared.machine.Stop.TheVariants.{Error as HasError, NoMemory, ReadFault, WriteFault}
+use Rattle.sno_machine.specs.declared.machine.Stop.TheVariants.{Error as HasError, ErrorIn as HasErrorIn, NoMemory, ReadFault, WriteFault, Ended as HasEnded}
 use Rattle.std.specs.Io.KnownBytes.{Consumes}
 use Rattle.sno_io.specs.Lines.{Reading}
 use Rattle.sno_machine.specs.World.{World, Keywords}
@@ -38,23 +38,27 @@ new_state keywords = record { nodes = first_patterns; store = new_contents; read
 
 -- the world that a state shows, where `more` input may come behind what is held
 abbrev pub world : State → List ℕ → World
-world s more = record { nodes = length s.nodes; symbols = s.store.symbols; values = map (shown s.nodes) s.store.values; objects = shown_objects s.nodes s.store.objects; input = s.reading.held ++ more; keywords = s.keywords }
+world s more = record { nodes = length s.nodes; symbols = s.store.symbols; values = map (shown s.nodes) s.store.values; objects = shown_objects s.nodes s.store.objects; definitions = s.store.definitions; level = length s.store.calls; input = s.reading.held ++ more; keywords = s.keywords }
 
--- No symbol has more than 1,000,000 bytes, and each stands once; the values are of this table.
+-- No symbol has more than 1,000,000 bytes, and each stands once; the values are of this table, those that calls have saved
+-- too.
 pub record IsKnown (nodes : List Node) (store : Contents) : Type 0 where
   pub symbols : AllByRecursion (λ symbol. length symbol ≤ 1_000_000) store.symbols
   pub numbered : (i : ℕ) → i < length store.symbols → place (slice_index_or store.symbols i []) store.symbols ≡ i
   pub values : AllByRecursion (IsValueOf nodes) store.values
   pub objects : AllByRecursion (IsObjectOf nodes) store.objects
+  pub calls : AllByRecursion (AllByRecursion (λ saved. IsValueOf nodes saved.1)) store.calls
 
 -- how what the code answers meets the outcome of an action that writes nothing
 abbrev pub Meets : {X A : Type 0} → (X → A) → Outcome A → World → Result X Exit → Type 0
 Meets see o after (Ok x) = o ≡ record { ending = Got (see x); world = after; wrote = [] }
 Meets see o after (Err Failure) = o ≡ record { ending = Fails; world = after; wrote = [] }
 Meets see o after (Err (Halt (HasError code))) = (o.ending ≡ Stops (Error code)) × (o.wrote ≡ [])
+Meets see o after (Err (Halt (HasErrorIn code statement))) = ⊥
 Meets see o after (Err (Halt NoMemory)) = Unit {0}
 Meets see o after (Err (Halt ReadFault)) = ⊥
 Meets see o after (Err (Halt WriteFault)) = ⊥
+Meets see o after (Err (Halt HasEnded)) = ⊥
 
 -- the nodes of a table that has grown
 abbrev pub Grows : List Node → List Node → Type 0
@@ -69,13 +73,15 @@ abbrev pub MeetsReading : {X A : Type 0} → (X → A) → Outcome A → World �
 MeetsReading see o after (Ok x) = Meets see o after (Ok x)
 MeetsReading see o after (Err Failure) = Meets see o after (Err Failure)
 MeetsReading see o after (Err (Halt (HasError code))) = Meets see o after (Err (Halt (HasError code)))
+MeetsReading see o after (Err (Halt (HasErrorIn code statement))) = ⊥
 MeetsReading see o after (Err (Halt NoMemory)) = Unit {0}
 MeetsReading see o after (Err (Halt ReadFault)) = Unit {0}
 MeetsReading see o after (Err (Halt WriteFault)) = ⊥
+MeetsReading see o after (Err (Halt HasEnded)) = ⊥
 
--- what evaluation leaves as it is: the input, where nothing is read, and the keywords
-abbrev pub untouched : State → Reading × Keywords
-untouched s = (s.reading, s.keywords)
+-- what evaluation leaves as it is: the input, where nothing is read, the keywords, and the calls that are open
+abbrev pub untouched : State → Reading × Keywords × List (List (ℕ × Stored))
+untouched s = (s.reading, s.keywords, s.store.calls)
 
 -- The code did what the action does, and read nothing. `see` says which value an answer stands for, and `fits` what holds
 -- of it, in the table after.
@@ -111,9 +117,11 @@ abbrev pub HasCause : {X : Type 0} → Result X Exit → Feed → Type 0
 HasCause (Ok x) f = Unit {0}
 HasCause (Err Failure) f = Unit {0}
 HasCause (Err (Halt (HasError code))) f = Unit {0}
+HasCause (Err (Halt (HasErrorIn code statement))) f = Unit {0}
 HasCause (Err (Halt NoMemory)) f = Unit {0}
 HasCause (Err (Halt ReadFault)) f = f.broken ≡ true
 HasCause (Err (Halt WriteFault)) f = Unit {0}
+HasCause (Err (Halt HasEnded)) f = Unit {0}
 
 -- The code did what the action does, for whatever input may still come behind what the reader gave; nothing comes once
 -- the end was told.
@@ -125,6 +133,7 @@ pub record Reads {X A : Type 0} (see : List Node → X → A) (fits : List Node 
   pub meets : (more : List ℕ) → (after.reading.told_end ≡ true → more ≡ []) → MeetsReading (see after.nodes) (act (world before (given ++ more))) (world after more) result
   pub answer : OnAnswer (fits after.nodes) result
   pub kept : after.keywords ≡ before.keywords
+  pub calls : after.store.calls ≡ before.store.calls
   pub tells : after.reading.told_end ≡ true → new.at_end ≡ true
   pub ready : OnGoing result (IsReady after new)
   pub cause : HasCause result new
@@ -155,6 +164,7 @@ exit_of_store store_refusal.NullName = Halt (HasError 6)
 exit_of_store store_refusal.Full = Halt (HasError 9)
 exit_of_store store_refusal.WrongType = Halt (HasError 1)
 exit_of_store store_refusal.BadPrototype = Halt (HasError 12)
+exit_of_store store_refusal.CallLevel = Halt (HasError 10)
 exit_of_store store_refusal.NoMemory = Halt NoMemory
 
 -- what the answer of the input is to a program, whose &TRIM is given

@@ -1,7 +1,8 @@
 -- What a program can change, as far as its forms reach today.
-use Rattle.std.specs.Prelude.{ℕ, ℤ, pos, Bool, if◌then◌else◌, List, [], ◌∷◌, codes}
+use Rattle.std.specs.Prelude.{ℕ, ℤ, pos, Bool, if◌then◌else◌, List, [], ◌∷◌, codes, Option}
 use Rattle.sno_pattern.specs.Pattern.{Arb, Bal, Rem, Fail, Leaf, Fence, Abort, Succeed}
 use Rattle.sno_store.specs.Objects.{Object}
+use Rattle.sno_store.specs.Definitions.{Definition}
 use Rattle.sno_machine.specs.Values.{Value, Str, Pat}
 
 -- the keywords that the program sets, and those that count
@@ -27,6 +28,10 @@ pub record World : Type 0 where
   pub values : List Value
   -- the arrays and tables, by their numbers
   pub objects : List (Object Value)
+  -- the definitions of functions, by the numbers of their symbols
+  pub definitions : List (Option Definition)
+  -- how many calls are open
+  pub level : ℕ
   -- the bytes of the input that are left
   pub input : List ℕ
   pub keywords : Keywords
@@ -43,6 +48,8 @@ new_world input keywords =
       symbols = codes "ARB" ∷ codes "BAL" ∷ codes "REM" ∷ codes "FAIL" ∷ codes "FENCE" ∷ codes "ABORT" ∷ codes "SUCCEED" ∷ codes "INPUT" ∷ codes "OUTPUT" ∷ [];
       values = Pat (Leaf Arb) ∷ Pat (Leaf Bal) ∷ Pat (Leaf Rem) ∷ Pat (Leaf Fail) ∷ Pat Fence ∷ Pat Abort ∷ Pat Succeed ∷ Str [] ∷ Str [] ∷ [];
       objects = [];
+      definitions = [];
+      level = 0;
       input = input;
       keywords = keywords;
     }

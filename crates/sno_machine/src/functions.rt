@@ -5,6 +5,7 @@ ghost use Rattle.sno_value.specs.Kind.{takes_count};
 ghost use Rattle.sno_pattern.specs.Table.{Node};
 ghost use Rattle.sno_machine.specs.Values.{shown, IsValueOf};
 ghost use Rattle.sno_machine.specs.Operators.{answer, argument, called, count_primitive, primitive, primitive_value, repetition, set_primitive};
+ghost use Rattle.sno_machine.specs.Calls.{define};
 ghost use Rattle.sno_machine.specs.Numbers.{number_of};
 ghost use Rattle.sno_machine.specs.Functions.{plain};
 ghost use Rattle.sno_machine.specs.Variables.{text_of};
@@ -12,8 +13,8 @@ ghost use Rattle.sno_machine.specs.State.{State, Does, tree_of, IsPatternOf};
 
 use crate::builtins::{Builtin, Plain};
 use crate::containers::{array, convert, prototype, table};
-use crate::convert::{as_pattern, number_of, text_of};
-use crate::machine::{Exit, LATER, Machine, UNDEFINED_FUNCTION, error};
+use crate::convert::{as_pattern, null, number_of, text_of};
+use crate::machine::{Exit, Machine, UNDEFINED_FUNCTION, error};
 use crate::numbers::{comparison, remainder};
 use crate::texts::{copies, is_after, replaced, size, trimmed};
 use crate::types::{datatype, differ, ident, integer};
@@ -32,7 +33,6 @@ pub fn called(
 {
     match function {
         None => Err(error(UNDEFINED_FUNCTION)),
-        Some(Builtin::Later) => Err(error(LATER)),
         Some(Builtin::Primitive(prim)) => {
             let operand = argument(machine.alloc(), operands, 0);
             primitive_value(machine, prim, operand)
@@ -55,6 +55,11 @@ pub fn called(
         Some(Builtin::Prototype) => {
             let a = argument(machine.alloc(), operands, 0);
             prototype(machine, &a)
+        }
+        Some(Builtin::Define) => {
+            let p = argument(machine.alloc(), operands, 0);
+            let e = argument(machine.alloc(), operands, 1);
+            define(machine, p, e)
         }
         Some(Builtin::Plain(function)) => {
             let alloc = machine.alloc();
@@ -151,6 +156,16 @@ fn set_primitive(machine: &mut Machine, prim: Prim, operand: Value) -> Result<Pa
     let set = text_of(machine.alloc(), operand)?;
     let id = machine.prim(prim, Arg::Set(&set))?;
     Ok(id)
+}
+
+/// DEFINE(P,E).
+fn define(machine: &mut Machine, prototype: Value, entry: Value) -> Result<Value, Exit>
+    ensures { Does shown IsValueOf (define (shown machine.old.nodes prototype) (shown machine.old.nodes entry)) machine.old machine.new result }
+{
+    let prototype = text_of(machine.alloc(), prototype)?;
+    let entry = text_of(machine.alloc(), entry)?;
+    machine.define(&prototype, &entry)?;
+    Ok(null(machine.alloc()))
 }
 
 /// ARBNO(P).

@@ -74,9 +74,9 @@ impl Keywords {
         self.steps
     }
 
-    /// The keyword with a name that is a number.
-    pub fn number(&self, name: &[u8]) -> Option<i64>
-        ensures { result ≡ found name.now (keyword_numbers self.now) }
+    /// The keyword with a name that is a number, where `level` calls are open.
+    pub fn number(&self, name: &[u8], level: u32) -> Option<i64>
+        ensures { result ≡ found name.now (keyword_numbers level self.now) }
     {
         if name == b"ANCHOR".as_slice() {
             Some(self.anchor)
@@ -89,7 +89,7 @@ impl Keywords {
         } else if name == b"STNO".as_slice() {
             Some(i64::from(self.statement))
         } else if name == b"FNCLEVEL".as_slice() {
-            Some(0)
+            Some(i64::from(level))
         } else if name == b"FULLSCAN".as_slice() {
             Some(1)
         } else if name == b"MAXLNGTH".as_slice() {
@@ -125,6 +125,20 @@ impl Keywords {
         }
         self.limit = number as u64;
         true
+    }
+
+    /// `&STNO`.
+    pub fn statement(&self) -> u32
+        ensures { result ≡ self.now.statement }
+    {
+        self.statement
+    }
+
+    /// Sets `&STNO` back to the statement that goes on.
+    pub fn set_statement(&mut self, statement: u32)
+        ensures { self.new ≡ record self.old { statement = statement } }
+    {
+        self.statement = statement;
     }
 
     /// Begins a statement, where fewer have begun than may.

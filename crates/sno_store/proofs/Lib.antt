@@ -1,4 +1,8 @@
+pub mod CallLaws
+pub mod DefineLaws
 pub mod EntryLaws
+pub mod FunctionLaws
+pub mod NameLaws
 pub mod ObjectLaws
 pub mod Places
 pub mod Prototypes

@@ -1,5 +1,5 @@
 -- The list of objects, beside the list that is kept.
-use Rattle.std.proofs.Common.{◌≡◌, ℕ, zero, suc, ◌+◌, ◌<◌, ◌≤◌, ◌==◌, Bool, true, false, if◌then◌else◌, List, [], ◌∷◌, ◌++◌, length, map, set, get_or, slice_get, option_map, unwrap_or, Option, None, Some, Result, Ok, Err, IsErrAnd, refl, sym, ap, subst, ◌∙◌, arith}
+use Rattle.std.proofs.Common.{◌≡◌, ℕ, zero, suc, ◌<◌, ◌≤◌, ◌==◌, Bool, true, false, if◌then◌else◌, List, [], ◌∷◌, ◌++◌, length, map, set, get_or, slice_get, option_map, unwrap_or, Option, None, Some, Result, Ok, Err, IsErrAnd, refl, sym, ap, subst, ◌∙◌, arith}
 use Rattle.std.proofs.lemmas.Option.{unwrap_or-slice_get, slice_get-map, slice_get-get_or}
 use Rattle.std.proofs.lemmas.List.{set-get_or}
 use Rattle.sno_value.specs.declared.ids.ObjId.{ObjId}
@@ -8,10 +8,10 @@ use Rattle.sno_value.specs.declared.value.Name.TheVariants.{Entry}
 use Rattle.sno_value.specs.declared.value.Value.{Value}
 use Rattle.sno_value.specs.declared.value.Value.TheVariants.{Str}
 use Rattle.sno_store.specs.declared.error.StoreError.{StoreError}
-use Rattle.sno_store.specs.declared.error.StoreError.TheVariants.{NullName, Full, WrongType, BadPrototype, NoMemory}
+use Rattle.sno_store.specs.declared.error.StoreError.TheVariants.{NullName, Full, WrongType, BadPrototype, CallLevel, NoMemory}
 use Rattle.sno_store.specs.declared.object.Object.{Object as Kept}
 use Rattle.sno_store.specs.declared.object.Object.TheVariants.{Array, Table}
-use Rattle.sno_store.specs.Objects.{Elements, Object, ArrayOf, TableOf, as_array, as_table, table_at, element_value, entry_value, changed_at, changed}
+use Rattle.sno_store.specs.Objects.{Elements, Object, ArrayOf, TableOf, as_table, element_value, entry_value, changed_at, changed}
 use Rattle.sno_store.specs.Outcomes.{IsError}
 use Rattle.sno_store.specs.Seen.{seen, Does, with_key, IsEntry}
 use Rattle.sno_store.specs.Stored.{is_key, stored_notions}
@@ -82,11 +82,13 @@ module _ (id : ObjId) (key : Value) (objects : List (Object Value)) (entries new
   refused_new true Full h = refl
   refused_new true WrongType h = absurd (cc)
   refused_new true BadPrototype h = absurd (cc)
+  refused_new true CallLevel h = absurd (cc)
   refused_new true NoMemory h = tt
   refused_new false NullName h = absurd (cc)
   refused_new false Full h = absurd (cc)
   refused_new false WrongType h = absurd (cc)
   refused_new false BadPrototype h = absurd (cc)
+  refused_new false CallLevel h = absurd (cc)
   refused_new false NoMemory h = tt
 
   made : (place : Option ℕ) (n : ℕ) → with_key key entries place ≡ Ok (n, new)
@@ -101,6 +103,7 @@ module _ (id : ObjId) (key : Value) (objects : List (Object Value)) (entries new
   refused (Some k) Full h = absurd (cc)
   refused (Some k) WrongType h = absurd (cc)
   refused (Some k) BadPrototype h = absurd (cc)
+  refused (Some k) CallLevel h = absurd (cc)
   refused (Some k) NoMemory h = tt
   refused None refusal h = refused_new (length entries == 1_000_000) refusal h
 

@@ -1,6 +1,5 @@
 -- What a store holds, and what its calls do with that.
-use Rattle.std.specs.Prelude.{◌≡◌, ℕ, suc, ◌==◌, nat_lt, Bool, List, [], ◌∷◌, ◌++◌, codes, length, slice_index_or, slice_set, Result, Ok, Err, if◌then◌else◌}
-use Rattle.std.specs.Str.{bytes_eq}
+use Rattle.std.specs.Prelude.{◌≡◌, ℕ, ◌==◌, List, [], ◌∷◌, ◌++◌, codes, length, slice_index_or, slice_set, Option, Result, Ok, Err, if◌then◌else◌}
 use Rattle.sno_value.specs.declared.ids.SymId.{SymId}
 use Rattle.sno_value.specs.declared.value.Name.{Name}
 use Rattle.sno_value.specs.declared.value.Name.TheVariants.{Var, Elem, Entry}
@@ -8,6 +7,8 @@ use Rattle.sno_value.specs.declared.value.Value.{Value}
 use Rattle.sno_value.specs.declared.value.Value.TheVariants.{Str, Pat}
 use Rattle.sno_store.specs.declared.error.StoreError.{StoreError}
 use Rattle.sno_store.specs.declared.error.StoreError.TheVariants.{NullName, Full, NoMemory}
+use Rattle.sno_store.specs.Definitions.{Definition}
+pub use Rattle.sno_store.specs.Names.{place, is_symbol}
 use Rattle.sno_store.specs.Objects.{Object, array_at, table_at, element_value, entry_value, with_element, with_entry_value, changed}
 
 -- What a store holds.
@@ -18,14 +19,10 @@ pub record Contents : Type 0 where
   pub values : List Value
   -- the arrays and tables, by their numbers
   pub objects : List (Object Value)
-
--- the number of a name: how many symbols stand before it, all of them where it is none
-abbrev pub place : List ℕ → List (List ℕ) → ℕ
-place name [] = 0
-place name (symbol ∷ symbols) = if bytes_eq name symbol then 0 else suc (place name symbols)
-
-abbrev pub is_symbol : List ℕ → List (List ℕ) → Bool
-is_symbol name symbols = nat_lt (place name symbols) (length symbols)
+  -- the definitions of functions, by the numbers of their symbols; there is none behind the list's end
+  pub definitions : List (Option Definition)
+  -- what the open calls have saved, the innermost call last: the symbols, each with the value that its variable had
+  pub calls : List (List (ℕ × Value))
 
 -- the number that a name is given, or why it is refused
 abbrev pub joining : List ℕ → List (List ℕ) → Result ℕ StoreError
@@ -64,4 +61,6 @@ new_contents = record {
   symbols = codes "ARB" ∷ codes "BAL" ∷ codes "REM" ∷ codes "FAIL" ∷ codes "FENCE" ∷ codes "ABORT" ∷ codes "SUCCEED" ∷ codes "INPUT" ∷ codes "OUTPUT" ∷ [];
   values = pattern 0 ∷ pattern 1 ∷ pattern 2 ∷ pattern 3 ∷ pattern 4 ∷ pattern 5 ∷ pattern 6 ∷ Str [] ∷ Str [] ∷ [];
   objects = [];
+  definitions = [];
+  calls = [];
 }

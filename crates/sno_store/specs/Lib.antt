@@ -3,8 +3,11 @@ pub use Rattle.sno_value.specs.Kind
 pub use Rattle.sno_pattern.specs.Pattern
 pub use Rattle.sno_pattern.specs.Table
 pub mod Arrays
+pub mod Calls
 pub mod Contents
+pub mod Definitions
 pub mod First
+pub mod Names
 pub mod Objects
 pub mod Outcomes
 pub mod Seen

@@ -1,9 +1,13 @@
--- What a call on arrays and tables did, beside what is meant: a value, or the number of an error.
-use Rattle.std.specs.Prelude.{◌≡◌, ℕ, List, Result, Ok, Err}
+-- What a call did, beside what is meant: a value, or the number of an error.
+use Rattle.std.specs.Prelude.{◌≡◌, ◌<◌, ℕ, ◌-◌, List, [], ◌∷◌, ◌++◌, length, replicate, Result, Ok, Err}
+use Rattle.sno_value.specs.declared.ids.SymId.{SymId}
 use Rattle.sno_value.specs.declared.value.Value.{Value}
+use Rattle.sno_value.specs.declared.value.Value.TheVariants.{Str}
 use Rattle.sno_store.specs.declared.error.StoreError.{StoreError}
-use Rattle.sno_store.specs.declared.error.StoreError.TheVariants.{NullName, Full, WrongType, BadPrototype, NoMemory}
+use Rattle.sno_store.specs.declared.error.StoreError.TheVariants.{NullName, Full, WrongType, BadPrototype, CallLevel, NoMemory}
+use Rattle.sno_store.specs.Calls.{saved, entered}
 use Rattle.sno_store.specs.Contents.{Contents}
+use Rattle.sno_store.specs.Definitions.{Definition, with_definition}
 use Rattle.sno_store.specs.Objects.{Object}
 
 -- the error that is meant is told by its name; that memory was refused says nothing of what is meant
@@ -12,6 +16,7 @@ IsError meant NullName = meant ≡ Err 6
 IsError meant Full = meant ≡ Err 9
 IsError meant WrongType = meant ≡ Err 1
 IsError meant BadPrototype = meant ≡ Err 12
+IsError meant CallLevel = meant ≡ Err 10
 IsError meant NoMemory = Unit {0}
 
 -- What a call did that asks for no memory and changes nothing; `see` says what an answer stands for.
@@ -27,3 +32,19 @@ IsDone see meant old new (Err refusal) = IsError (meant old.objects) refusal × 
 
 abbrev pub itself : {X : Type 0} → X → X
 itself x = x
+
+-- What DEFINE did: the names joined, the variables of the new ones begin with null, and the function has its definition.
+abbrev pub IsDefined : List ℕ → List ℕ → Contents → Contents → Result (Unit {0}) StoreError → Type 0
+IsDefined text entry old new (Ok done) =
+    (with_definition text entry old.symbols old.definitions ≡ Ok (new.symbols, new.definitions)) ×
+    (new ≡ record old { symbols = new.symbols; definitions = new.definitions; values = old.values ++ replicate (length new.symbols - length old.symbols) (Str []) })
+IsDefined text entry old new (Err refusal) = IsError (with_definition text entry old.symbols old.definitions) refusal × (new ≡ old)
+
+-- What the begin of a call of a function with this definition did. There are at most 200 open calls (this profile).
+abbrev pub IsEntered : SymId → Definition → List Value → Contents → Contents → Result (Unit {0}) StoreError → Type 0
+IsEntered function d arguments old new (Ok done) =
+    (length old.calls < 200) ×
+    (new ≡ record old { values = entered (Str []) function.0 d arguments old.values; calls = old.calls ++ saved (Str []) function.0 d old.values ∷ [] })
+IsEntered function d arguments old new (Err CallLevel) = (length old.calls ≡ 200) × (new ≡ old)
+IsEntered function d arguments old new (Err NoMemory) = new ≡ old
+IsEntered function d arguments old new (Err other) = ⊥

@@ -1,10 +1,13 @@
--- What private calls say of objects. Private contracts alone cite it.
-use Rattle.std.specs.Prelude.{◌≡◌, ℕ, ◌==◌, List, [], ◌∷◌, ◌++◌, length, Option, None, Some, Result, Ok, Err, if◌then◌else◌}
+-- What private calls say of objects, of calls and of prototypes. Private contracts alone cite it.
+use Rattle.std.specs.Prelude.{◌≡◌, ℕ, ◌==◌, List, [], ◌∷◌, ◌++◌, length, map, slice_index_or, slice_set, Option, None, Some, Result, Ok, Err, if◌then◌else◌}
+use Rattle.sno_value.specs.declared.ids.SymId.{SymId}
 use Rattle.sno_value.specs.declared.value.Value.{Value}
 use Rattle.sno_value.specs.declared.value.Value.TheVariants.{Str}
 use Rattle.sno_store.specs.declared.error.StoreError.{StoreError}
+use Rattle.sno_store.specs.declared.function_prototype.FunctionPrototype.{FunctionPrototype}
 use Rattle.sno_store.specs.declared.object.Object.{Object as Kept}
 use Rattle.sno_store.specs.declared.object.Object.TheVariants.{Array, Table}
+use Rattle.sno_store.specs.Definitions.{Prototype, listed}
 use Rattle.sno_store.specs.Objects.{Object, ArrayOf, TableOf}
 use Rattle.sno_store.specs.Outcomes.{IsError}
 use Rattle.sno_store.specs.Stored.{stored_notions}
@@ -30,3 +33,22 @@ with_key key entries None = if length entries == 1_000_000 then Err 9 else Ok (l
 abbrev pub IsEntry : Value → List (Value × Value) → List (Value × Value) → Result ℕ StoreError → Type 0
 IsEntry key old new (Ok place) = with_key key old (entry_place stored_notions key old) ≡ Ok (place, new)
 IsEntry key old new (Err refusal) = IsError (with_key key old (entry_place stored_notions key old)) refusal × (new ≡ old)
+
+-- what the parts of a prototype say
+abbrev pub prototype_seen : FunctionPrototype → Prototype
+prototype_seen p = record { function = p.function.now; formals = listed p.formals.now; locals = listed p.locals.now }
+
+-- Values are moved out of variables, which are null from then on: of a symbol that stands more than once, the value goes
+-- with the first.
+abbrev pub moved : List SymId → List Value → List (SymId × Value)
+moved [] values = []
+moved (symbol ∷ symbols) values = (symbol, slice_index_or values symbol.0 (Str [])) ∷ moved symbols (slice_set values symbol.0 (Str []))
+
+-- a symbol's value, wherever it stands
+abbrev pub known : ℕ → Value → List (ℕ × Value) → List (ℕ × Value)
+known symbol value ss = map (λ s. (s.0, if symbol == s.0 then value else s.1)) ss
+
+-- what was saved, each symbol with the value that went with the first of it
+abbrev pub saved_seen : List (SymId × Value) → List (ℕ × Value)
+saved_seen [] = []
+saved_seen (s ∷ ss) = (s.0.0, s.1) ∷ known s.0.0 s.1 (saved_seen ss)

@@ -1,7 +1,13 @@
 -- What private calls say of symbols and of the variables that join. Private contracts alone cite it.
-use Rattle.std.specs.Prelude.{ℕ, List, [], ◌∷◌, ◌++◌, codes, Option, Some, None, if◌then◌else◌}
+use Rattle.std.specs.Prelude.{◌≡◌, ℕ, ◌-◌, ◌<◌, ◌≤◌, List, [], ◌∷◌, ◌++◌, codes, length, map, replicate, take, Vec, Option, Some, None, Result, Ok, Err, if◌then◌else◌}
+use Rattle.std.specs.declared.alloc.Global.{Global}
+use Rattle.sno_value.specs.declared.ids.SymId.{SymId}
 use Rattle.sno_value.specs.declared.value.Value.{Value}
+use Rattle.sno_value.specs.declared.value.Value.TheVariants.{Str}
+use Rattle.sno_store.specs.declared.error.StoreError.{StoreError}
+use Rattle.sno_store.specs.declared.error.StoreError.TheVariants.{Full, NoMemory}
 use Rattle.sno_store.specs.Contents.{Contents, place, is_symbol, pattern}
+use Rattle.sno_store.specs.Definitions.{Prototype, names, with_names, definition, defined}
 
 -- the number of a name, if it is a symbol
 abbrev pub found : List ℕ → List (List ℕ) → Option ℕ
@@ -14,13 +20,15 @@ appended name value c = record c { symbols = c.symbols ++ name ∷ []; values = 
 -- a new store by stages: nothing, then with the variables of the patterns that search for an end, then with those of the
 -- patterns that steer the search
 abbrev pub no_contents : Contents
-no_contents = record { symbols = []; values = []; objects = [] }
+no_contents = record { symbols = []; values = []; objects = []; definitions = []; calls = [] }
 
 abbrev pub with_searches : Contents
 with_searches = record {
   symbols = codes "ARB" ∷ codes "BAL" ∷ codes "REM" ∷ codes "FAIL" ∷ [];
   values = pattern 0 ∷ pattern 1 ∷ pattern 2 ∷ pattern 3 ∷ [];
   objects = [];
+  definitions = [];
+  calls = [];
 }
 
 abbrev pub with_controls : Contents
@@ -28,4 +36,32 @@ with_controls = record {
   symbols = codes "ARB" ∷ codes "BAL" ∷ codes "REM" ∷ codes "FAIL" ∷ codes "FENCE" ∷ codes "ABORT" ∷ codes "SUCCEED" ∷ [];
   values = pattern 0 ∷ pattern 1 ∷ pattern 2 ∷ pattern 3 ∷ pattern 4 ∷ pattern 5 ∷ pattern 6 ∷ [];
   objects = [];
+  definitions = [];
+  calls = [];
 }
+
+-- nothing but some symbols more, whose variables begin with null
+pub record HasMore (old new : Contents) : Type 0 where
+  pub symbols : take (length old.symbols) new.symbols ≡ old.symbols
+  pub others : new ≡ record old { symbols = new.symbols; values = old.values ++ replicate (length new.symbols - length old.symbols) (Str []) }
+
+-- why names could not join: the symbols would be too many, or memory was refused
+abbrev pub AreTooMany : List (List ℕ) → List (List ℕ) → StoreError → Type 0
+AreTooMany ns symbols NoMemory = Unit {0}
+AreTooMany ns symbols Full = 1_000_000 < length (with_names ns symbols)
+AreTooMany ns symbols other = ⊥
+
+-- what the call that joins names did
+abbrev pub AreJoined : List (List ℕ) → Contents → Contents → Result (Vec SymId Global) StoreError → Type 0
+AreJoined ns old new (Ok numbers) =
+    (new.symbols ≡ with_names ns old.symbols) × HasMore old new × (map (λ id. id.0) numbers.items ≡ map (λ name. place name new.symbols) ns) × (length new.symbols ≤ 1_000_000)
+AreJoined ns old new (Err refusal) = AreTooMany ns old.symbols refusal × HasMore old new
+
+-- what the call that defines a function by the parts of its prototype did
+abbrev pub IsDefinedByParts : Prototype → List ℕ → Contents → Contents → Result (Unit {0}) StoreError → Type 0
+IsDefinedByParts p entry old new (Ok done) =
+    (new.symbols ≡ with_names (names p) old.symbols) ×
+    (length new.symbols ≤ 1_000_000) ×
+    HasMore old (record new { definitions = old.definitions }) ×
+    (new.definitions ≡ defined (place p.function new.symbols) (definition entry p new.symbols) old.definitions)
+IsDefinedByParts p entry old new (Err refusal) = AreTooMany (names p) old.symbols refusal × HasMore old new

@@ -13,6 +13,8 @@ pub enum StoreError {
     WrongType,
     /// A text is no prototype, or there are more or fewer subscripts than an array has dimensions (error 12).
     BadPrototype,
+    /// There are 200 open calls (error 10).
+    CallLevel,
     /// Memory was refused.
     NoMemory,
 }

@@ -1,46 +1,63 @@
-//! The store: symbols, variables, arrays and tables.
-ghost use Rattle.std.specs.Prelude.{◌≡◌, ◌<◌, [], length, false, slice_index_or, IfOk, OnOk, OnErr, IsOkAnd};
+//! The store: symbols, variables, arrays and tables, and functions with their calls.
+ghost use Rattle.std.specs.Prelude.{◌≡◌, ◌<◌, ◌≤◌, ℕ, List, [], ◌∷◌, ◌++◌, length, true, false, slice_index_or, Some, option_copied, IfOk, OnOk, OnErr, IsOkAnd};
+ghost use Rattle.std.specs.List.{list_all};
+ghost use Rattle.sno_value.specs.declared.value.Value.TheVariants.{Str};
 ghost use Rattle.sno_store.specs.Arrays.{new_array, element_name, prototype_of};
+ghost use Rattle.sno_store.specs.Calls.{function_value, restored};
 ghost use Rattle.sno_store.specs.Contents.{Contents, new_contents, is_symbol, IsJoined, value_of, with_value};
+ghost use Rattle.sno_store.specs.Definitions.{Definition as Defined, definition_at, is_name, is_sound, listed};
 ghost use Rattle.sno_store.specs.First.{first_patterns, search_patterns};
-ghost use Rattle.sno_store.specs.Outcomes.{IsAnswered, IsDone, itself};
+ghost use Rattle.sno_store.specs.Outcomes.{IsAnswered, IsDefined, IsDone, IsEntered, itself};
+ghost use Rattle.sno_store.specs.Seen.{prototype_seen};
 ghost use Rattle.sno_store.specs.Stored.{stored_notions};
-ghost use Rattle.sno_store.specs.Symbols.{appended, no_contents, with_searches, with_controls};
+ghost use Rattle.sno_store.specs.Symbols.{appended, no_contents, with_searches, with_controls, AreJoined, IsDefinedByParts};
 ghost use Rattle.sno_store.specs.Tables.{new_table, find_entry, make_entry, table_to_array};
 
+use crate::call::Call;
+use crate::definition::Definition;
 use crate::error::StoreError;
+use crate::function_prototype::FunctionPrototype;
+use crate::functions::Functions;
 use crate::objects::Objects;
 use crate::symbols::{MOST_SYMBOLS, Symbols};
+use crate::values::null;
 use sno_pattern::{BuildError, Patterns};
-use sno_value::{Name, ObjId, PatId, SymId, Text, Value};
+use sno_value::{Name, ObjId, PatId, SymId, Value};
 use std::alloc::{AllocError, Global};
 use std::marker::Model;
 
-/// The symbols of a program, the values of its variables, and its arrays and tables.
+/// How many calls are open at most (this profile).
+const MOST_CALLS: usize = 200;
+
+/// The symbols of a program, the values of its variables, its arrays and tables, and its functions with their open calls.
 ///
 /// Each symbol has a number, and names a variable, which begins with the null string (the book). Numbers are counted from
 /// 0 in the order in which the symbols joined. Arrays and tables have numbers of their own, in the order in which they
-/// were made; they stay as long as the store.
+/// were made; they stay as long as the store. A function has the number of its name's symbol.
 #[derive(Drop)]
 pub struct Store {
     alloc: Global,
     symbols: Symbols,
     values: Vec<Value>,
     objects: Objects,
+    functions: Functions,
+    // the open calls, the innermost last
+    calls: Vec<Call>,
     // what is told of a name that the store doesn't know
     null: Value,
 }
 
 impl Model for Store {
-    ghost use Rattle.std.specs.Prelude.{◌≡◌, [], length};
+    ghost use Rattle.std.specs.Prelude.{◌≡◌, ◌≤◌, [], length};
     ghost use Rattle.sno_value.specs.declared.value.Value.TheVariants.{Str};
+    ghost use Rattle.sno_store.specs.Calls.{function_value, restored};
     ghost use Rattle.sno_store.specs.Contents.{Contents};
 
     ghost Value = { Contents };
 
-    ghost view = { λ s. record { symbols = s.symbols; values = s.values.items; objects = s.objects } };
+    ghost view = { λ s. record { symbols = s.symbols; values = s.values.items; objects = s.objects; definitions = s.functions; calls = s.calls.items } };
 
-    ghost invariant = { λ s. (length s.values.items ≡ length s.symbols) × (s.null ≡ Str []) };
+    ghost invariant = { λ s. (length s.values.items ≡ length s.symbols) × (s.null ≡ Str []) × (length s.calls.items ≤ 200) };
 }
 
 impl Store {
@@ -57,6 +74,8 @@ impl Store {
             symbols: Symbols::new(alloc),
             values: Vec::new(alloc),
             objects: Objects::new(alloc),
+            functions: Functions::new(alloc),
+            calls: Vec::new(alloc),
             null: null(alloc),
         };
         store.begin_searches(patterns)?;
@@ -198,6 +217,121 @@ impl Store {
         Ok(array)
     }
 
+    /// Defines a function, in place of the definition that it may have. A prototype `F(A,B)L,M` has the function's name, then
+    /// its formals in parentheses, and then its locals, without blanks; `F()` has neither. A name is a letter, and then
+    /// letters, digits, dots and underscores. The names join the symbols in this order. Calls begin at the label `entry`, or
+    /// at the one that is named as the function where `entry` is empty.
+    ///
+    /// Another text is `BadPrototype`, and so are more than 100 names, and INPUT or OUTPUT among them (this profile). More
+    /// than 1,000,000 symbols are `Full`.
+    pub fn define(&mut self, prototype: &[u8], entry: &[u8]) -> Result<(), StoreError>
+        ensures { IsDefined prototype.now entry.now self.old self.new result }
+    {
+        let Some(prototype) = FunctionPrototype::read(prototype) else {
+            return Err(StoreError::BadPrototype)
+        };
+        if !prototype.is_sound() {
+            return Err(StoreError::BadPrototype);
+        }
+        let count = self.symbols.len();
+        if let Err(refusal) = self.define_parts(prototype, entry) {
+            self.symbols.truncate(count);
+            self.values.truncate(count);
+            return Err(refusal);
+        }
+        Ok(())
+    }
+
+    /// The definition of a function, if it has one. It takes no memory.
+    pub fn definition(&self, function: SymId) -> Option<&Definition>
+        ensures { option_copied result ≡ definition_at self.now.definitions function.0 }
+    {
+        self.functions.get(function)
+    }
+
+    /// Begins a call of a function that has a definition. The values of its variable, of its formals and of its locals are
+    /// saved, in this order. Then the function's variable and the locals are null, and the formals are the arguments:
+    /// missing ones are null, and extra ones are dropped. Nothing happens where the function has no definition.
+    ///
+    /// Beside 200 open calls it is `CallLevel` (this profile).
+    pub fn enter(&mut self, function: SymId, arguments: Vec<Value>) -> Result<(), StoreError>
+        ensures { (d : Defined) → definition_at self.old.definitions function.0 ≡ Some d → IsEntered function d arguments.items self.old self.new result }
+    {
+        let Some(definition) = self.functions.get(function) else {
+            return Ok(())
+        };
+        if self.calls.len() == MOST_CALLS {
+            return Err(StoreError::CallLevel);
+        }
+        self.calls.reserve(1)?;
+        let call = Call::open(
+            self.alloc,
+            function,
+            definition,
+            arguments,
+            &mut self.values,
+        )?;
+        self.calls.push(call).unwrap();
+        Ok(())
+    }
+
+    /// Ends the innermost call: gives the value of its function's variable, and brings the saved values back, the last one
+    /// first. It takes no memory. Where no call is open, it is null and nothing happens.
+    pub fn leave(&mut self) -> Value
+        ensures { (calls : List (List (ℕ × Value))) (call : List (ℕ × Value)) → self.old.calls ≡ calls ++ call ∷ [] → (result ≡ function_value (Str []) call self.old.values) × (self.new ≡ record self.old { values = restored call self.old.values; calls = calls }) }
+    {
+        match self.calls.pop() {
+            Some(call) => call.close(self.alloc, &mut self.values),
+            None => null(self.alloc),
+        }
+    }
+
+    /// How many calls are open.
+    pub fn level(&self) -> u32
+        ensures value { result ≡ length self.now.calls }
+        ensures few { length self.now.calls ≤ 200 }
+    {
+        self.calls.len() as u32
+    }
+
+    /// A function is defined by the parts of its prototype. Where that is refused, some of its names may be new symbols.
+    fn define_parts(&mut self, parts: FunctionPrototype, entry: &[u8]) -> Result<(), StoreError>
+        requires sound { is_sound (prototype_seen parts) ≡ true }
+        requires few { length self.old.symbols ≤ 1_000_000 }
+        ensures { IsDefinedByParts (prototype_seen parts.entry) entry.now self.old self.new result }
+    {
+        let label = if entry.is_empty() {
+            parts.function
+        } else {
+            entry
+        };
+        let label = Vec::from_slice(self.alloc, label)?;
+        let function = self.symbol(parts.function)?;
+        let formals = self.join(parts.formals)?;
+        let locals = self.join(parts.locals)?;
+        self.functions
+            .define(function, Definition::new(label, formals, locals))?;
+        Ok(())
+    }
+
+    /// The numbers of the names in a list, each of which joins the symbols where it is none of them. Where that is refused,
+    /// some of them may have joined.
+    fn join(&mut self, list: &[u8]) -> Result<Vec<SymId>, StoreError>
+        requires names { list_all is_name (listed list.now) ≡ true }
+        requires few { length self.old.symbols ≤ 1_000_000 }
+        ensures { AreJoined (listed list.now) self.old self.new result }
+    {
+        let mut numbers = Vec::new(self.alloc);
+        if list.is_empty() {
+            return Ok(numbers);
+        }
+        'names: for name in list.split(|byte| *byte == b',') {
+            let number = self.symbol(name)?;
+            numbers.push(number)?;
+        }
+        Ok(numbers)
+    }
+
     /// The variables whose patterns search for an end, of a store that has no variables yet.
     fn begin_searches(&mut self, patterns: &mut Patterns) -> Result<(), AllocError>
         requires first { self.old ≡ no_contents }
@@ -260,13 +394,6 @@ impl Store {
         self.values.push(value).unwrap();
         Ok(symbol)
     }
-}
-
-/// The null string.
-fn null(alloc: Global) -> Value
-    ensures { result ≡ Value.Str [] }
-{
-    Value::Str(Text::new(Vec::new(alloc)))
 }
 
 /// What a builder of an empty table answers: it is refused memory alone.

@@ -1,5 +1,5 @@
 //! The texts of the symbols, by number and by text.
-ghost use Rattle.std.specs.Prelude.{◌≡◌, ◌≤◌, ◌<◌, [], ◌∷◌, ◌++◌, length, false, slice_index_or, option_map, IfOk, OnOk, OnErr};
+ghost use Rattle.std.specs.Prelude.{◌≡◌, ◌≤◌, ◌<◌, [], ◌∷◌, ◌++◌, length, take, false, slice_index_or, option_map, IfOk, OnOk, OnErr};
 ghost use Rattle.sno_store.specs.Contents.{is_symbol};
 ghost use Rattle.sno_store.specs.Symbols.{found};
 
@@ -67,6 +67,13 @@ impl Symbols {
         let text = Vec::from_slice(self.alloc, name)?;
         self.texts.insert(text)?;
         Ok(id)
+    }
+
+    /// Only so many symbols stay, the first ones.
+    pub(crate) fn truncate(&mut self, count: usize)
+        ensures { self.new ≡ take count self.old }
+    {
+        self.texts.truncate(count);
     }
 
     /// The text of a symbol, which is empty where there is none with this number.

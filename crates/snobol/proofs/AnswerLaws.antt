@@ -7,16 +7,18 @@ use Rattle.sno_value.specs.declared.ids.ExprId.{ExprId}
 use Rattle.sno_text.specs.declared.node.UnaryOperator.{UnaryOperator}
 use Rattle.sno_text.specs.declared.node.UnaryOperator.TheVariants.{Plus, Minus, Indirect, NameOf, Defer, Cursor, Query, Not}
 use Rattle.sno_text.specs.Source.{Source}
+use Rattle.sno_machine.specs.declared.builtins.Builtin.{Builtin}
+use Rattle.sno_machine.specs.declared.builtins.Builtin.TheVariants.{Primitive, Arbno, Convert, MakeArray, MakeTable, Prototype, Define, Plain}
 use Rattle.sno_machine.specs.declared.machine.Exit.{Exit}
 use Rattle.sno_machine.specs.declared.machine.Exit.TheVariants.{Failure, Halt}
 use Rattle.sno_machine.specs.declared.machine.Stop.{Stop}
 use Rattle.sno_machine.specs.Action.{gives}
-use Rattle.sno_machine.specs.Operators.{answer, unary}
+use Rattle.sno_machine.specs.Operators.{answer, unary, called}
 use Rattle.sno_machine.specs.State.{State, Does, Reads, Feed, tree_of, IsPatternOf}
 use Rattle.sno_machine.specs.Values.{Value, shown, IsValueOf}
 use Rattle.sno_machine.proofs.Outcomes.{gives_does, then_got, then_err}
 use Rattle.sno_machine.proofs.Reading.{reads_nothing, reads_got, reads_failed, reads_halt}
-use Rattle.snobol.specs.Evaluate.{expression, unary_value}
+use Rattle.snobol.specs.Evaluate.{expression, called_form, unary_value}
 use Rattle.snobol.specs.Forms.{value}
 use Rattle.snobol.specs.Given.{given_of, IsGivenOf}
 use Rattle.snobol.specs.Sessions.{numbered, answer_of, answers}
@@ -31,6 +33,18 @@ unary_applied Defer e x other = absurd (other refl)
 unary_applied Cursor e x other = refl
 unary_applied Query e x other = refl
 unary_applied Not e x other = refl
+
+-- a function that isn't DEFINE is called
+pub function_called : (function : Option Builtin) (xs : List Value) → (function ≡ Some Define → ⊥) → called_form function xs ≡ called function xs
+function_called None xs other = refl
+function_called (Some (Primitive kind)) xs other = refl
+function_called (Some Arbno) xs other = refl
+function_called (Some Convert) xs other = refl
+function_called (Some MakeArray) xs other = refl
+function_called (Some MakeTable) xs other = refl
+function_called (Some Prototype) xs other = refl
+function_called (Some Define) xs other = absurd (other refl)
+function_called (Some (Plain function)) xs other = refl
 
 pub answered : (source : Source) (primitive : Option PrimitiveKind) (e : ℕ) (a b c : State) (f g : Feed) (v : Stored) (id : PatId) → Reads shown IsValueOf (expression source (value (numbered e))) a b f g (Ok v) → Does tree_of IsPatternOf (answer primitive (shown b.nodes v)) b c (Ok id)
     → Reads given_of IsGivenOf (answers source primitive e) a c f g (Ok (Some id))

@@ -7,7 +7,7 @@ use Rattle.sno_text.specs.declared.node.Node.{Node}
 use Rattle.sno_text.specs.Source.{Source}
 use Rattle.sno_machine.specs.declared.machine.Exit.{Exit}
 use Rattle.sno_machine.specs.declared.machine.Exit.TheVariants.{Failure, Halt}
-use Rattle.sno_machine.specs.declared.machine.Stop.TheVariants.{Error as HasError, NoMemory, ReadFault, WriteFault}
+use Rattle.sno_machine.specs.declared.machine.Stop.TheVariants.{Error as HasError, ErrorIn as HasErrorIn, NoMemory, ReadFault, WriteFault, Ended as HasEnded}
 use Rattle.snobol.specs.declared.execution.Outcome.TheVariants as ran
 use Rattle.sno_machine.specs.World.{World, new_keywords}
 use Rattle.sno_machine.specs.Action.{Error, Ending, Got, Fails, Stops, Outcome, Action, settled, settles, either, and_then, gives, fails, stops}
@@ -32,6 +32,8 @@ write_fault_told (Err (Halt (HasError code))) d h e = absurd (cc e)
 write_fault_told (Err (Halt NoMemory)) d h e = absurd (cc e)
 write_fault_told (Err (Halt ReadFault)) d h e = absurd (cc e)
 write_fault_told (Err (Halt WriteFault)) d h e = h
+write_fault_told (Err (Halt (HasErrorIn code statement))) d h e = absurd (cc e)
+write_fault_told (Err (Halt HasEnded)) d h e = absurd (cc e)
 
 -- that names join the symbols never fails
 
@@ -74,3 +76,5 @@ machine_refused source limits s (Halt (HasError code)) did = (refl, λ input. (d
 machine_refused source limits s (Halt NoMemory) did = tt
 machine_refused source limits s (Halt ReadFault) did = absurd (did.meets [])
 machine_refused source limits s (Halt WriteFault) did = absurd (did.meets [])
+machine_refused source limits s (Halt (HasErrorIn code statement)) did = absurd (did.meets [])
+machine_refused source limits s (Halt HasEnded) did = absurd (did.meets [])

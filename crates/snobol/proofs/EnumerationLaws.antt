@@ -20,7 +20,7 @@ use Rattle.sno_match.specs.Search.{Value, Answer, trace}
 use Rattle.sno_machine.specs.declared.machine.Exit.{Exit}
 use Rattle.sno_machine.specs.declared.machine.Exit.TheVariants.{Failure, Halt}
 use Rattle.sno_machine.specs.declared.machine.Stop.{Stop}
-use Rattle.sno_machine.specs.declared.machine.Stop.TheVariants.{Error as HasError, NoMemory, ReadFault, WriteFault}
+use Rattle.sno_machine.specs.declared.machine.Stop.TheVariants.{Error as HasError, ErrorIn as HasErrorIn, NoMemory, ReadFault, WriteFault, Ended as HasEnded}
 use Rattle.sno_machine.specs.World.{World, new_world, new_keywords}
 use Rattle.sno_machine.specs.Action.{End, Error, Ending, Got, Fails, Stops, Outcome, Action, gives, settled, settles, stops, and_then}
 use Rattle.snobol.specs.Forms.{value}
@@ -169,6 +169,8 @@ tells_of o after wrote (Err (Halt (HasError code))) h = h
 tells_of o after wrote (Err (Halt NoMemory)) h = h
 tells_of o after wrote (Err (Halt ReadFault)) h = h
 tells_of o after wrote (Err (Halt WriteFault)) h = h
+tells_of o after wrote (Err (Halt (HasErrorIn code statement))) h = h
+tells_of o after wrote (Err (Halt HasEnded)) h = h
 
 pub told : (act : Action Unit) (o : Outcome Unit) (a b : State) (d e : Devices) (r : Result Unit Exit) → o ≡ act (world a []) → Nothing d.reader → Runs {X = Unit} itself any act a b d e r → (wrote : List ℕ) × Appends d.taken e.taken wrote × Tells o wrote r
 told act o a b d e r is none did = (
@@ -200,6 +202,8 @@ listed_stop source e subject anchored limit b f g (HasError code) short none sou
 listed_stop source e subject anchored limit b f g NoMemory short none sound did = ((listing source e subject anchored limit).wrote, refl)
 listed_stop source e subject anchored limit b f g ReadFault short none sound did = absurd (cc (sym did.cause ∙ sound))
 listed_stop source e subject anchored limit b f g WriteFault short none sound did = absurd (did_meet {X = PatId} tree_of IsPatternOf (built source e) anchored limit b f g (Err (Halt WriteFault)) none did)
+listed_stop source e subject anchored limit b f g (HasErrorIn code statement) short none sound did = absurd (did_meet {X = PatId} tree_of IsPatternOf (built source e) anchored limit b f g (Err (Halt (HasErrorIn code statement))) none did)
+listed_stop source e subject anchored limit b f g HasEnded short none sound did = absurd (did_meet {X = PatId} tree_of IsPatternOf (built source e) anchored limit b f g (Err (Halt HasEnded)) none did)
 
 -- evaluating a pattern writes nothing
 pub stop_unwritten : (act : Action Pattern) (anchored : Bool) (limit : ℕ) (b : State) (f g : Feed) (why : Stop) → Nothing f → Reads {X = PatId} tree_of IsPatternOf act (begun anchored limit) b f g (Err (Halt why)) → why ≡ WriteFault → ⊥
@@ -207,6 +211,8 @@ stop_unwritten act anchored limit b f g (HasError code) none did e = cc e
 stop_unwritten act anchored limit b f g NoMemory none did e = cc e
 stop_unwritten act anchored limit b f g ReadFault none did e = cc e
 stop_unwritten act anchored limit b f g WriteFault none did e = did_meet {X = PatId} tree_of IsPatternOf act anchored limit b f g (Err (Halt WriteFault)) none did
+stop_unwritten act anchored limit b f g (HasErrorIn code statement) none did e = cc e
+stop_unwritten act anchored limit b f g HasEnded none did e = cc e
 
 -- a beginning of the line of a pattern that has no way
 pub told_in_part : (o : Outcome Unit) (lines part : List ℕ) → o.wrote ≡ lines → Begins part lines → Tells o part (Err (Halt WriteFault))
@@ -227,6 +233,10 @@ is_listing pattern subject anchored limit source e outcome (Err (Halt ReadFault)
     rw is (inr (record { source = source; number = e; read = read; begins = told }))
 is_listing pattern subject anchored limit source e outcome (Err (Halt WriteFault)) wrote read is told =
     rw is (record { source = source; number = e; read = read; begins = told })
+is_listing pattern subject anchored limit source e outcome (Err (Halt (HasErrorIn code statement))) wrote read is told =
+    rw is (record { source = source; number = e; read = read; ends = rw told.0 refl; written = told.1 })
+is_listing pattern subject anchored limit source e outcome (Err (Halt HasEnded)) wrote read is told =
+    rw is (record { source = source; number = e; read = read; ends = rw told.0 refl; written = told.1 })
 
 -- an expression that the reader accepts is read
 pub is_read : (text : List ℕ) (source : Source) (e : ExprId) → ((t : Tree) × IsAccepted text t × Stands source.nodes e t) → source.text ≡ text → e.0 < length source.nodes → IsTable (length source.text) source.nodes → IsRead text source e

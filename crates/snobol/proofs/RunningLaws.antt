@@ -8,14 +8,14 @@ use Rattle.sno_pattern.specs.Table.{Node}
 use Rattle.sno_machine.specs.declared.machine.Exit.{Exit}
 use Rattle.sno_machine.specs.declared.machine.Exit.TheVariants.{Failure, Halt}
 use Rattle.sno_machine.specs.declared.machine.Stop.{Stop}
-use Rattle.sno_machine.specs.declared.machine.Stop.TheVariants.{Error as HasError, NoMemory, ReadFault, WriteFault}
+use Rattle.sno_machine.specs.declared.machine.Stop.TheVariants.{Error as HasError, ErrorIn as HasErrorIn, NoMemory, ReadFault, WriteFault, Ended as HasEnded}
 use Rattle.sno_machine.specs.World.{World, Keywords}
 use Rattle.sno_machine.specs.Action.{Error, Ending, Got, Fails, Stops, Outcome, Action, settled, settles, either, and_then, fails}
 use Rattle.sno_machine.specs.State.{State, world, untouched, Meets, MeetsReading, Does, Reads, Feed, IsReady, Grows, OnAnswer, OnGoing, HasCause, itself, any}
 use Rattle.sno_machine.specs.Performs.{Ends, Performs}
 use Rattle.snobol.specs.Running.{Devices, CanRun, MeetsRunning, HasFault, Goes, Runs}
 use Rattle.sno_machine.proofs.Outcomes.{grows_twice, fails_does}
-use Rattle.sno_machine.proofs.Reading.{consumes_nothing, none_given, reads_nothing, same_reading, same_keywords, ready_unread}
+use Rattle.sno_machine.proofs.Reading.{consumes_nothing, none_given, reads_nothing, same_reading, same_keywords, same_calls, ready_unread}
 use Rattle.sno_machine.proofs.Performing.{appends_nothing}
 
 -- the reader of two devices, with one writer
@@ -28,6 +28,18 @@ goes_not a b e = rw e (record { cap = refl; begun = omega arith })
 goes_twice : (a b c : Keywords) → Goes a b → Goes b c → Goes a c
 goes_twice a b c g h = let x = g.begun in let y = h.begun in record { cap = h.cap ∙ g.cap; begun = omega arith }
 
+-- what holds wherever it ends
+
+on_going : {X : Type 0} (r : Result X Exit) (P : Type 0) → P → OnGoing r P
+on_going (Ok x) P h = h
+on_going (Err Failure) P h = h
+on_going (Err (Halt why)) P h = tt
+
+on_going_then : {X : Type 0} (r : Result X Exit) (P Q : Type 0) → (P → Q) → OnGoing r P → OnGoing r Q
+on_going_then (Ok x) P Q next h = next h
+on_going_then (Err Failure) P Q next h = next h
+on_going_then (Err (Halt why)) P Q next h = tt
+
 -- what reads, and writes nothing
 
 running_meets : {X A : Type 0} (see : X → A) (o : Outcome A) (w : World) (r : Result X Exit) → MeetsReading see o w r → MeetsRunning see o w [] r
@@ -37,6 +49,8 @@ running_meets see o w (Err (Halt (HasError code))) h = h
 running_meets see o w (Err (Halt NoMemory)) h = (o.wrote, refl)
 running_meets see o w (Err (Halt ReadFault)) h = (o.wrote, refl)
 running_meets see o w (Err (Halt WriteFault)) h = absurd h
+running_meets see o w (Err (Halt (HasErrorIn code statement))) h = absurd h
+running_meets see o w (Err (Halt HasEnded)) h = absurd h
 
 running_ready : {X : Type 0} (r : Result X Exit) (s : State) (f : Feed) (taken : Option (List ℕ)) → OnGoing r (IsReady s f) → OnGoing r (CanRun s (with_reader f taken false))
 running_ready (Ok x) s f taken h = record { reads = h; writes = refl }
@@ -50,6 +64,8 @@ running_cause see o w (Err (Halt (HasError code))) f taken m h = tt
 running_cause see o w (Err (Halt NoMemory)) f taken m h = tt
 running_cause see o w (Err (Halt ReadFault)) f taken m h = h
 running_cause see o w (Err (Halt WriteFault)) f taken m h = absurd m
+running_cause see o w (Err (Halt (HasErrorIn code statement))) f taken m h = tt
+running_cause see o w (Err (Halt HasEnded)) f taken m h = tt
 
 unstuck : (f : Feed) (taken : Option (List ℕ)) (stuck : Bool) → stuck ≡ false → with_reader f taken false ≡ with_reader f taken stuck
 unstuck f taken stuck e = ap (with_reader f taken) (sym e)
@@ -65,6 +81,7 @@ reads_runs see fits act a b f g taken stuck r sound did = rw sound (record {
   tells = did.tells;
   grows = did.grows;
   goes = goes_not a.keywords b.keywords did.kept;
+  calls = on_going r (b.store.calls ≡ a.store.calls) did.calls;
   meets = λ more none. running_meets (see b.nodes) (act (world a (did.given ++ more))) (world b more) r (did.meets more none);
   answer = did.answer;
   ready = running_ready r b g taken did.ready;
@@ -87,6 +104,8 @@ performed_meets o w wrote (Err (HasError code)) h = h
 performed_meets o w wrote (Err NoMemory) h = h
 performed_meets o w wrote (Err ReadFault) h = absurd h
 performed_meets o w wrote (Err WriteFault) h = h
+performed_meets o w wrote (Err (HasErrorIn code statement)) h = absurd h
+performed_meets o w wrote (Err HasEnded) h = absurd h
 
 performed_cause : (o : Outcome Unit) (w : World) (wrote : List ℕ) (r : Result Unit Stop) (d : Devices) → Ends o w wrote r → (r ≡ Err WriteFault → d.stuck ≡ true) → HasFault (exited r) d
 performed_cause o w wrote (Ok done) d h fault = tt
@@ -94,6 +113,8 @@ performed_cause o w wrote (Err (HasError code)) d h fault = tt
 performed_cause o w wrote (Err NoMemory) d h fault = tt
 performed_cause o w wrote (Err ReadFault) d h fault = absurd h
 performed_cause o w wrote (Err WriteFault) d h fault = fault refl
+performed_cause o w wrote (Err (HasErrorIn code statement)) d h fault = tt
+performed_cause o w wrote (Err HasEnded) d h fault = tt
 
 performed_ready : (r : Result Unit Stop) (a b : State) (f : Feed) (taken : Option (List ℕ)) (stuck : Bool) → untouched b ≡ untouched a → IsReady a f → OnOk r (stuck ≡ false) → OnGoing (exited r) (CanRun b (with_reader f taken stuck))
 performed_ready (Ok done) a b f taken stuck u ready sound = record { reads = ready_unread a b f u ready; writes = sound }
@@ -114,6 +135,7 @@ performs_runs act a b f x y s t r ready nodes sound fault did = record {
   tells = (ready_unread a b f did.unread ready).same;
   grows = ([], nodes ∙ sym (append-nil a.nodes));
   goes = goes_not a.keywords b.keywords (same_keywords a b did.unread);
+  calls = on_going (exited r) (b.store.calls ≡ a.store.calls) (same_calls a b did.unread);
   meets = λ more none. performed_meets (act (world a more)) (world b more) did.wrote r (did.ends more);
   answer = performed_answer b.nodes r;
   ready = performed_ready r a b f y t did.unread ready sound;
@@ -133,6 +155,8 @@ meets_behind look o w front wrote (Err (Halt (HasError code))) h = (h.0, ap (λ 
 meets_behind look o w front wrote (Err (Halt NoMemory)) h = begins_behind front wrote o.wrote h
 meets_behind look o w front wrote (Err (Halt ReadFault)) h = begins_behind front wrote o.wrote h
 meets_behind look o w front wrote (Err (Halt WriteFault)) h = begins_behind front wrote o.wrote h
+meets_behind look o w front wrote (Err (Halt (HasErrorIn code statement))) h = (h.0, ap (λ bytes. front ++ bytes) h.1)
+meets_behind look o w front wrote (Err (Halt HasEnded)) h = (h.0, ap (λ bytes. front ++ bytes) h.1)
 
 settled_got : {Y A B : Type 0} (look : Y → B) (k : Option A → Action B) (o : Outcome A) (x : A) (v w : World) (front wrote : List ℕ) (r : Result Y Exit) → o ≡ record { ending = Got x; world = v; wrote = front } → MeetsRunning look (k (Some x) v) w wrote r
     → MeetsRunning look (settled o.ending o.world o.wrote k) w (front ++ wrote) r
@@ -156,6 +180,7 @@ runs_got {A = A} see fits look suits act k a b c d e f x r p q = record {
   tells = q.tells;
   grows = grows_twice a.nodes b.nodes c.nodes p.grows q.grows;
   goes = goes_twice a.keywords b.keywords c.keywords p.goes q.goes;
+  calls = on_going_then r (c.store.calls ≡ b.store.calls) (c.store.calls ≡ a.store.calls) (λ same. same ∙ p.calls) q.calls;
   meets = λ more none.
       subst (λ (bytes : List ℕ). MeetsRunning (look c.nodes) (settled (act (world a bytes)).ending (act (world a bytes)).world (act (world a bytes)).wrote k) (world c more) (p.wrote ++ q.wrote) r) (sym (append_assoc p.given q.given more))
       (settled_got (look c.nodes) k (act (world a (p.given ++ (q.given ++ more)))) (see b.nodes x) (world b (q.given ++ more)) (world c more) p.wrote q.wrote r (p.meets (q.given ++ more) (λ told. let n = q.ended told in none_given q.given more n.0 (none n.1))) (q.meets more none));
@@ -176,6 +201,7 @@ runs_failed {A = A} see fits look suits act k a b c d e f r p q = record {
   tells = q.tells;
   grows = grows_twice a.nodes b.nodes c.nodes p.grows q.grows;
   goes = goes_twice a.keywords b.keywords c.keywords p.goes q.goes;
+  calls = on_going_then r (c.store.calls ≡ b.store.calls) (c.store.calls ≡ a.store.calls) (λ same. same ∙ p.calls) q.calls;
   meets = λ more none.
       subst (λ (bytes : List ℕ). MeetsRunning (look c.nodes) (settled (act (world a bytes)).ending (act (world a bytes)).world (act (world a bytes)).wrote k) (world c more) (p.wrote ++ q.wrote) r) (sym (append_assoc p.given q.given more))
       (settled_fails (look c.nodes) k (act (world a (p.given ++ (q.given ++ more)))) (world b (q.given ++ more)) (world c more) p.wrote q.wrote r (p.meets (q.given ++ more) (λ told. let n = q.ended told in none_given q.given more n.0 (none n.1))) (q.meets more none));
@@ -195,12 +221,16 @@ settled_halt see look k o w wrote (HasError code) h = rw h.0 (refl, h.1)
 settled_halt see look k o w wrote NoMemory h = begins_settled o.ending o.world o.wrote wrote k h
 settled_halt see look k o w wrote ReadFault h = begins_settled o.ending o.world o.wrote wrote k h
 settled_halt see look k o w wrote WriteFault h = begins_settled o.ending o.world o.wrote wrote k h
+settled_halt see look k o w wrote (HasErrorIn code statement) h = rw h.0 (refl, h.1)
+settled_halt see look k o w wrote HasEnded h = rw h.0 (refl, h.1)
 
 same_fault : (X Y : Type 0) (why : Stop) (d : Devices) → HasFault {X = X} (Err (Halt why)) d → HasFault {X = Y} (Err (Halt why)) d
 same_fault X Y (HasError code) d h = tt
 same_fault X Y NoMemory d h = tt
 same_fault X Y ReadFault d h = h
 same_fault X Y WriteFault d h = h
+same_fault X Y (HasErrorIn code statement) d h = tt
+same_fault X Y HasEnded d h = tt
 
 pub runs_halt : {X Y A B : Type 0} (see : List Node → X → A) (fits : List Node → X → Type 0) (look : List Node → Y → B) (suits : List Node → Y → Type 0) (act : Action A) (k : Option A → Action B) (a b : State) (d e : Devices) (why : Stop)
     → Runs {X = X} see fits act a b d e (Err (Halt why)) → Runs {X = Y} look suits (settles act k) a b d e (Err (Halt why))
@@ -214,6 +244,7 @@ runs_halt {X = X} {Y = Y} see fits look suits act k a b d e why p = record {
   tells = p.tells;
   grows = p.grows;
   goes = p.goes;
+  calls = tt;
   meets = λ more none. settled_halt (see b.nodes) (look b.nodes) k (act (world a (p.given ++ more))) (world b more) p.wrote why (p.meets more none);
   answer = tt;
   ready = tt;

@@ -6,7 +6,7 @@ use Rattle.sno_pattern.specs.Table.{Node}
 use Rattle.sno_machine.specs.declared.machine.Exit.{Exit}
 use Rattle.sno_machine.specs.declared.machine.Exit.TheVariants.{Failure, Halt}
 use Rattle.sno_machine.specs.declared.machine.Stop.{Stop}
-use Rattle.sno_machine.specs.declared.machine.Stop.TheVariants.{Error as HasError, NoMemory, ReadFault, WriteFault}
+use Rattle.sno_machine.specs.declared.machine.Stop.TheVariants.{Error as HasError, ErrorIn as HasErrorIn, NoMemory, ReadFault, WriteFault, Ended as HasEnded}
 use Rattle.sno_io.specs.declared.jobs.Limits.{Limits}
 use Rattle.snobol.specs.declared.execution.Outcome.{Outcome as RunOutcome}
 use Rattle.snobol.specs.declared.execution.Outcome.TheVariants as ran
@@ -34,18 +34,22 @@ abbrev pub MeetsRunning : {X A : Type 0} → (X → A) → Outcome A → World �
 MeetsRunning see o after wrote (Ok x) = o ≡ record { ending = Got (see x); world = after; wrote = wrote }
 MeetsRunning see o after wrote (Err Failure) = o ≡ record { ending = Fails; world = after; wrote = wrote }
 MeetsRunning see o after wrote (Err (Halt (HasError code))) = (o.ending ≡ Stops (Error code)) × (o.wrote ≡ wrote)
+MeetsRunning see o after wrote (Err (Halt (HasErrorIn code statement))) = (o.ending ≡ Stops (ErrorIn code statement)) × (o.wrote ≡ wrote)
 MeetsRunning see o after wrote (Err (Halt NoMemory)) = Begins wrote o.wrote
 MeetsRunning see o after wrote (Err (Halt ReadFault)) = Begins wrote o.wrote
 MeetsRunning see o after wrote (Err (Halt WriteFault)) = Begins wrote o.wrote
+MeetsRunning see o after wrote (Err (Halt HasEnded)) = (o.ending ≡ Stops Ended) × (o.wrote ≡ wrote)
 
 -- a fault has its cause
 abbrev pub HasFault : {X : Type 0} → Result X Exit → Devices → Type 0
 HasFault (Ok x) d = Unit {0}
 HasFault (Err Failure) d = Unit {0}
 HasFault (Err (Halt (HasError code))) d = Unit {0}
+HasFault (Err (Halt (HasErrorIn code statement))) d = Unit {0}
 HasFault (Err (Halt NoMemory)) d = Unit {0}
 HasFault (Err (Halt ReadFault)) d = d.reader.broken ≡ true
 HasFault (Err (Halt WriteFault)) d = d.stuck ≡ true
+HasFault (Err (Halt HasEnded)) d = Unit {0}
 
 -- what no statement changes, and what only grows
 pub record Goes (before after : Keywords) : Type 0 where
@@ -63,6 +67,7 @@ pub record Runs {X A : Type 0} (see : List Node → X → A) (fits : List Node �
   pub tells : after.reading.told_end ≡ true → new.reader.at_end ≡ true
   pub grows : Grows before.nodes after.nodes
   pub goes : Goes before.keywords after.keywords
+  pub calls : OnGoing result (after.store.calls ≡ before.store.calls)
   pub meets : (more : List ℕ) → (after.reading.told_end ≡ true → more ≡ []) → MeetsRunning (see after.nodes) (act (world before (given ++ more))) (world after more) wrote result
   pub answer : OnAnswer (fits after.nodes) result
   pub ready : OnGoing result (CanRun after new)
@@ -99,13 +104,15 @@ pub record Stopped {A : Type 0} (act : Action A) (before after : State) (old new
   pub meets : (more : List ℕ) → (after.reading.told_end ≡ true → more ≡ []) → MeetsOutcome (act (world before (given ++ more))) wrote outcome
   pub cause : HasCauseOf outcome new
 
--- what ends a statement ends the run, in that statement
+-- what ends a statement ends the run, in that statement; an error that names a statement names that one
 abbrev pub ran_in : ℕ → Exit → RunOutcome
 ran_in statement Failure = ran.Error 11 statement
 ran_in statement (Halt (HasError code)) = ran.Error code statement
+ran_in statement (Halt (HasErrorIn code inner)) = ran.Error code inner
 ran_in statement (Halt NoMemory) = ran.NoMemory
 ran_in statement (Halt ReadFault) = ran.ReadFault
 ran_in statement (Halt WriteFault) = ran.WriteFault
+ran_in statement (Halt HasEnded) = ran.Ended
 
 -- A statement was performed behind which the run goes on, and one more has begun where fewer had than may; or it ended
 -- the run.

@@ -30,6 +30,13 @@ returns-in-Some-MakeArray c =
     let make = rw c.in-Some-MakeArray.is at c.in-Some-MakeArray.field-0-is in
     rw (c.in-Some-MakeArray.is, make, ← c.argument-p.ensures.value nodes, ← second_stays nodes _ _ _ c.argument-p.ensures.rest, ← c.argument-v.ensures.value nodes) c.array.ensures
 
+pub returns-in-Some-Define : goal.returns-in-Some-Define
+returns-in-Some-Define c =
+    let nodes = c.args.machine.now.nodes in
+    let define = rw c.in-Some-Define.is at c.in-Some-Define.field-0-is in
+    let p = c.argument-p-in-Some-Define.ensures in
+    rw (c.in-Some-Define.is, define, ← p.value nodes, ← second_stays nodes _ _ _ p.rest, ← c.argument-e.ensures.value nodes) c.define.ensures
+
 pub returns-in-Some-Plain : goal.returns-in-Some-Plain
 returns-in-Some-Plain c =
     let nodes = c.args.machine.now.nodes in

@@ -1,6 +1,7 @@
 use Rattle.std.proofs.Common.{ap, sym, ◌∙◌}
 use Rattle.std.proofs.lemmas.Result.{err_from_is_err_and}
 use Rattle.sno_machine.specs.State.{untouched}
+use Rattle.sno_machine.proofs.Stores.{set_untouched}
 use Rattle.sno_machine.proofs.Performing.{stored, output_written, output_cut, output_refused}
 use Rattle.sno_machine.proofs.session.assign.Goals as goal
 
@@ -11,7 +12,7 @@ pub returns-in_err-put-clause-does : goal.returns-in_err-put-clause-does
 returns-in_err-put-clause-does g c =
     let p = err_from_is_err_and c.from_residual-in_err-put.result c.from_residual-in_err-put.ensures.1 in
     let b = c.in_err-put.ensures.bytes in
-    rw (p.1, p.2) (output_cut c.args.target c.args.value _ _ _ _ c.in_ok-line.line b.0 (sym c.is_output.ensures ∙ c.if-not-is_output.false) (ap untouched c.set-2.ensures) c.in_ok-line.ensures (rw c.deref.ensures.value at b.1) b.2)
+    rw (p.1, p.2) (output_cut c.args.target c.args.value _ _ _ _ c.in_ok-line.line b.0 (sym c.is_output.ensures ∙ c.if-not-is_output.false) (ap untouched c.set-2.ensures ∙ set_untouched c.args.machine.now c.args.target c.args.value) c.in_ok-line.ensures (rw c.deref.ensures.value at b.1) b.2)
 
 pub returns-clause-does : goal.returns-clause-does
 returns-clause-does g c =

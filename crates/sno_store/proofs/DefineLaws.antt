@@ -1,0 +1,130 @@
+-- What DEFINE makes of a prototype's names.
+use Rattle.std.proofs.Common.{◌≡◌, ℕ, ◌<◌, ◌≤◌, Bool, true, not, ◌&&◌, leb, List, [], ◌∷◌, ◌++◌, length, map, Vec, Option, Result, Ok, Err, IsErrAnd, refl, sym, ap, subst, ◌∙◌, arith}
+use Rattle.std.specs.List.{list_all}
+use Rattle.std.specs.declared.alloc.Global.{Global}
+use Rattle.std.proofs.lemmas.Bool.{and_parts, ltb-true, lt-ltb}
+use Rattle.std.proofs.lemmas.List.Folds.{list_all-append}
+use Rattle.sno_value.specs.declared.ids.SymId.{SymId}
+use Rattle.sno_store.specs.declared.error.StoreError.{StoreError}
+use Rattle.sno_store.specs.Contents.{Contents, place, is_symbol, IsJoined}
+use Rattle.sno_store.specs.Definitions.{Definition, Prototype, is_name, is_device, names, is_sound, entry_label, with_names, definition, defined}
+use Rattle.sno_store.specs.Symbols.{HasMore, AreTooMany, AreJoined, IsDefinedByParts}
+use Rattle.sno_store.proofs.NameLaws.{with_name, place_kept, is_joined, given_number, added, with_names-append, placed, grown, has_both, has_one, with_symbol_symbols, too_many_more, too_many_behind, too_many_same}
+
+-- whether a name may be one of a prototype
+abbrev pub may_be : List ℕ → Bool
+may_be name = is_name name && not (is_device name)
+
+are_names : (ns : List (List ℕ)) → list_all may_be ns ≡ true → list_all is_name ns ≡ true
+are_names [] h = refl
+are_names (n ∷ ns) h =
+    let parts = and_parts (may_be n) (list_all may_be ns) h in
+    let first = and_parts (is_name n) (not (is_device n)) parts.0 in
+    (λ i. first.0 i && are_names ns parts.1 i)
+
+-- the names of a sound prototype are names
+pub record HasNames (p : Prototype) : Type 0 where
+  pub function : is_name p.function ≡ true
+  pub formals : list_all is_name p.formals ≡ true
+  pub locals : list_all is_name p.locals ≡ true
+
+pub sound_names : (p : Prototype) → is_sound p ≡ true → HasNames p
+sound_names p h =
+    let all = and_parts (leb (length (names p)) 100) (list_all may_be (names p)) h in
+    let parts = and_parts (may_be p.function) (list_all may_be (p.formals ++ p.locals)) all.1 in
+    let others = and_parts (list_all may_be p.formals) (list_all may_be p.locals) (sym (list_all-append may_be p.formals p.locals) ∙ parts.1) in
+    record {
+      function = (and_parts (is_name p.function) (not (is_device p.function)) parts.0).0;
+      formals = are_names p.formals others.0;
+      locals = are_names p.locals others.1;
+    }
+
+still_symbol : (name : List ℕ) (ns symbols : List (List ℕ)) → is_symbol name symbols ≡ true → is_symbol name (with_names ns symbols) ≡ true
+still_symbol name ns symbols h =
+    lt-ltb (place name (with_names ns symbols)) (length (with_names ns symbols)) (omega (arith, placed name ns symbols h, grown ns symbols, ltb-true (place name symbols) (length symbols) h))
+
+-- names that joined have the same places among more symbols
+places_kept : (ns symbols more : List (List ℕ)) → map (λ n. place n (with_names ns symbols ++ more)) ns ≡ map (λ n. place n (with_names ns symbols)) ns
+places_kept [] symbols more = refl
+places_kept (n ∷ ns) symbols more =
+    let first = place_kept n (with_names ns (with_name n symbols)) more (still_symbol n ns (with_name n symbols) (is_joined n symbols)) in
+    (λ i. first i ∷ places_kept ns (with_name n symbols) more i)
+
+joined_later : (ns ms symbols : List (List ℕ)) → map (λ n. place n (with_names ms (with_names ns symbols))) ns ≡ map (λ n. place n (with_names ns symbols)) ns
+joined_later ns ms symbols =
+    let more = added ms (with_names ns symbols) in ap (λ ss. map (λ n. place n ss) ns) more.1 ∙ places_kept ns symbols more.0
+
+pub label_is : (entry function : List ℕ) → 0 < length entry → entry_label entry function ≡ entry
+label_is [] function h = absurd (omega arith)
+label_is (byte ∷ bytes) function h = refl
+
+pub label_null : (entry function : List ℕ) → length entry ≡ 0 → entry_label entry function ≡ function
+label_null [] function h = refl
+label_null (byte ∷ bytes) function h = absurd (omega arith)
+
+-- the function's name joined
+begun_symbols : (p : Prototype) (old one : Contents) (f : SymId) → IsJoined p.function old one (Ok f) → one.symbols ≡ with_name p.function old.symbols
+begun_symbols p old one f h = ap (λ (c : Contents). c.symbols) h.1 ∙ with_symbol_symbols p.function old
+
+pub begun_more : (p : Prototype) (old one : Contents) (f : SymId) → IsJoined p.function old one (Ok f) → HasMore old one
+begun_more p old one f h = subst (HasMore old) (sym h.1) (has_one p.function old)
+
+-- and the formals, or the locals, could not
+pub formals_stopped : (p : Prototype) (old one : Contents) (f : SymId) (e : StoreError) → IsJoined p.function old one (Ok f) → AreTooMany p.formals one.symbols e → AreTooMany (names p) old.symbols e
+formals_stopped p old one f e h many =
+    let all = too_many_more p.formals p.locals one.symbols e many in
+    too_many_same (p.formals ++ p.locals) (names p) one.symbols old.symbols e (ap (with_names (p.formals ++ p.locals)) (begun_symbols p old one f h)) all
+
+pub locals_stopped : (p : Prototype) (old one two : Contents) (f : SymId) (e : StoreError) → IsJoined p.function old one (Ok f) → two.symbols ≡ with_names p.formals one.symbols
+    → AreTooMany p.locals two.symbols e → AreTooMany (names p) old.symbols e
+locals_stopped p old one two f e h formals many =
+    let behind = too_many_behind p.formals p.locals one.symbols e (subst (λ ss. AreTooMany p.locals ss e) formals many) in
+    too_many_same (p.formals ++ p.locals) (names p) one.symbols old.symbols e (ap (with_names (p.formals ++ p.locals)) (begun_symbols p old one f h)) behind
+
+-- a function defined by parts, one stage after another: the names of the function, of its formals and of its locals join
+module _ (p : Prototype) (entry : List ℕ) (old one two three : Contents) (f : SymId) (formals locals : Vec SymId Global)
+    (h1 : IsJoined p.function old one (Ok f)) (h2 : AreJoined p.formals one two (Ok formals)) (h3 : AreJoined p.locals two three (Ok locals)) where
+  last_symbols : three.symbols ≡ with_names (p.formals ++ p.locals) one.symbols
+  last_symbols = h3.0 ∙ ap (with_names p.locals) h2.0 ∙ sym (with_names-append p.formals p.locals one.symbols)
+
+  all_symbols : three.symbols ≡ with_names (names p) old.symbols
+  all_symbols = last_symbols ∙ ap (with_names (p.formals ++ p.locals)) (begun_symbols p old one f h1)
+
+  its_place : f.0 ≡ place p.function three.symbols
+  its_place =
+      let given = given_number p.function old.symbols f.0 h1.0 in
+      sym (ap (place p.function) last_symbols ∙ placed p.function (p.formals ++ p.locals) one.symbols (ap (is_symbol p.function) (begun_symbols p old one f h1) ∙ given.is_one) ∙ ap (place p.function) (begun_symbols p old one f h1) ∙ given.at)
+
+  its_formals : map (λ id. id.0) formals.items ≡ map (λ n. place n three.symbols) p.formals
+  its_formals =
+      h2.2 ∙ ap (λ ss. map (λ n. place n ss) p.formals) h2.0 ∙ sym (joined_later p.formals p.locals one.symbols)
+      ∙ ap (λ ss. map (λ n. place n ss) p.formals) (ap (with_names p.locals) (sym h2.0) ∙ sym h3.0)
+
+  pub more_all : HasMore old three
+  more_all = has_both old one three (begun_more p old one f h1) (has_both one two three h2.1 h3.1)
+
+  same_definitions : three.definitions ≡ old.definitions
+  same_definitions = ap (λ (c : Contents). c.definitions) more_all.others
+
+  pub parts_done : (new : Contents) (d : Definition) (ds : List (Option Definition)) → new ≡ record three { definitions = ds } → ds ≡ defined f.0 d three.definitions
+      → d ≡ record { entry = entry_label entry p.function; formals = map (λ id. id.0) formals.items; locals = map (λ id. id.0) locals.items }
+      → IsDefinedByParts p entry old new (Ok tt)
+  parts_done new d ds en eds ed =
+      let symbols : new.symbols ≡ three.symbols = ap (λ (c : Contents). c.symbols) en in
+      let kept : three ≡ record new { definitions = old.definitions } =
+      (λ i. record three { definitions = same_definitions i }) ∙ sym (ap (λ (c : Contents). record c { definitions = old.definitions }) en) in
+      let its : d ≡ definition entry p three.symbols =
+      ed ∙ (λ i. record { entry = entry_label entry p.function; formals = its_formals i; locals = h3.2 i }) in
+      let all : new.definitions ≡ defined (place p.function three.symbols) (definition entry p three.symbols) old.definitions =
+      ap (λ (c : Contents). c.definitions) en ∙ eds ∙ (λ i. defined (its_place i) (its i) (same_definitions i)) in (
+        symbols ∙ all_symbols,
+        subst (λ ss. length ss ≤ 1_000_000) (sym symbols) h3.3,
+        subst (HasMore old) kept more_all,
+        all ∙ ap (λ ss. defined (place p.function ss) (definition entry p ss) old.definitions) (sym symbols),
+      )
+
+-- a refusal of the parts that is passed on
+pub parts_passed : (p : Prototype) (entry : List ℕ) (old new : Contents) (e : StoreError) (result : Result (Unit {0}) StoreError) → IsErrAnd result (λ r. r ≡ e)
+    → AreTooMany (names p) old.symbols e × HasMore old new → IsDefinedByParts p entry old new result
+parts_passed p entry old new e (Ok done) is h = absurd is
+parts_passed p entry old new e (Err r) is h = (subst (AreTooMany (names p) old.symbols) (sym is) h.0, h.1)
