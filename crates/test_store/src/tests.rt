@@ -1,10 +1,11 @@
 //! Worked rows: calls of one store, and what they answer.
 mod arrays;
+mod calls;
 mod symbols;
 mod tables;
 
 use sno_pattern::Patterns;
-use sno_store::{Store, StoreError};
+use sno_store::{Definition, Store, StoreError};
 use sno_value::{ExprId, Name, ObjId, PatId, SymId, Text, Value};
 use std::alloc::{AllocError, Global};
 use std::process::Abort;
@@ -51,6 +52,18 @@ enum Step {
     Find(u32, Row, Result<Option<u32>, u32>),
     Entry(u32, Row, Result<u32, u32>),
     TableToArray(u32, Result<Option<u32>, u32>),
+    Define(&'static str, &'static str, Result<(), u32>),
+    // a function F whose formals are A, so many times
+    DefineMany(u32, Result<(), u32>),
+    // the label, the formals and the locals
+    Definition(u32, Option<(&'static str, &'static [SymId], &'static [SymId])>),
+    Enter(u32, &'static [Row], Result<(), u32>),
+    // calls of a function one in another, with 1, 2, 3 .. as their arguments
+    EnterMany(u32, u32),
+    Leave(Row),
+    // so many calls end, whose functions have the null string as their value
+    LeaveMany(u32),
+    Level(u32),
 }
 
 /// The number of the error that a refusal is.
@@ -59,6 +72,7 @@ fn error_of(refusal: StoreError) -> u32 {
         StoreError::WrongType => 1,
         StoreError::NullName => 6,
         StoreError::Full => 9,
+        StoreError::CallLevel => 10,
         StoreError::BadPrototype => 12,
         StoreError::NoMemory => 0,
     }
@@ -79,6 +93,14 @@ fn place_of(object: u32, answer: Result<Option<Name>, StoreError>) -> Result<Opt
             Ok(if id == object { Some(place) } else { None })
         }
         Ok(_none) => Ok(None),
+        Err(refusal) => Err(error_of(refusal)),
+    }
+}
+
+/// Nothing, or the number of the error.
+fn done_of(answer: Result<(), StoreError>) -> Result<(), u32> {
+    match answer {
+        Ok(()) => Ok(()),
         Err(refusal) => Err(error_of(refusal)),
     }
 }
@@ -109,10 +131,100 @@ fn changes(store: &mut Store, alloc: Global, step: Step) -> Result<bool, AllocEr
             Err(refusal) => want == Err(error_of(refusal)),
         },
         other => {
+            let answers = calls_functions(store, alloc, other)?;
+            answers
+        }
+    })
+}
+
+/// Makes a call that defines a function, or that begins or ends a call of one, and says whether it answers what the step
+/// says.
+fn calls_functions(store: &mut Store, alloc: Global, step: Step) -> Result<bool, AllocError> {
+    Ok(match step {
+        Step::Define(prototype, entry, want) => {
+            done_of(store.define(prototype.as_bytes(), entry.as_bytes())) == want
+        }
+        Step::DefineMany(formals, want) => {
+            let prototype = many_formals(alloc, formals)?;
+            done_of(store.define(&prototype, b"")) == want
+        }
+        Step::Enter(function, arguments, want) => {
+            let arguments = values(alloc, arguments)?;
+            done_of(store.enter(SymId(function), arguments)) == want
+        }
+        Step::EnterMany(function, times) => {
+            let answers = enters(store, alloc, function, times)?;
+            answers
+        }
+        Step::Leave(want) => {
+            let value = store.leave();
+            value == want.value(alloc)?
+        }
+        Step::LeaveMany(times) => {
+            let answers = leaves(store, alloc, times)?;
+            answers
+        }
+        other => {
             let answers = reads(store, alloc, other)?;
             answers
         }
     })
+}
+
+/// A prototype whose formals are A, so many times.
+fn many_formals(alloc: Global, formals: u32) -> Result<Vec<u8>, AllocError> {
+    let mut prototype = Vec::from_slice(alloc, b"F(A")?;
+    for _formal in 1..formals {
+        prototype.extend_from_slice(b",A")?;
+    }
+    prototype.push(b')')?;
+    Ok(prototype)
+}
+
+/// The values of rows.
+fn values(alloc: Global, rows: &[Row]) -> Result<Vec<Value>, AllocError> {
+    let mut values = Vec::new(alloc);
+    for row in rows {
+        values.push(row.value(alloc)?)?;
+    }
+    Ok(values)
+}
+
+/// Begins calls of a function one in another, with 1, 2, 3 .. as their arguments, and says whether each is accepted.
+fn enters(store: &mut Store, alloc: Global, function: u32, times: u32) -> Result<bool, AllocError> {
+    let mut accepted = true;
+    for argument in 0..times {
+        let mut arguments = Vec::new(alloc);
+        arguments.push(Value::Int(i64::from(argument) + 1))?;
+        accepted = store.enter(SymId(function), arguments).is_ok() && accepted;
+    }
+    Ok(accepted)
+}
+
+/// Ends calls, and says whether each gives the null string.
+fn leaves(store: &mut Store, alloc: Global, times: u32) -> Result<bool, AllocError> {
+    let null = Row::Str("").value(alloc)?;
+    let mut are_null = true;
+    for _call in 0..times {
+        are_null = store.leave() == null && are_null;
+    }
+    Ok(are_null)
+}
+
+/// Whether a definition has this label, these formals and these locals.
+fn is_definition(
+    definition: Option<&Definition>,
+    want: Option<(&'static str, &'static [SymId], &'static [SymId])>,
+) -> bool {
+    match (definition, want) {
+        (Some(definition), Some((entry, formals, locals))) => {
+            definition.entry() == entry.as_bytes()
+                && definition.formals() == formals
+                && definition.locals() == locals
+        }
+        (None, None) => true,
+        _ => false,
+    }
 }
 
 /// Makes a call that changes nothing, and says whether it answers what the step says.
@@ -129,6 +241,8 @@ fn reads(store: &Store, alloc: Global, step: Step) -> Result<bool, AllocError> {
         },
         Step::Find(id, key, want) => place_of(id, store.find(ObjId(id), &key.value(alloc)?))
             == want,
+        Step::Definition(function, want) => is_definition(store.definition(SymId(function)), want),
+        Step::Level(want) => store.level() == want,
         _ => false,
     })
 }
