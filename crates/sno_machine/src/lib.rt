@@ -24,8 +24,9 @@ pub use items::{item, item_name};
 pub use keywords::{Keywords, is_settable};
 pub use lines::line_of;
 pub use machine::{
-    DATA_TYPE, Exit, FAILURE_IN_GOTO, MATCH_LIMIT, MOST_BYTES, Machine, NO_KEYWORD, NO_VARIABLE,
-    NULL_STRING, RETURN_OUTSIDE, Stop, TOO_LONG, UNDEFINED_LABEL, error,
+    CALL_LEVEL, DATA_TYPE, Exit, FAILURE_IN_GOTO, MATCH_LIMIT, MOST_BYTES, Machine, NO_KEYWORD,
+    NO_VARIABLE, NULL_STRING, RETURN_OUTSIDE, Stop, TOO_LONG, UNDEFINED_FUNCTION, UNDEFINED_LABEL,
+    error,
 };
 pub use operators::operation;
 pub use session::{assign, take_effect};

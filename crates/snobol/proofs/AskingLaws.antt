@@ -1,8 +1,10 @@
 -- A machine that is asked: what its calls answer, and why there is none.
-use Rattle.std.proofs.Common.{◌≡◌, ℕ, ◌==◌, nat_lt, Bool, true, false, List, [], ◌∷◌, length, if◌then◌else◌, refl, ap, Option, None, Some, Result, Ok, Err}
+use Rattle.std.proofs.Common.{◌≡◌, if◌then◌else◌, ℕ, ◌==◌, ◌≤◌, arith, nat_lt, Bool, true, false, List, [], ◌∷◌, length, refl, ap, Option, None, Some, Result, Ok, Err, IfOk, IfSome}
+use Rattle.std.proofs.lemmas.List.{length-append}
 use Rattle.std.specs.Result.{result_err}
 use Rattle.sno_io.specs.declared.jobs.Limits.{Limits}
-use Rattle.sno_store.specs.Contents.{place, is_symbol}
+use Rattle.sno_store.specs.Contents.{is_symbol}
+use Rattle.sno_pattern.specs.Table.{Node as Part}
 use Rattle.sno_text.specs.declared.node.Node.{Node}
 use Rattle.sno_text.specs.Source.{Source}
 use Rattle.sno_machine.specs.declared.machine.Exit.{Exit}
@@ -10,13 +12,12 @@ use Rattle.sno_machine.specs.declared.machine.Exit.TheVariants.{Failure, Halt}
 use Rattle.sno_machine.specs.declared.machine.Stop.TheVariants.{Error as HasError, ErrorIn as HasErrorIn, NoMemory, ReadFault, WriteFault, Ended as HasEnded}
 use Rattle.snobol.specs.declared.execution.Outcome.TheVariants as ran
 use Rattle.sno_machine.specs.World.{World, new_keywords}
-use Rattle.sno_machine.specs.Action.{Error, Ending, Got, Fails, Stops, Outcome, Action, settled, settles, either, and_then, gives, fails, stops}
-use Rattle.sno_machine.specs.Variables.{symbol, joins, variable_named}
+use Rattle.sno_machine.specs.Action.{Ending, Got, Fails, Stops, Outcome, Action, settled, settles, either, and_then, gives, fails}
+use Rattle.sno_machine.specs.Variables.{variable_named}
 use Rattle.snobol.specs.Meaning.{name_in, joins_name, joins_names}
-use Rattle.sno_machine.specs.State.{State, new_state, Does, itself, any}
+use Rattle.sno_machine.specs.State.{State, new_state, Does, Grows, OnAnswer, OnGoing, itself, any}
 use Rattle.snobol.specs.Running.{Devices, HasFault, ran_in}
-use Rattle.snobol.specs.Asking.{Asked, answered, stopped_by, IsNew, IsRefusal}
-use Rattle.sno_machine.proofs.Reading.{same_reading}
+use Rattle.snobol.specs.Asking.{answered, stopped_by, IsRefusal}
 
 -- what a call answers
 
@@ -34,6 +35,31 @@ write_fault_told (Err (Halt ReadFault)) d h e = absurd (cc e)
 write_fault_told (Err (Halt WriteFault)) d h e = h
 write_fault_told (Err (Halt (HasErrorIn code statement))) d h e = absurd (cc e)
 write_fault_told (Err (Halt HasEnded)) d h e = absurd (cc e)
+
+pub read_fault_told : {X : Type 0} (r : Result X Exit) (d : Devices) → HasFault r d → answered r ≡ Err ran.ReadFault → d.reader.broken ≡ true
+read_fault_told (Ok x) d h e = absurd (cc e)
+read_fault_told (Err Failure) d h e = absurd (cc e)
+read_fault_told (Err (Halt (HasError code))) d h e = absurd (cc e)
+read_fault_told (Err (Halt NoMemory)) d h e = absurd (cc e)
+read_fault_told (Err (Halt ReadFault)) d h e = h
+read_fault_told (Err (Halt WriteFault)) d h e = absurd (cc e)
+read_fault_told (Err (Halt (HasErrorIn code statement))) d h e = absurd (cc e)
+read_fault_told (Err (Halt HasEnded)) d h e = absurd (cc e)
+
+-- what holds wherever it goes on, and of what is answered
+
+pub going_told : {X : Type 0} (r : Result X Exit) (P : Type 0) → OnGoing r P → result_err (answered r) ≡ None → P
+going_told (Ok x) P h e = h
+going_told (Err Failure) P h e = h
+going_told (Err (Halt why)) P h e = absurd (cc e)
+
+pub answer_told : {X : Type 0} (r : Result X Exit) (P : X → Type 0) → OnAnswer P r → IfOk (answered r) (λ answer. IfSome answer P)
+answer_told (Ok x) P h = h
+answer_told (Err Failure) P h = tt
+answer_told (Err (Halt why)) P h = tt
+
+pub nodes_kept : (old new : List Part) → Grows old new → length old ≤ length new
+nodes_kept old new g = let n = length-append old g.0 in rw g.1 (omega arith)
 
 -- that names join the symbols never fails
 

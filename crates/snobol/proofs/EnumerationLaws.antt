@@ -1,14 +1,13 @@
 -- The listing of a pattern, from what its evaluation did.
-use Rattle.std.proofs.Common.{◌≡◌, ℕ, suc, ◌+◌, ◌*◌, ◌≤◌, ◌<◌, slice_get, Bool, true, false, nat_lt, List, [], ◌∷◌, ◌++◌, length, codes, refl, ap, sym, ◌∙◌, subst, arith, Option, Some, None, Result, Ok, Err, if◌then◌else◌, ◌⊎◌, inl, inr}
+use Rattle.std.proofs.Common.{◌≡◌, if◌then◌else◌, ℕ, suc, ◌+◌, ◌*◌, ◌≤◌, ◌<◌, slice_get, Bool, true, false, nat_lt, List, [], ◌∷◌, ◌++◌, length, codes, refl, ap, sym, ◌∙◌, subst, Option, Some, None, Result, Ok, Err, ◌⊎◌, inl, inr}
 use Rattle.std.proofs.lemmas.Bool.{le-ltb, lt-ltb}
-use Rattle.std.proofs.lemmas.List.{append-nil}
 use Rattle.std.specs.Io.KnownBytes.{Appends, Consumes}
 use Rattle.sno_io.specs.Devices.{Begins}
 use Rattle.sno_value.specs.declared.ids.ExprId.{ExprId}
 use Rattle.sno_value.specs.declared.ids.PatId.{PatId}
 use Rattle.sno_value.specs.declared.kind.PrimitiveKind.{PrimitiveKind}
 use Rattle.sno_pattern.specs.Pattern.{Pattern}
-use Rattle.sno_pattern.specs.Table.{Node, tree}
+use Rattle.sno_pattern.specs.Table.{tree}
 use Rattle.sno_text.specs.Source.{Source, IsTable}
 use Rattle.sno_text.specs.Trees.{Tree, Stands}
 use Rattle.sno_text.specs.Refusals.{IsAccepted}
@@ -21,30 +20,31 @@ use Rattle.sno_machine.specs.declared.machine.Exit.{Exit}
 use Rattle.sno_machine.specs.declared.machine.Exit.TheVariants.{Failure, Halt}
 use Rattle.sno_machine.specs.declared.machine.Stop.{Stop}
 use Rattle.sno_machine.specs.declared.machine.Stop.TheVariants.{Error as HasError, ErrorIn as HasErrorIn, NoMemory, ReadFault, WriteFault, Ended as HasEnded}
-use Rattle.sno_machine.specs.World.{World, new_world, new_keywords}
-use Rattle.sno_machine.specs.Action.{End, Error, Ending, Got, Fails, Stops, Outcome, Action, gives, settled, settles, stops, and_then}
+use Rattle.sno_machine.specs.World.{World, Keywords, new_world, new_keywords}
+use Rattle.sno_machine.specs.Action.{Error, Outcome, Action, gives, settles, stops, and_then}
 use Rattle.snobol.specs.Forms.{value}
 use Rattle.sno_machine.specs.Operators.{as_pattern}
 use Rattle.snobol.specs.Evaluate.{expression}
-use Rattle.sno_machine.specs.State.{State, new_state, world, MeetsReading, Reads, Feed, tree_of, IsPatternOf, itself, any}
+use Rattle.snobol.specs.Meaning.{calls}
+use Rattle.sno_machine.specs.State.{State, new_state, world, Feed, tree_of, IsPatternOf, itself, any}
 use Rattle.sno_machine.specs.Session.{listed}
 use Rattle.sno_machine.specs.Variables.{writes}
-use Rattle.sno_machine.proofs.Performing.{appends_nothing}
+use Rattle.sno_machine.specs.Performs.{Performs}
 use Rattle.snobol.specs.declared.enumeration.WaysOutcome.{WaysOutcome}
 use Rattle.snobol.specs.Reading.{IsRead}
 use Rattle.snobol.specs.declared.enumeration.WaysOutcome.TheVariants as ways
-use Rattle.snobol.specs.Listing.{lists_event, lists_events, lists_ways, lists, listing, IsListed, IsListing}
-use Rattle.snobol.specs.Running.{Devices, CanRun, Runs, MeetsRunning}
+use Rattle.snobol.specs.Listing.{lists_event, lists_events, lists_ways, listing, IsListed, IsListing}
+use Rattle.snobol.specs.Running.{Devices, CanRun, Runs, MeetsRunning, HasFault}
 use Rattle.snobol.specs.Sessions.{after_one, answers, most_events}
 use Rattle.snobol.specs.Given.{given_of, IsGivenOf}
 use Rattle.snobol.specs.Told.{Tells, outcome_told}
-use Rattle.snobol.proofs.RunningLaws.{does_runs, then_runs, then_ended}
+use Rattle.snobol.proofs.RunningLaws.{does_runs, runs_got, runs_failed, runs_halt, then_runs, then_ended}
 use Rattle.snobol.proofs.SessionLaws.{IsTurn, left, left_next, left_first, left_over, answer_then, answer_ended}
 use Rattle.sno_machine.proofs.Outcomes.{grows_none, gives_does, no_memory_does}
 
 -- the pattern that is listed
 abbrev pub built : Source → ExprId → Action Pattern
-built source e = and_then (expression source (value e)) as_pattern
+built source e = and_then (expression source (calls source) (value e)) as_pattern
 
 -- the world before a listing, and the state that shows it
 abbrev start : Bool → ℕ → World
@@ -69,13 +69,6 @@ nothing_given f g given none consumed = by f.left g.left none consumed
         first_none [] back e = refl
         first_none (byte ∷ front) back e = absurd (cc e)
 
--- what the pattern did where nothing is to be read
-did_meet : {X : Type 0} (see : List Node → X → Pattern) (fits : List Node → X → Type 0) (act : Action Pattern) (anchored : Bool) (limit : ℕ) (b : State) (f g : Feed) (r : Result X Exit) → Nothing f → Reads see fits act (begun anchored limit) b f g r
-    → MeetsReading (see b.nodes) (act (start anchored limit)) (world b []) r
-did_meet see fits act anchored limit b f g r none did =
-    subst (λ (bytes : List ℕ). MeetsReading (see b.nodes) (act (new_world bytes (new_keywords anchored 1_000_000 limit))) (world b []) r)
-    (ap (λ (bytes : List ℕ). bytes ++ []) (nothing_given f g did.given none did.consumed)) (did.meets [] (λ told. refl))
-
 listing_is : (source : Source) (e : ExprId) (subject : List ℕ) (anchored : Bool) (limit : ℕ) → length subject ≤ 1_000_000
     → listing source e subject anchored limit ≡ settles (built source e) (lists_ways source subject anchored limit) (start anchored limit)
 listing_is source e subject anchored limit short =
@@ -85,10 +78,10 @@ listing_is source e subject anchored limit short =
 -- the session of a listing
 
 abbrev pub to_end : Source → Pattern → List ℕ → Bool → ℕ → List Answer → ℕ → Action Unit
-to_end source p subject anchored limit = left (lists_event subject) (answers source) (λ given. trace p subject anchored limit given) (gives tt) limit
+to_end source p subject anchored limit = left (lists_event subject) (answers source (calls source)) (λ given. trace p subject anchored limit given) (gives tt) limit
 
 line_of_event : (source : Source) (subject : List ℕ) (given : List Answer) (event : Told) (way : List Pending) (next : List Answer → Action Unit) → is_value event ≡ false
-    → after_one (lists_event subject) (answers source) next given (in_trace event way) ≡ and_then (listed subject (in_trace event way)) (λ done. next given)
+    → after_one (lists_event subject) (answers source (calls source)) next given (in_trace event way) ≡ and_then (listed subject (in_trace event way)) (λ done. next given)
 line_of_event source subject given (V.Way start end) way next no_value = refl
 line_of_event source subject given (V.Assign target start end) way next no_value = refl
 line_of_event source subject given (V.Cursor target at) way next no_value = refl
@@ -102,26 +95,26 @@ pub event_then : (source : Source) (p : Pattern) (subject : List ℕ) (anchored 
     → slice_get (trace p subject anchored limit given) told ≡ Some (in_trace event way, n) → Runs {X = Unit} itself any (listed subject (in_trace event way)) a b d e (Ok tt) → Runs {X = Unit} itself any (to_end source p subject anchored limit given (suc told)) b c e f r
     → Runs {X = Unit} itself any (to_end source p subject anchored limit given told) a c d f r
 event_then source p subject anchored limit told given event way n a b c d e f r no_value few at did rest =
-    subst (λ (act : Action Unit). Runs {X = Unit} itself any act a c d f r) (sym (left_next (lists_event subject) (answers source) (λ more. trace p subject anchored limit more) (gives tt) limit told given (in_trace event way, n) few at ∙ line_of_event source subject given event way (λ more. to_end source p subject anchored limit more (suc told)) no_value))
+    subst (λ (act : Action Unit). Runs {X = Unit} itself any act a c d f r) (sym (left_next (lists_event subject) (answers source (calls source)) (λ more. trace p subject anchored limit more) (gives tt) limit told given (in_trace event way, n) few at ∙ line_of_event source subject given event way (λ more. to_end source p subject anchored limit more (suc told)) no_value))
     (then_runs {X = Unit} {Y = Unit} itself any itself any (listed subject (in_trace event way)) (λ done. to_end source p subject anchored limit given (suc told)) a b c d e f tt r did rest)
 
 pub event_ended : (source : Source) (p : Pattern) (subject : List ℕ) (anchored : Bool) (limit told : ℕ) (given : List Answer) (event : Told) (way : List Pending) (n : ℕ) (a b : State) (d e : Devices) (x : Exit) → is_value event ≡ false → told ≤ 2 * limit + 2
     → slice_get (trace p subject anchored limit given) told ≡ Some (in_trace event way, n) → Runs {X = Unit} itself any (listed subject (in_trace event way)) a b d e (Err x)
     → Runs {X = Unit} itself any (to_end source p subject anchored limit given told) a b d e (Err x)
 event_ended source p subject anchored limit told given event way n a b d e x no_value few at did =
-    subst (λ (act : Action Unit). Runs {X = Unit} itself any act a b d e (Err x)) (sym (left_next (lists_event subject) (answers source) (λ more. trace p subject anchored limit more) (gives tt) limit told given (in_trace event way, n) few at ∙ line_of_event source subject given event way (λ more. to_end source p subject anchored limit more (suc told)) no_value))
+    subst (λ (act : Action Unit). Runs {X = Unit} itself any act a b d e (Err x)) (sym (left_next (lists_event subject) (answers source (calls source)) (λ more. trace p subject anchored limit more) (gives tt) limit told given (in_trace event way, n) few at ∙ line_of_event source subject given event way (λ more. to_end source p subject anchored limit more (suc told)) no_value))
     (then_ended {X = Unit} {Y = Unit} itself any itself any (listed subject (in_trace event way)) (λ done. to_end source p subject anchored limit given (suc told)) a b d e x did)
 
 -- a deferred part, and what follows its answer
 pub value_then : (source : Source) (p : Pattern) (subject : List ℕ) (anchored : Bool) (limit told : ℕ) (given : List Answer) (primitive : Option PrimitiveKind) (e n : ℕ) (a b c : State) (d f g : Devices) (x : Option PatId) (r : Result Unit Exit) → IsTurn p subject anchored limit given told (Value primitive e, n)
-    → Runs given_of IsGivenOf (answers source primitive e) a b d f (Ok x) → Runs {X = Unit} itself any (to_end source p subject anchored limit (given ++ given_of b.nodes x ∷ []) (suc told)) b c f g r → Runs {X = Unit} itself any (to_end source p subject anchored limit given told) a c d g r
+    → Runs given_of IsGivenOf (answers source (calls source) primitive e) a b d f (Ok x) → Runs {X = Unit} itself any (to_end source p subject anchored limit (given ++ given_of b.nodes x ∷ []) (suc told)) b c f g r → Runs {X = Unit} itself any (to_end source p subject anchored limit given told) a c d g r
 value_then source p subject anchored limit told given primitive e n a b c d f g x r turn did rest =
-    answer_then {Y = Unit} itself any (lists_event subject) (answers source) (λ more. trace p subject anchored limit more) (gives (tt {0})) limit told given primitive e n a b c d f g x r turn.0 turn.1 did rest
+    answer_then {Y = Unit} itself any (lists_event subject) (answers source (calls source)) (λ more. trace p subject anchored limit more) (gives (tt {0})) limit told given primitive e n a b c d f g x r turn.0 turn.1 did rest
 
 pub value_ended : (source : Source) (p : Pattern) (subject : List ℕ) (anchored : Bool) (limit told : ℕ) (given : List Answer) (primitive : Option PrimitiveKind) (e n : ℕ) (a b : State) (d f : Devices) (x : Exit) → IsTurn p subject anchored limit given told (Value primitive e, n)
-    → Runs {X = Option PatId} given_of IsGivenOf (answers source primitive e) a b d f (Err x) → Runs {X = Unit} itself any (to_end source p subject anchored limit given told) a b d f (Err x)
+    → Runs {X = Option PatId} given_of IsGivenOf (answers source (calls source) primitive e) a b d f (Err x) → Runs {X = Unit} itself any (to_end source p subject anchored limit given told) a b d f (Err x)
 value_ended source p subject anchored limit told given primitive e n a b d f x turn did =
-    answer_ended {Y = Unit} itself any (lists_event subject) (answers source) (λ more. trace p subject anchored limit more) (gives (tt {0})) limit told given primitive e n a b d f x turn.0 turn.1 did
+    answer_ended {Y = Unit} itself any (lists_event subject) (answers source (calls source)) (λ more. trace p subject anchored limit more) (gives (tt {0})) limit told given primitive e n a b d f x turn.0 turn.1 did
 
 -- want of memory
 pub unlisted : (act : Action Unit) (s : State) (d : Devices) → CanRun s d → Runs {X = Unit} itself any act s s d d (Err (Halt NoMemory))
@@ -147,19 +140,12 @@ line_told V.Limit value_not exhausted_not aborted_not limit_not = absurd (limit_
 pub events_over : (source : Source) (p : Pattern) (subject : List ℕ) (anchored : Bool) (limit told : ℕ) (given : List Answer) (s : State) (d : Devices) → CanRun s d → length (trace p subject anchored limit given) ≤ told
     → Runs {X = Unit} itself any (to_end source p subject anchored limit given told) s s d d (Ok tt)
 events_over source p subject anchored limit told given s d can all =
-    rw (left_over (lists_event subject) (answers source) (λ more. trace p subject anchored limit more) (gives (tt {0})) limit told given all)
+    rw (left_over (lists_event subject) (answers source (calls source)) (λ more. trace p subject anchored limit more) (gives (tt {0})) limit told given all)
     (does_runs {X = Unit} itself any (gives tt) s s d (Ok tt) can (gives_does {X = Unit} itself any s tt tt refl tt))
-
--- it is listed
-pub listed_of : (source : Source) (e : ExprId) (subject : List ℕ) (anchored : Bool) (limit : ℕ) (b : State) (f g : Feed) (id : PatId) → length subject ≤ 1_000_000 → Nothing f → Reads tree_of IsPatternOf (built source e) (begun anchored limit) b f g (Ok id)
-    → listing source e subject anchored limit ≡ lists_events source (tree b.nodes id.0) subject anchored limit (most_events limit) [] 0 (world b [])
-unfolding settles
-listed_of source e subject anchored limit b f g id short none did =
-    listing_is source e subject anchored limit short ∙ ap (λ (o : Outcome Pattern). settled o.ending o.world o.wrote (lists_ways source subject anchored limit)) (did_meet tree_of IsPatternOf (built source e) anchored limit b f g _ none did)
 
 -- the whole session of a listing
 pub whole_listing : (source : Source) (p : Pattern) (subject : List ℕ) (anchored : Bool) (limit : ℕ) → to_end source p subject anchored limit [] 0 ≡ lists_events source p subject anchored limit (most_events limit) [] 0
-whole_listing source p subject anchored limit = left_first (lists_event subject) (answers source) (λ given. trace p subject anchored limit given) (gives (tt {0})) limit
+whole_listing source p subject anchored limit = left_first (lists_event subject) (answers source (calls source)) (λ given. trace p subject anchored limit given) (gives (tt {0})) limit
 
 -- what was performed is told
 tells_of : (o : Outcome Unit) (after : World) (wrote : List ℕ) (r : Result Unit Exit) → MeetsRunning (λ done. done) o after wrote r → Tells o wrote r
@@ -180,43 +166,47 @@ told act o a b d e r is none did = (
       (tells_of (act (world a (did.given ++ []))) (world b []) did.wrote r (did.meets [] (λ end. refl)))),
 )
 
--- it failed while it was built
-pub listed_failure : (source : Source) (e : ExprId) (subject : List ℕ) (anchored : Bool) (limit : ℕ) (b : State) (f g : Feed) → length subject ≤ 1_000_000 → Nothing f → Reads {X = PatId} tree_of IsPatternOf (built source e) (begun anchored limit) b f g (Err Failure)
-    → listing source e subject anchored limit ≡ record { ending = Got tt; world = world b []; wrote = codes "exhausted\n" }
-unfolding settles
-listed_failure source e subject anchored limit b f g short none did =
-    listing_is source e subject anchored limit short ∙ ap (λ (o : Outcome Pattern). settled o.ending o.world o.wrote (lists_ways source subject anchored limit)) (did_meet tree_of IsPatternOf (built source e) anchored limit b f g _ none did)
+-- a new machine
 
-settled_stop : (source : Source) (subject : List ℕ) (anchored : Bool) (limit code : ℕ) (end : Ending Pattern) (w : World) (wrote : List ℕ) → end ≡ Stops (Error code) → wrote ≡ []
-    → ((settled end w wrote (lists_ways source subject anchored limit)).ending ≡ Stops (Error code)) × ((settled end w wrote (lists_ways source subject anchored limit)).wrote ≡ [])
-settled_stop source subject anchored limit code end w wrote e n = rw (e, n) (refl, refl)
+pub new_closed : (s : State) (keywords : Keywords) → s ≡ new_state keywords → s.store.calls ≡ []
+new_closed s keywords is = ap (λ (t : State). t.store.calls) is
 
--- it ended the listing, which has written nothing
-pub listed_stop : (source : Source) (e : ExprId) (subject : List ℕ) (anchored : Bool) (limit : ℕ) (b : State) (f g : Feed) (why : Stop) → length subject ≤ 1_000_000 → Nothing f → g.broken ≡ false → Reads {X = PatId} tree_of IsPatternOf (built source e) (begun anchored limit) b f g (Err (Halt why))
-    → Tells (listing source e subject anchored limit) [] (Err (Halt why))
-unfolding settles
-listed_stop source e subject anchored limit b f g (HasError code) short none sound did =
-    let o = built source e (start anchored limit) in
-    let met = did_meet {X = PatId} tree_of IsPatternOf (built source e) anchored limit b f g (Err (Halt (HasError code))) none did in
-    rw (listing_is source e subject anchored limit short) (settled_stop source subject anchored limit code o.ending o.world o.wrote met.0 met.1)
-listed_stop source e subject anchored limit b f g NoMemory short none sound did = ((listing source e subject anchored limit).wrote, refl)
-listed_stop source e subject anchored limit b f g ReadFault short none sound did = absurd (cc (sym did.cause ∙ sound))
-listed_stop source e subject anchored limit b f g WriteFault short none sound did = absurd (did_meet {X = PatId} tree_of IsPatternOf (built source e) anchored limit b f g (Err (Halt WriteFault)) none did)
-listed_stop source e subject anchored limit b f g (HasErrorIn code statement) short none sound did = absurd (did_meet {X = PatId} tree_of IsPatternOf (built source e) anchored limit b f g (Err (Halt (HasErrorIn code statement))) none did)
-listed_stop source e subject anchored limit b f g HasEnded short none sound did = absurd (did_meet {X = PatId} tree_of IsPatternOf (built source e) anchored limit b f g (Err (Halt HasEnded)) none did)
+pub new_runs : (s : State) (keywords : Keywords) (d : Devices) → s ≡ new_state keywords → d.reader.broken ≡ false → d.stuck ≡ false → CanRun s d
+new_runs s keywords d is sound unstuck = rw is (record { reads = record { going = refl; same = λ told. absurd (cc told); sound = sound }; writes = unstuck })
 
--- evaluating a pattern writes nothing
-pub stop_unwritten : (act : Action Pattern) (anchored : Bool) (limit : ℕ) (b : State) (f g : Feed) (why : Stop) → Nothing f → Reads {X = PatId} tree_of IsPatternOf act (begun anchored limit) b f g (Err (Halt why)) → why ≡ WriteFault → ⊥
-stop_unwritten act anchored limit b f g (HasError code) none did e = cc e
-stop_unwritten act anchored limit b f g NoMemory none did e = cc e
-stop_unwritten act anchored limit b f g ReadFault none did e = cc e
-stop_unwritten act anchored limit b f g WriteFault none did e = did_meet {X = PatId} tree_of IsPatternOf act anchored limit b f g (Err (Halt WriteFault)) none did
-stop_unwritten act anchored limit b f g (HasErrorIn code statement) none did e = cc e
-stop_unwritten act anchored limit b f g HasEnded none did e = cc e
+-- a pattern that was built, or not, and what followed
 
--- a beginning of the line of a pattern that has no way
-pub told_in_part : (o : Outcome Unit) (lines part : List ℕ) → o.wrote ≡ lines → Begins part lines → Tells o part (Err (Halt WriteFault))
-told_in_part o lines part e b = rw e b
+abbrev pub whole : Source → ExprId → List ℕ → Bool → ℕ → Action Unit
+whole source e subject anchored limit = settles (built source e) (lists_ways source subject anchored limit)
+
+pub built_listed : (source : Source) (e : ExprId) (subject : List ℕ) (anchored : Bool) (limit : ℕ) (a b c : State) (d f g : Devices) (id : PatId) (r : Result Unit Exit) → Runs tree_of IsPatternOf (built source e) a b d f (Ok id)
+    → Runs {X = Unit} itself any (lists_events source (tree b.nodes id.0) subject anchored limit (most_events limit) [] 0) b c f g r → Runs {X = Unit} itself any (whole source e subject anchored limit) a c d g r
+built_listed source e subject anchored limit a b c d f g id r did rest = runs_got tree_of IsPatternOf itself any (built source e) (lists_ways source subject anchored limit) a b c d f g id r did rest
+
+pub failed_listed : (source : Source) (e : ExprId) (subject : List ℕ) (anchored : Bool) (limit : ℕ) (a b c : State) (d f g : Devices) (r : Result Unit Exit) → Runs {X = PatId} tree_of IsPatternOf (built source e) a b d f (Err Failure)
+    → Runs {X = Unit} itself any (writes (codes "exhausted\n")) b c f g r → Runs {X = Unit} itself any (whole source e subject anchored limit) a c d g r
+failed_listed source e subject anchored limit a b c d f g r did rest = runs_failed {X = PatId} tree_of IsPatternOf itself any (built source e) (lists_ways source subject anchored limit) a b c d f g r did rest
+
+pub stopped_listed : (source : Source) (e : ExprId) (subject : List ℕ) (anchored : Bool) (limit : ℕ) (a b : State) (d f : Devices) (why : Stop) → Runs {X = PatId} tree_of IsPatternOf (built source e) a b d f (Err (Halt why))
+    → Runs {X = Unit} itself any (whole source e subject anchored limit) a b d f (Err (Halt why))
+stopped_listed source e subject anchored limit a b d f why did = runs_halt {X = PatId} {Y = Unit} tree_of IsPatternOf itself any (built source e) (lists_ways source subject anchored limit) a b d f why did
+
+-- the line of a pattern that failed while it was built
+
+pub line_put : (bytes : List ℕ) (s : State) (x y : Option (List ℕ)) → Appends x y bytes → Performs (writes bytes) s s x y (Ok tt)
+line_put bytes s x y put = record { wrote = bytes; appends = put; ends = λ more. refl; unread = refl }
+
+pub line_cut : (bytes part : List ℕ) (s : State) (x y : Option (List ℕ)) → Begins part bytes → Appends x y part → Performs (writes bytes) s s x y (Err WriteFault)
+line_cut bytes part s x y begins put = record { wrote = part; appends = put; ends = λ more. begins; unread = refl }
+
+-- how it ended, and what was written, is the listing
+pub listed_as : (source : Source) (e : ExprId) (subject : List ℕ) (anchored : Bool) (limit : ℕ) (b : State) (d f : Devices) (r : Result Unit Exit) → length subject ≤ 1_000_000 → Nothing d.reader → Runs {X = Unit} itself any (whole source e subject anchored limit) (begun anchored limit) b d f r
+    → (wrote : List ℕ) × Appends d.taken f.taken wrote × Tells (listing source e subject anchored limit) wrote r
+listed_as source e subject anchored limit b d f r short none did = told (whole source e subject anchored limit) (listing source e subject anchored limit) (begun anchored limit) b d f r (listing_is source e subject anchored limit short) none did
+
+-- a fault of the writer is its own
+pub fault_told : (r : Result Unit Exit) (d : Devices) → HasFault r d → r ≡ Err (Halt WriteFault) → d.stuck ≡ true
+fault_told r d fault is = rw is at fault
 
 -- what was told of a pattern that is read is its listing
 pub is_listing : (pattern subject : List ℕ) (anchored : Bool) (limit : ℕ) (source : Source) (e : ExprId) (outcome : WaysOutcome) (end : Result Unit Exit) (wrote : List ℕ)

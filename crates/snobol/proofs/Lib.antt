@@ -1,11 +1,13 @@
 pub mod Expressions
 pub mod Piles
 pub mod Leads
+pub mod ApplyLaws
 pub mod Holders
 pub mod Ordered
 pub mod ListingLaws
 pub mod EnumerationLaws
 pub mod RunningLaws
+pub mod CallingLaws
 pub mod JobLaws
 pub mod Ranges
 pub mod StatementLaws
@@ -16,3 +18,4 @@ pub mod AnswerLaws
 pub mod SessionLaws
 pub mod MatchLaws
 pub mod AskingLaws
+pub mod CallLaws

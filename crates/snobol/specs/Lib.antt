@@ -10,6 +10,7 @@ pub mod Statements
 pub mod Meaning
 pub mod Running
 pub mod Targets
+pub mod Calling
 pub mod Asking
 pub mod Listing
 pub mod Told

@@ -12,6 +12,7 @@ use Rattle.sno_machine.specs.Action.{End, Error, ErrorIn, Ended, Ending, Got, Fa
 use Rattle.snobol.specs.Forms.{value}
 use Rattle.sno_machine.specs.Operators.{as_pattern}
 use Rattle.snobol.specs.Evaluate.{expression}
+use Rattle.snobol.specs.Meaning.{calls}
 use Rattle.snobol.specs.Reading.{IsRead, IsRefusal}
 use Rattle.sno_machine.specs.Variables.{writes}
 use Rattle.sno_machine.specs.Session.{listed}
@@ -22,7 +23,7 @@ abbrev pub lists_event : List ℕ → Event → Action Unit → Action Unit
 lists_event subject event next = and_then (listed subject event) (λ done. next)
 
 abbrev pub lists_events : Source → Pattern → List ℕ → Bool → ℕ → ℕ → List Answer → ℕ → Action Unit
-lists_events source p subject anchored limit = session (lists_event subject) (answers source) (λ given. trace p subject anchored limit given) (gives tt)
+lists_events source p subject anchored limit = session (lists_event subject) (answers source (calls source)) (λ given. trace p subject anchored limit given) (gives tt)
 
 -- the events of the whole trace; a pattern that failed while it was built has no way
 abbrev pub lists_ways : Source → List ℕ → Bool → ℕ → Option Pattern → Action Unit
@@ -32,7 +33,7 @@ lists_ways source subject anchored limit = either (writes (codes "exhausted\n"))
 abbrev pub lists : Source → ExprId → List ℕ → Bool → ℕ → Action Unit
 lists source e subject anchored limit =
     if nat_lt 1_000_000 (length subject) then stops (Error 8)
-    else settles (and_then (expression source (value e)) as_pattern) (lists_ways source subject anchored limit)
+    else settles (and_then (expression source (calls source) (value e)) as_pattern) (lists_ways source subject anchored limit)
 
 -- how the listing of a pattern that is read ends, and its lines
 abbrev pub listing : Source → ExprId → List ℕ → Bool → ℕ → Outcome Unit

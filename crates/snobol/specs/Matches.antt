@@ -9,6 +9,7 @@ use Rattle.sno_machine.specs.Variables.{assigns}
 use Rattle.sno_machine.specs.Keywords.{is_anchored}
 use Rattle.sno_machine.specs.Session.{part_of, effect}
 use Rattle.sno_text.specs.Source.{Source}
+use Rattle.snobol.specs.Evaluate.{Caller}
 use Rattle.snobol.specs.Sessions.{answers, session, most_events}
 
 -- the assignments that waited for the end of the match, in their order
@@ -27,9 +28,9 @@ after_event subject (Ended Waiting) next = fails
 after_event subject event next = and_then (effect subject event) (λ done. next)
 
 -- the events of a match, up to the first way
-abbrev pub first_way : Source → Pattern → List ℕ → Bool → ℕ → ℕ → List Answer → ℕ → Action (ℕ × ℕ)
-first_way source p subject anchored limit = session (after_event subject) (answers source) (λ given. trace p subject anchored limit given) fails
+abbrev pub first_way : Source → Caller → Pattern → List ℕ → Bool → ℕ → ℕ → List Answer → ℕ → Action (ℕ × ℕ)
+first_way source call p subject anchored limit = session (after_event subject) (answers source call) (λ given. trace p subject anchored limit given) fails
 
 -- a pattern is matched against a subject, and gives where it begins and ends
-abbrev pub matches : Source → Pattern → List ℕ → Action (ℕ × ℕ)
-matches source p subject w = first_way source p subject (is_anchored w.keywords.anchor) w.keywords.steps (most_events w.keywords.steps) [] 0 w
+abbrev pub matches : Source → Caller → Pattern → List ℕ → Action (ℕ × ℕ)
+matches source call p subject w = first_way source call p subject (is_anchored w.keywords.anchor) w.keywords.steps (most_events w.keywords.steps) [] 0 w

@@ -138,7 +138,7 @@ IsPossible given at_end input = (more : List ℕ) × (input ≡ given ++ more) �
 
 -- For every possible input the run ended as its meaning says and wrote what that says, or was broken off and wrote a
 -- beginning of it.
-abbrev pub RunsAs : (List ℕ → Outcome Unit) → Devices → Devices → RunOutcome → Type 0
+abbrev pub RunsAs : {A : Type 0} → (List ℕ → Outcome A) → Devices → Devices → RunOutcome → Type 0
 RunsAs meaning old new outcome =
     (given : List ℕ) × (wrote : List ℕ) × Consumes old.reader.left new.reader.left given × Appends old.taken new.taken wrote
     × ((input : List ℕ) → IsPossible given new.reader.at_end input → MeetsOutcome (meaning input) wrote outcome)

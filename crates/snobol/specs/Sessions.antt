@@ -8,7 +8,7 @@ use Rattle.sno_machine.specs.Values.{Value as Given}
 use Rattle.sno_machine.specs.Action.{Action, gives, settles, either, and_then}
 use Rattle.sno_machine.specs.Operators.{answer}
 use Rattle.snobol.specs.Forms.{value}
-use Rattle.snobol.specs.Evaluate.{expression}
+use Rattle.snobol.specs.Evaluate.{Caller, expression}
 
 abbrev pub numbered : ℕ → ExprId
 numbered e = record { 0 = e }
@@ -18,8 +18,8 @@ abbrev pub answer_of : Option PrimitiveKind → Option Given → Action Answer
 answer_of primitive None = gives None
 answer_of primitive (Some v) = and_then (answer primitive v) (λ p. gives (Some p))
 
-abbrev pub answers : Source → Option PrimitiveKind → ℕ → Action Answer
-answers source primitive e = settles (expression source (value (numbered e))) (answer_of primitive)
+abbrev pub answers : Source → Caller → Option PrimitiveKind → ℕ → Action Answer
+answers source call primitive e = settles (expression source call (value (numbered e))) (answer_of primitive)
 
 -- one event, and what follows it; behind a deferred part that goes on with its answer
 abbrev pub after_one : {A : Type 0} → (Event → Action A → Action A) → (Option PrimitiveKind → ℕ → Action Answer) → (List Answer → Action A) → List Answer → Event → Action A

@@ -3,6 +3,8 @@
 
 mod answers;
 mod apply;
+mod calls;
+mod code;
 mod enumeration;
 mod evaluate;
 mod execution;
@@ -15,6 +17,7 @@ mod matching;
 mod no_input;
 mod pile;
 mod replacement;
+mod scope;
 mod statements;
 mod targets;
 

@@ -6,23 +6,29 @@ ghost use Rattle.sno_match.specs.Within.{IsWithin};
 ghost use Rattle.sno_machine.specs.Session.{listed};
 ghost use Rattle.sno_machine.specs.Performs.{Performs};
 ghost use Rattle.sno_machine.specs.State.{itself, any};
-ghost use Rattle.snobol.specs.Forms.{IsOrdered};
+ghost use Rattle.snobol.specs.Calling.{Calling};
 ghost use Rattle.snobol.specs.Listing.{lists_events};
 ghost use Rattle.snobol.specs.Running.{Runs, CanRun, devices};
 ghost use Rattle.snobol.specs.Sessions.{most_events};
 
-use crate::answers::answer_to;
+use crate::answers::answer_of;
+use crate::evaluate::evaluate;
+use crate::forms::value_of;
+use crate::scope::Scope;
 use sno_io::{Sink, Source, put};
 use sno_machine::{Exit, Machine, Stop, line_of, take_effect};
 use sno_match::{Event, Matcher, Pending};
-use sno_text::Program;
-use sno_value::PatId;
+use sno_value::{PatId, SymId, Value};
 
 /// Lists the events of a match, up to the last: each event's line is written, and then it takes effect. A deferred part
 /// is evaluated, and has no line.
-pub(crate) fn list_ways<R: Source, W: Sink>(
+pub(crate) fn list_ways<
+    R: Source,
+    W: Sink,
+    C: Fn(&mut Machine, &mut R, &mut W, SymId, Vec<Value>) -> Result<Value, Exit>,
+>(
     machine: &mut Machine,
-    program: &Program,
+    scope: &Scope<C>,
     reader: &mut R,
     pattern: PatId,
     subject: &[u8],
@@ -30,11 +36,13 @@ pub(crate) fn list_ways<R: Source, W: Sink>(
     limit: u32,
     writer: &mut W,
 ) -> Result<(), Exit>
-    requires ordered { IsOrdered program.now }
+    requires calls { Calling R.left R.at_end R.broken W.taken W.broken scope.now.code.now scope.now.level (C.pre scope.now.call) (C.post scope.now.call) }
+    requires level { length machine.old.store.calls ≡ scope.now.level }
+    requires outermost { scope.now.level ≡ 0 }
     requires pattern { pattern.0 < length machine.old.nodes }
     requires subject { length subject.now ≤ 1_000_000 }
     requires ready { CanRun machine.old (devices (R.left reader.old) (R.at_end reader.old) (R.broken reader.old) (W.taken writer.old) (W.broken writer.old)) }
-    ensures { Runs itself any (lists_events program.now (tree machine.old.nodes pattern.0) subject.now anchored limit (most_events limit) [] 0) machine.old machine.new
+    ensures { Runs itself any (lists_events scope.now.code.now (tree machine.old.nodes pattern.0) subject.now anchored limit (most_events limit) [] 0) machine.old machine.new
         (devices (R.left reader.old) (R.at_end reader.old) (R.broken reader.old) (W.taken writer.old) (W.broken writer.old))
         (devices (R.left reader.new) (R.at_end reader.new) (R.broken reader.new) (W.taken writer.new) (W.broken writer.new)) result }
 {
@@ -44,7 +52,8 @@ pub(crate) fn list_ways<R: Source, W: Sink>(
         let event = matcher.next(machine.patterns())?;
         match event {
             Event::Value { prim, expr } => {
-                let given = answer_to(machine, program, reader, prim, expr)?;
+                let value = evaluate(machine, scope, reader, writer, Some(value_of(expr)));
+                let given = answer_of(machine, prim, value)?;
                 matcher.answer(machine.patterns(), given)?;
             }
             Event::Exhausted | Event::Aborted | Event::Limit => {

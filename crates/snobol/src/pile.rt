@@ -1,12 +1,13 @@
 //! The expressions that wait for an operand, and the values that they hold. Evaluation is a loop over this pile, so that
 //! no depth of operators reaches the machine's stack.
-ghost use Rattle.std.specs.Prelude.{◌≡◌, ◌≤◌, ◌+◌, ◌-◌, List, [], length, map, take, drop, Some, IfOk, IfErr};
+ghost use Rattle.std.specs.Prelude.{◌≡◌, ◌≤◌, ◌+◌, ◌-◌, List, [], length, map, take, drop, IfOk, IfErr};
 ghost use Rattle.std.specs.List.{AllByRecursion};
 ghost use Rattle.sno_pattern.specs.Table.{Node};
 ghost use Rattle.sno_machine.specs.Values.{shown, IsValueOf};
-ghost use Rattle.snobol.specs.Forms.{IsOrdered};
+ghost use Rattle.snobol.specs.Forms.{IsOrdered, node_at};
 ghost use Rattle.sno_machine.specs.State.{Reads, IsReady, feed};
-ghost use Rattle.snobol.specs.Pile.{holds, apply_at, after_turn, after_next, turn_work, Falls, at_hand, still_at_hand, Keeps};
+ghost use Rattle.snobol.specs.Evaluate.{Caller, given_by};
+ghost use Rattle.snobol.specs.Pile.{holds, after_turn, after_next, turn_work, Falls, at_hand, still_at_hand, Keeps};
 
 use crate::apply::apply;
 use crate::forms::{Part, absorbs_failure, operand};
@@ -14,7 +15,7 @@ use sno_io::Source;
 use sno_machine::{Exit, Machine, Stop, null};
 use sno_text::Program;
 use sno_value::Value;
-use std::alloc::Global;
+use std::alloc::{AllocError, Global};
 use std::marker::Model;
 
 /// An expression that waits for an operand, and how many values of earlier operands it holds.
@@ -78,7 +79,7 @@ impl Pile {
     /// Takes a turn.
     pub fn next(&mut self, program: &Program, turn: Turn) -> Result<Next, Exit>
         requires { IsOrdered program.now }
-        ensures rest { IfOk result (λ n. (nodes : List Node) → after_turn program.now (shown nodes) self.old turn ≡ after_next program.now (shown nodes) self.new n) }
+        ensures rest { IfOk result (λ n. (call : Caller) (nodes : List Node) → after_turn program.now call (shown nodes) self.old turn ≡ after_next program.now call (shown nodes) self.new n) }
         ensures work { IfOk result (λ n. Falls program.now self.new n (turn_work program.now self.old turn)) }
         ensures known { IfOk result (λ n. Keeps (at_hand self.old.values turn) (still_at_hand self.new.values n)) }
         ensures memory { IfErr result (λ e. e ≡ Exit.Halt Stop.NoMemory) }
@@ -93,7 +94,7 @@ impl Pile {
     /// Enters an expression: its first operand is next, or its form where it has none.
     fn enter(&mut self, program: &Program, part: Part) -> Result<Next, Exit>
         requires { IsOrdered program.now }
-        ensures rest { IfOk result (λ n. (nodes : List Node) → after_turn program.now (shown nodes) self.old (Turn.Enter part) ≡ after_next program.now (shown nodes) self.new n) }
+        ensures rest { IfOk result (λ n. (call : Caller) (nodes : List Node) → after_turn program.now call (shown nodes) self.old (Turn.Enter part) ≡ after_next program.now call (shown nodes) self.new n) }
         ensures work { IfOk result (λ n. Falls program.now self.new n (turn_work program.now self.old (Turn.Enter part))) }
         ensures known { IfOk result (λ n. Keeps self.old.values (still_at_hand self.new.values n)) }
         ensures memory { IfErr result (λ e. e ≡ Exit.Halt Stop.NoMemory) }
@@ -110,7 +111,7 @@ impl Pile {
     /// The last that waits takes a value: its next operand is next, or its form where it has no more.
     fn resume(&mut self, program: &Program, value: Value) -> Result<Next, Exit>
         requires { IsOrdered program.now }
-        ensures rest { IfOk result (λ n. (nodes : List Node) → after_turn program.now (shown nodes) self.old (Turn.Got value) ≡ after_next program.now (shown nodes) self.new n) }
+        ensures rest { IfOk result (λ n. (call : Caller) (nodes : List Node) → after_turn program.now call (shown nodes) self.old (Turn.Got value) ≡ after_next program.now call (shown nodes) self.new n) }
         ensures work { IfOk result (λ n. Falls program.now self.new n (turn_work program.now self.old (Turn.Got value))) }
         ensures known { IfOk result (λ n. Keeps (at_hand self.old.values (Turn.Got value)) (still_at_hand self.new.values n)) }
         ensures memory { IfErr result (λ e. e ≡ Exit.Halt Stop.NoMemory) }
@@ -134,7 +135,7 @@ impl Pile {
 
     /// The last that waits fails with its operand, or is null where it absorbs the failure.
     fn fail(&mut self, program: &Program) -> Next
-        ensures rest { (nodes : List Node) → after_turn program.now (shown nodes) self.old Turn.Failed ≡ after_next program.now (shown nodes) self.new result }
+        ensures rest { (call : Caller) (nodes : List Node) → after_turn program.now call (shown nodes) self.old Turn.Failed ≡ after_next program.now call (shown nodes) self.new result }
         ensures work { Falls program.now self.new result (turn_work program.now self.old Turn.Failed) }
         ensures known { Keeps self.old.values (still_at_hand self.new.values result) }
     {
@@ -149,7 +150,8 @@ impl Pile {
         Next::Turn(Turn::Failed)
     }
 
-    /// What a form gives that is applied to the last values, which are let go.
+    /// What a form gives that is applied to the last values, which are let go. It is no call of a function that the program
+    /// defines.
     pub fn apply<R: Source>(
         &mut self,
         machine: &mut Machine,
@@ -161,7 +163,7 @@ impl Pile {
         requires count { holds self.old.waiting + count ≤ length self.old.values }
         requires values { AllByRecursion (IsValueOf machine.old.nodes) self.old.values }
         requires ready { IsReady machine.old (feed (R.left reader.old) (R.at_end reader.old) (R.broken reader.old)) }
-        ensures does { Reads shown IsValueOf (apply_at program.now part (Some (map (shown machine.old.nodes) (drop (length self.old.values - count) self.old.values)))) machine.old machine.new (feed (R.left reader.old) (R.at_end reader.old) (R.broken reader.old)) (feed (R.left reader.new) (R.at_end reader.new) (R.broken reader.new)) result }
+        ensures does { Reads shown IsValueOf (given_by program.now.text (node_at program.now part) part.wanted (map (shown machine.old.nodes) (drop (length self.old.values - count) self.old.values))) machine.old machine.new (feed (R.left reader.old) (R.at_end reader.old) (R.broken reader.old)) (feed (R.left reader.new) (R.at_end reader.new) (R.broken reader.new)) result }
         ensures rest { self.new ≡ record self.old { values = take (length self.old.values - count) self.old.values } }
     {
         let at = self.values.len() - count;
@@ -174,5 +176,15 @@ impl Pile {
         );
         self.values.truncate(at);
         value
+    }
+
+    /// The last values, which are let go.
+    pub fn split_off(&mut self, count: usize) -> Result<Vec<Value>, AllocError>
+        requires { holds self.old.waiting + count ≤ length self.old.values }
+        ensures taken { IfOk result (λ last. last.items ≡ drop (length self.old.values - count) self.old.values) }
+        ensures rest { IfOk result (λ last. self.new ≡ record self.old { values = take (length self.old.values - count) self.old.values }) }
+    {
+        let at = self.values.len() - count;
+        self.values.split_off(at)
     }
 }

@@ -1,6 +1,7 @@
 //! Worked rows, from the rules and by hand, and devices that fail.
 mod asking;
 mod assignments;
+mod calls;
 mod choices;
 mod containers;
 mod deferred;

@@ -39,17 +39,6 @@ fn errors_of_patterns(rt: HostRuntime) -> Result<(), Fail> {
     check_rows::<Ways, _>(&rt, ERRORS_OF_PATTERNS)
 }
 
-/// DEFINE, whose arguments aren't evaluated.
-const FORMS_THAT_ARE_STILL_TO_COME: &str = r"
-DEFINE('F()') => status 1: snobol4: error 90\n
-DEFINE(1 / 0) => status 1: snobol4: error 90\n
-";
-
-#[test]
-fn forms_that_are_still_to_come(rt: HostRuntime) -> Result<(), Fail> {
-    check_rows::<Ways, _>(&rt, FORMS_THAT_ARE_STILL_TO_COME)
-}
-
 /// A begins with the null string, which is neither an array nor a table; an object is no pattern.
 const ITEMS_AND_OBJECTS: &str = r"
 A<1> => status 1: snobol4: error 1\n

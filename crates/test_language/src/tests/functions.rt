@@ -280,18 +280,18 @@ fn arguments(rt: HostRuntime) -> Result<(), Fail> {
     check_rows::<Values, _>(&rt, ARGUMENTS)
 }
 
-const FUNCTIONS_TO_COME: &str = r"
+const FUNCTIONS_BY_THEIR_NAMES: &str = r"
 CONVERT(1 / 0) => error 3
 ARRAY(1 / 0) => error 3
 TABLE(1 / 0) => error 3
 PROTOTYPE(1 / 0) => error 3
-DEFINE(1 / 0) => error 90
+DEFINE(1 / 0) => error 3
 NOSUCH(1) => error 4
 size('A') => error 4
 SIZES('A') => error 4
 ";
 
 #[test]
-fn functions_to_come(rt: HostRuntime) -> Result<(), Fail> {
-    check_rows::<Values, _>(&rt, FUNCTIONS_TO_COME)
+fn functions_by_their_names(rt: HostRuntime) -> Result<(), Fail> {
+    check_rows::<Values, _>(&rt, FUNCTIONS_BY_THEIR_NAMES)
 }

@@ -1,41 +1,89 @@
-use Rattle.std.proofs.Common.{◌≡◌, ap, refl, []}
+use Rattle.std.proofs.Common.{◌∙◌, ap, length, refl, codes, Ok, Err}
+use Rattle.sno_machine.specs.declared.machine.Exit.TheVariants.{Halt}
 use Rattle.sno_machine.specs.declared.machine.Stop.TheVariants.{WriteFault}
-use Rattle.sno_machine.specs.Action.{Outcome}
-use Rattle.snobol.specs.Listing.{listing}
-use Rattle.snobol.proofs.EnumerationLaws.{listed_of, listed_failure, listed_stop, told, told_in_part, stop_unwritten}
-use Rattle.sno_machine.proofs.Performing.{appends_nothing}
+use Rattle.snobol.proofs.RunningLaws.{performs_runs}
+use Rattle.snobol.proofs.EnumerationLaws.{new_closed, new_runs, built_listed, failed_listed, stopped_listed, line_put, line_cut, listed_as, fault_told}
 use Rattle.snobol.proofs.enumeration.list.Goals as goal
+
+pub pattern_of-requires-clause-calls : goal.pattern_of-requires-clause-calls
+pattern_of-requires-clause-calls g c = record {
+  callable = λ m r w f xs level can values. (level, (values, can));
+  meant = λ m r w f xs x m1 r1 w1 did. did.2;
+}
+
+pub pattern_of-requires-clause-level : goal.pattern_of-requires-clause-level
+pattern_of-requires-clause-level g c = ap length (new_closed c.in-Ok.machine c.new-keywords.result (rw c.in-Ok.is at c.new.ensures))
+
+pub pattern_of-requires-clause-ready : goal.pattern_of-requires-clause-ready
+pattern_of-requires-clause-ready g c = new_runs c.in-Ok.machine c.new-keywords.result _ (rw c.in-Ok.is at c.new.ensures) refl c.requires.sound
+
+pub list_ways-requires-clause-calls : goal.list_ways-requires-clause-calls
+list_ways-requires-clause-calls g c = record {
+  callable = λ m r w f xs level can values. (level, (values, can));
+  meant = λ m r w f xs x m1 r1 w1 did. did.2;
+}
+
+pub list_ways-requires-clause-level : goal.list_ways-requires-clause-level
+list_ways-requires-clause-level g c =
+    let did = rw c.in-Ok-pattern_of.is at c.pattern_of.ensures in
+    ap length (did.calls ∙ new_closed c.in-Ok.machine c.new-keywords.result (rw c.in-Ok.is at c.new.ensures))
+
+pub list_ways-requires-clause-pattern : goal.list_ways-requires-clause-pattern
+list_ways-requires-clause-pattern g c =
+    let start = rw c.in-Ok.is at c.new.ensures in
+    let did = rw c.in-Ok-pattern_of.is at (c.pattern_of.ensures) in
+    did.answer
+
+pub list_ways-requires-clause-ready : goal.list_ways-requires-clause-ready
+list_ways-requires-clause-ready g c =
+    let start = rw c.in-Ok.is at c.new.ensures in
+    let did = rw c.in-Ok-pattern_of.is at (c.pattern_of.ensures) in
+    did.ready
+
+pub put-requires : goal.put-requires
+put-requires g c =
+    let start = rw c.in-Ok.is at c.new.ensures in
+    let did = rw (c.in-Err-Failure.is, c.in-Err-Failure.field-0-is) at (c.pattern_of.ensures) in
+    did.ready.writes
 
 pub returns-in-Ok-pattern_of-clause-listing : goal.returns-in-Ok-pattern_of-clause-listing
 returns-in-Ok-pattern_of-clause-listing g c =
     let start = rw c.in-Ok.is at c.new.ensures in
-    let did = rw (c.in-Ok-pattern_of.is, start, c.new-keywords.ensures) at c.pattern_of.ensures in
-    let is = listed_of c.args.program.now c.args.expression c.args.subject.now c.args.anchored c.args.limit c.pattern_of.new.machine _ _ c.in-Ok-pattern_of.pattern c.requires.subject refl did in
-    told _ _ _ _ _ _ _ is refl c.list_ways.ensures
+    let did = c.pattern_of.ensures in
+    let made = rw (c.in-Ok-pattern_of.is, c.in-Ok-of.ensures, start, c.new-keywords.ensures) at did in
+    listed_as _ _ _ _ _ _ _ _ _ c.requires.subject refl (built_listed c.args.program.now c.args.expression c.args.subject.now c.args.anchored c.args.limit _ _ _ _ _ _ c.in-Ok-pattern_of.pattern _ made (rw c.in-Ok-of.ensures at c.list_ways.ensures))
+
+pub returns-in-Ok-pattern_of-clause-fault : goal.returns-in-Ok-pattern_of-clause-fault
+returns-in-Ok-pattern_of-clause-fault g c = fault_told c.list_ways.result _ c.list_ways.ensures.cause
 
 pub returns-in-Err-clause-listing : goal.returns-in-Err-clause-listing
 returns-in-Err-clause-listing g c =
     let start = rw c.in-Ok.is at c.new.ensures in
-    let did = rw (c.in-Err-Failure.is, c.in-Err-Failure.field-0-is, start, c.new-keywords.ensures) at c.pattern_of.ensures in
-    let is = listed_failure c.args.program.now c.args.expression c.args.subject.now c.args.anchored c.args.limit c.pattern_of.new.machine _ _ c.requires.subject refl did in
+    let did = c.pattern_of.ensures in
+    let failed = rw (c.in-Err-Failure.is, c.in-Err-Failure.field-0-is, c.in-Ok-of.ensures, start, c.new-keywords.ensures) at did in
     let cut = c.in-Err.ensures.bytes in
-    (cut.0, cut.2, told_in_part (listing c.args.program.now c.args.expression c.args.subject.now c.args.anchored c.args.limit) _ cut.0 (ap (λ (o : Outcome Unit). o.wrote) is) cut.1)
+    let line = performs_runs _ _ _ _ _ _ (g.W.Sink.broken c.pattern_of.new.writer) _ (Err WriteFault) failed.ready.reads refl tt (λ e. c.in-Err.ensures.fault) (line_cut (codes "exhausted\n") cut.0 c.pattern_of.new.machine _ _ cut.1 cut.2) in
+    listed_as _ _ _ _ _ _ _ _ _ c.requires.subject refl (failed_listed c.args.program.now c.args.expression c.args.subject.now c.args.anchored c.args.limit _ _ _ _ _ _ _ failed line)
 
 pub returns-in-Err-Failure-clause-listing : goal.returns-in-Err-Failure-clause-listing
 returns-in-Err-Failure-clause-listing g c =
     let start = rw c.in-Ok.is at c.new.ensures in
-    let did = rw (c.in-Err-Failure.is, c.in-Err-Failure.field-0-is, start, c.new-keywords.ensures) at c.pattern_of.ensures in
-    let is = listed_failure c.args.program.now c.args.expression c.args.subject.now c.args.anchored c.args.limit c.pattern_of.new.machine _ _ c.requires.subject refl did in
-    (_, c.in_default-put.ensures.bytes, (ap (λ (o : Outcome Unit). o.ending) is, ap (λ (o : Outcome Unit). o.wrote) is))
+    let did = c.pattern_of.ensures in
+    let failed = rw (c.in-Err-Failure.is, c.in-Err-Failure.field-0-is, c.in-Ok-of.ensures, start, c.new-keywords.ensures) at did in
+    let put = c.in_default-put.ensures in
+    let line = performs_runs _ _ _ _ _ _ (g.W.Sink.broken c.pattern_of.new.writer) _ (Ok tt) failed.ready.reads refl put.sound (λ e. absurd (cc e)) (line_put (codes "exhausted\n") c.pattern_of.new.machine _ _ put.bytes) in
+    listed_as _ _ _ _ _ _ _ _ _ c.requires.subject refl (failed_listed c.args.program.now c.args.expression c.args.subject.now c.args.anchored c.args.limit _ _ _ _ _ _ _ failed line)
 
 pub returns-clause-listing : goal.returns-clause-listing
 returns-clause-listing g c =
     let start = rw c.in-Ok.is at c.new.ensures in
-    let did = rw (c.in-Err-Halt.is, c.in-Err-Halt.field-0-is, start, c.new-keywords.ensures) at c.pattern_of.ensures in
-    ([], appends_nothing (g.W.Sink.taken c.args.writer.now), rw c.in-Err-Halt.field-0-is (listed_stop c.args.program.now c.args.expression c.args.subject.now c.args.anchored c.args.limit c.pattern_of.new.machine _ _ c.in-Err-Halt.stop c.requires.subject refl refl did))
+    let did = c.pattern_of.ensures in
+    let stopped = rw (c.in-Err-Halt.is, c.in-Err-Halt.field-0-is, c.in-Ok-of.ensures, start, c.new-keywords.ensures) at did in
+    rw c.in-Err-Halt.field-0-is (listed_as _ _ _ _ _ _ _ _ _ c.requires.subject refl (stopped_listed c.args.program.now c.args.expression c.args.subject.now c.args.anchored c.args.limit _ _ _ _ c.in-Err-Halt.stop stopped))
 
 pub returns-clause-fault : goal.returns-clause-fault
 returns-clause-fault g c =
     let start = rw c.in-Ok.is at c.new.ensures in
-    let did = rw (c.in-Err-Halt.is, c.in-Err-Halt.field-0-is, start, c.new-keywords.ensures) at c.pattern_of.ensures in
-    λ e. let is : c.in-Err-Halt.stop ≡ WriteFault = cc e in absurd (stop_unwritten _ c.args.anchored c.args.limit _ _ _ c.in-Err-Halt.stop refl did is)
+    let did = c.pattern_of.ensures in
+    let stopped = rw (c.in-Err-Halt.is, c.in-Err-Halt.field-0-is, c.in-Ok-of.ensures, start, c.new-keywords.ensures) at did in
+    rw c.in-Err-Halt.field-0-is (fault_told (Err (Halt c.in-Err-Halt.stop)) _ (stopped_listed c.args.program.now c.args.expression c.args.subject.now c.args.anchored c.args.limit _ _ _ _ c.in-Err-Halt.stop stopped).cause)

@@ -23,16 +23,16 @@ invariant_of-self-in-None c =
     let h = held_in _ _ _ _ c.in-Some.ensures.items c.self.invariant in let a = ap length c.in_ok-push.ensures.items in let b = length-append c.self.inside.values.items (c.args.value ∷ []) in omega arith
 
 pub returns-in_ok-push-in-Some-operand-clause-rest : goal.returns-in_ok-push-in-Some-operand-clause-rest
-returns-in_ok-push-in-Some-operand-clause-rest c nodes =
+returns-in_ok-push-in-Some-operand-clause-rest c call nodes =
     let see = shown nodes in
     let source = c.args.program.now in let waiting = c.pop.new.self.items in let values = c.self.inside.values.items in let part = c.in-Some.last.part in let held = c.in-Some.last.held in let next = c.in-Some-operand.next in
     let more : held + 1 ≡ suc held = omega arith in
     let found : slice_get _ (suc held) ≡ Some next = rw more at (sym c.operand.ensures ∙ c.in-Some-operand.is) in
     let pushed = rw more at c.in_ok-push-in-Some-operand.ensures.items in
     rw (← c.self.view_is, c.in_ok-push.ensures.items)
-    (ap (λ k. k (map see values) (Some (see c.args.value))) (under_in source c.self.inside.waiting.items waiting c.in-Some.last outcome c.in-Some.ensures.items)
-    ∙ (resumed_next source part next held (map see values) (see c.args.value) (under source waiting outcome) found
-    ∙ (λ i. settles (expression source next) (sym (under_in source c.push-in-Some-operand.new.self.items waiting (record { part = part; held = suc held }) outcome pushed) i (sym (map-append see values (c.args.value ∷ [])) i)))))
+    (ap (λ k. k (map see values) (Some (see c.args.value))) (under_in source call c.self.inside.waiting.items waiting c.in-Some.last outcome c.in-Some.ensures.items)
+    ∙ (resumed_next source call part next held (map see values) (see c.args.value) (under source call waiting outcome) found
+    ∙ (λ i. settles (expression source call next) (sym (under_in source call c.push-in-Some-operand.new.self.items waiting (record { part = part; held = suc held }) outcome pushed) i (sym (map-append see values (c.args.value ∷ [])) i)))))
 
 pub returns-in_ok-push-in-Some-operand-clause-work : goal.returns-in_ok-push-in-Some-operand-clause-work
 returns-in_ok-push-in-Some-operand-clause-work c =
@@ -42,15 +42,15 @@ returns-in_ok-push-in-Some-operand-clause-work c =
     (rw more at (sym c.operand.ensures ∙ c.in-Some-operand.is)) c.in-Some.ensures.items (rw more at c.in_ok-push-in-Some-operand.ensures.items))
 
 pub returns-in-None-clause-rest : goal.returns-in-None-clause-rest
-returns-in-None-clause-rest c nodes =
+returns-in-None-clause-rest c call nodes =
     let see = shown nodes in
     let source = c.args.program.now in let waiting = c.pop.new.self.items in let values = c.self.inside.values.items in let part = c.in-Some.last.part in let held = c.in-Some.last.held in
     let more : held + 1 ≡ suc held = omega arith in
-    let rest = under source waiting outcome in
+    let rest = under source call waiting outcome in
     rw (← c.self.view_is, c.in_ok-push.ensures.items, more)
-    (ap (λ k. k (map see values) (Some (see c.args.value))) (under_in source c.self.inside.waiting.items waiting c.in-Some.last outcome c.in-Some.ensures.items)
-    ∙ (resumed_last source part held (map see values) (see c.args.value) rest (rw more at (sym c.operand.ensures ∙ c.in-None.is))
-    ∙ applied_seen source part see (suc held) (values ++ c.args.value ∷ []) (map see values ++ see c.args.value ∷ []) rest (map-append see values (c.args.value ∷ []))))
+    (ap (λ k. k (map see values) (Some (see c.args.value))) (under_in source call c.self.inside.waiting.items waiting c.in-Some.last outcome c.in-Some.ensures.items)
+    ∙ (resumed_last source call part held (map see values) (see c.args.value) rest (rw more at (sym c.operand.ensures ∙ c.in-None.is))
+    ∙ applied_seen source call part see (suc held) (values ++ c.args.value ∷ []) (map see values ++ see c.args.value ∷ []) rest (map-append see values (c.args.value ∷ []))))
 
 pub returns-in-None-clause-work : goal.returns-in-None-clause-work
 returns-in-None-clause-work c =
