@@ -1,5 +1,5 @@
 -- What functions did that read and write.
-use Rattle.std.specs.Prelude.{◌≡◌, ℕ, ◌<◌, ◌≤◌, Bool, true, false, List, [], ◌++◌, Option, Result, Ok, Err}
+use Rattle.std.specs.Prelude.{◌≡◌, ℕ, ◌≤◌, Bool, true, false, List, [], ◌++◌, Option, Result, Ok, Err}
 use Rattle.std.specs.Io.KnownBytes.{Consumes, Appends}
 use Rattle.sno_io.specs.Devices.{Begins}
 use Rattle.sno_pattern.specs.Table.{Node}
@@ -12,7 +12,7 @@ use Rattle.snobol.specs.declared.execution.Outcome.{Outcome as RunOutcome}
 use Rattle.snobol.specs.declared.execution.Outcome.TheVariants as ran
 use Rattle.sno_machine.specs.World.{World, Keywords}
 use Rattle.sno_machine.specs.Action.{Error, ErrorIn, Ended, Got, Fails, Stops, Outcome, Action}
-use Rattle.sno_machine.specs.State.{State, world, Feed, feed, IsReady, Grows, OnAnswer, OnGoing, itself, any}
+use Rattle.sno_machine.specs.State.{State, world, Feed, feed, IsReady, Grows, OnAnswer, OnGoing}
 
 -- a reader and a writer, as far as they tell
 pub record Devices : Type 0 where
@@ -113,12 +113,6 @@ ran_in statement (Halt NoMemory) = ran.NoMemory
 ran_in statement (Halt ReadFault) = ran.ReadFault
 ran_in statement (Halt WriteFault) = ran.WriteFault
 ran_in statement (Halt HasEnded) = ran.Ended
-
--- A statement was performed behind which the run goes on, and one more has begun where fewer had than may; or it ended
--- the run.
-abbrev pub Steps : Action ℕ → State → State → Devices → Devices → Result ℕ RunOutcome → Type 0
-Steps act before after old new (Ok next) = Runs {X = ℕ} itself any act before after old new (Ok next) × (before.keywords.begun < after.keywords.begun) × (before.keywords.begun < before.keywords.cap)
-Steps act before after old new (Err outcome) = Stopped act before after old new outcome
 
 -- the limits lie in their ranges
 pub record IsLimits (limits : Limits) : Type 0 where
