@@ -1,7 +1,7 @@
 -- One move of the engine, or one start: what is kept between two calls is kept.
 use Rattle.std.proofs.Common.{◌≡◌, ℕ, ◌+◌, ◌-◌, ◌*◌, ◌≤◌, ◌<◌, Bool, false, List, [], ◌∷◌, Option, Some, None, length, refl, sym, ◌∙◌, ap, subst, arith}
 use Rattle.sno_value.specs.declared.ids.PatId.{PatId}
-use Rattle.sno_pattern.specs.Table.{Node}
+use Rattle.sno_pattern.specs.Table.{Node, tree}
 use Rattle.sno_match.specs.declared.goal.Goal.TheVariants as N
 use Rattle.sno_match.specs.declared.event.Event.{Event as Told}
 use Rattle.sno_match.specs.declared.event.Event.TheVariants as V
@@ -14,6 +14,7 @@ use Rattle.sno_match.specs.Reading.{IsStack}
 use Rattle.sno_match.specs.State.{after, after_move, waits, ended, owed}
 use Rattle.sno_match.specs.Move.{Makes}
 use Rattle.sno_match.specs.Session.{Session, IsCounted}
+use Rattle.sno_match.specs.Starts.{Passes}
 use Rattle.sno_match.specs.Running.{later_starts, seen, IsMatch, Advances}
 use Rattle.sno_match.proofs.SessionLaws.{Leads, led, led_told, led_on, move_leads, exhausted_leads, limit_leads, start_leads}
 use Rattle.sno_match.proofs.CountLaws.{match_counted}
@@ -95,12 +96,25 @@ module _ (o : Session) (nodes : List Node) (pattern : PatId) (s : List ℕ) (anc
     empty : length points ≡ 0
     empty = ap (λ (x : Session). x.points) view ∙ none
 
-    pub over_leads : later_starts anchored s start ≡ [] → Leads m start points (Some V.Exhausted) steps start points way records
-    over_leads h = exhausted_leads m start points inv_going empty h
+    -- the starts up to this one were passed, on the table and the subject as they were lent
+    module _ (lent : List Node) (text : List ℕ) (table : o.nodes ≡ lent) (same : text ≡ s) (at spent : ℕ) (in_at : at ≤ length text) (enough : spent ≤ limit - steps) (passed : Passes anchored (tree lent pattern.0) text start at spent) where
+      in_s : at ≤ length s
+      in_s = subst (λ (t : List ℕ). at ≤ length t) same in_at
 
-    pub short_leads : anchored ≡ false → start < length s → steps ≡ limit → Leads m start points (Some V.Limit) steps start points way records
-    short_leads a room h = limit_leads m start points inv_going empty a room h
+      enough_so : steps + spent ≤ limit
+      enough_so = omega (arith, enough, inv.steps_in)
 
-    pub begun_leads : anchored ≡ false → start < length s → (new : List Point) (new_records : ℕ) → (steps ≡ limit → ⊥) → new ≡ first_point (N.Match pattern) (start + 1) ∷ [] → new_records ≤ records + 1 →
-        Leads m start points None (steps + 1) (start + 1) new way new_records
-    begun_leads a room new new_records h is few = start_leads m start points inv_going empty a room new new_records h is few
+      passed_so : Passes anchored (tree nodes pattern.0) s start at spent
+      passed_so =
+          subst (λ (n : List Node). Passes anchored (tree n pattern.0) s start at spent) (sym (ap (λ (x : Session). x.nodes) view ∙ table))
+          (subst (λ (t : List ℕ). Passes anchored (tree lent pattern.0) t start at spent) same passed)
+
+      pub over_leads : later_starts anchored s at ≡ [] → Leads m start points (Some V.Exhausted) (steps + spent) at points way records
+      over_leads h = exhausted_leads m start points inv_going empty at spent in_s enough_so passed_so h
+
+      pub short_leads : anchored ≡ false → at < length s → steps + spent ≡ limit → Leads m start points (Some V.Limit) (steps + spent) at points way records
+      short_leads a room h = limit_leads m start points inv_going empty at spent in_s enough_so passed_so a room h
+
+      pub begun_leads : anchored ≡ false → at < length s → (new : List Point) (new_records : ℕ) → (steps + spent ≡ limit → ⊥) → new ≡ first_point (N.Match pattern) (at + 1) ∷ [] → new_records ≤ records + 1 →
+          Leads m start points None (steps + spent + 1) (at + 1) new way new_records
+      begun_leads a room new new_records h is few = start_leads m start points inv_going empty at spent in_s enough_so passed_so a room new new_records h is few

@@ -5,6 +5,7 @@ pub mod ReadingLaws
 pub mod PlanLaws
 pub mod MoveLaws
 pub mod EntryLaws
+pub mod StartLaws
 pub mod SessionLaws
 pub mod CountLaws
 pub mod EngineLaws

@@ -11,17 +11,19 @@ use Rattle.sno_match.specs.declared.event.Event.TheVariants as V
 use Rattle.sno_match.specs.declared.event.Pending.{Pending}
 use Rattle.sno_match.specs.declared.engine.State.{State}
 use Rattle.sno_match.specs.declared.engine.State.TheVariants as S
-use Rattle.sno_match.specs.Search.{Match, Exhausted, Aborted, Limit, Waiting, Event, Answer, Outcome, Gives, Search, emit, further, search, whole, all_events, last_event}
-use Rattle.sno_match.specs.Events.{in_trace, is_last, is_value, pending_after, last_pending, last_count}
+use Rattle.sno_match.specs.Search.{Match, Exhausted, Aborted, Limit, Waiting, Event, Answer, Gives, Search, emit, further, search, whole, all_events}
+use Rattle.sno_match.specs.Events.{in_trace, is_last, is_value, last_pending, last_count}
 use Rattle.sno_match.specs.Point.{Point, HasFirst}
 use Rattle.sno_match.specs.Top.{first_point}
 use Rattle.sno_match.specs.Reading.{IsStack}
-use Rattle.sno_match.specs.State.{after, after_move, waits, ended, over, owed, LastIn, HasAsked}
+use Rattle.sno_match.specs.State.{after, after_move, owed, HasAsked}
 use Rattle.sno_match.specs.Move.{Makes, entries, price, way_after, standing}
 use Rattle.sno_match.specs.Session.{Session, answers_of, trace_of, IsTold}
+use Rattle.sno_match.specs.Starts.{Passes}
 use Rattle.sno_match.specs.Running.{later, later_starts, to_come, counted, seen, IsMatch, GoesOn}
 use Rattle.sno_match.proofs.EntryLaws.{all_events-emit, length-counted, at_place, last_pending-append, last_count-append, entry-pending, entry-count, after-last, after-ended, after-waits, entries-tell, tells}
 use Rattle.sno_match.proofs.ReadingLaws.{emit-emit, emit-none, further-emit, further-stop, resume-stop}
+use Rattle.sno_match.proofs.StartLaws.{behind_some}
 
 -- the first point of a start
 pub first_stack : (nodes : List Node) (s : List ℕ) (pattern : PatId) (at : ℕ) (new : List Point) → pattern.0 < length nodes → at ≤ length s → new ≡ first_point (N.Match pattern) at ∷ [] → IsStack nodes s new
@@ -258,71 +260,74 @@ module _ (m : Session) (start : ℕ) (points : List Point) (inv : IsMatch m star
   bare : (more : List Answer) (left : ℕ) → to_come S.Going m start points more left ≡ to_come S.Going m start [] more left
   bare more left = ap (λ (ps : List Point). to_come S.Going m start ps more left) (no_points points empty)
 
-  -- and no start
-  pub exhausted_leads : later_starts m.anchored m.subject start ≡ [] → Leads m start points (Some V.Exhausted) m.steps start points m.way m.records
-  exhausted_leads none = record {
-    steps_in = inv.steps_in;
-    paid = omega arith;
-    start_in = inv.start_in;
-    stack = inv.stack;
-    asked = tt;
-    points_in = omega arith;
-    records_in = omega arith;
-    pending = refl;
-    leads = λ more. bare more (m.limit - m.steps) ∙ ap (λ (bs : List ℕ). further (Gives [] more (m.limit - m.steps) Exhausted) (map (λ b. search m.subject b (Match (tree m.nodes m.pattern.0) ∷ []) b []) bs)) none;
-  }
+  -- the starts up to this one were passed
+  module _ (at spent : ℕ) (in_at : at ≤ length m.subject) (enough : m.steps + spent ≤ m.limit) (passed : Passes m.anchored (tree m.nodes m.pattern.0) m.subject start at spent) where
+    abbrev steps : ℕ
+    steps = m.steps + spent
 
-  module _ (a : m.anchored ≡ false) (room : start < length m.subject) where
-    abbrev farther : List Search
-    farther = map (λ b. search m.subject b (Match (tree m.nodes m.pattern.0) ∷ []) b []) (count_from (start + 1 + 1) (length m.subject - (start + 1)))
+    past : (more : List Answer) → to_come S.Going m start points more (m.limit - m.steps) ≡ to_come S.Going m at [] more (m.limit - steps)
+    past more = bare more (m.limit - m.steps) ∙ passed.passes more (m.limit - m.steps) (m.limit - steps) (omega (arith, enough))
 
-    abbrev from_next : Search
-    from_next = search m.subject (start + 1) (Match (tree m.nodes m.pattern.0) ∷ []) (start + 1) []
+    -- and it was the last
+    pub exhausted_leads : later_starts m.anchored m.subject at ≡ [] → Leads m start points (Some V.Exhausted) (m.steps + spent) at points m.way m.records
+    exhausted_leads none = record {
+      steps_in = enough;
+      paid = omega arith;
+      start_in = in_at;
+      stack = inv.stack;
+      asked = tt;
+      points_in = omega arith;
+      records_in = omega arith;
+      pending = refl;
+      leads = λ more. past more ∙ ap (λ (bs : List ℕ). further (Gives [] more (m.limit - steps) Exhausted) (map (λ b. search m.subject b (Match (tree m.nodes m.pattern.0) ∷ []) b []) bs)) none;
+    }
 
-    later_some : later m start ≡ from_next ∷ farther
-    later_some =
-        let e : length m.subject - start ≡ suc (length m.subject - (start + 1)) = omega (arith, room) in
-        ap (λ b. map (λ b. search m.subject b (Match (tree m.nodes m.pattern.0) ∷ []) b []) (later_starts b m.subject start)) a ∙
-        ap (λ n. map (λ b. search m.subject b (Match (tree m.nodes m.pattern.0) ∷ []) b []) (count_from (start + 1) n)) e
+    module _ (a : m.anchored ≡ false) (room : at < length m.subject) where
+      abbrev from_next : Search
+      from_next = search m.subject (at + 1) (Match (tree m.nodes m.pattern.0) ∷ []) (at + 1) []
 
-    -- a start is due, and no step is left
-    pub limit_leads : m.steps ≡ m.limit → Leads m start points (Some V.Limit) m.steps start points m.way m.records
-    limit_leads z =
-        let none : m.limit - m.steps ≡ 0 = omega (arith, z) in
-        record {
-          steps_in = inv.steps_in;
-          paid = omega arith;
-          start_in = inv.start_in;
-          stack = inv.stack;
-          asked = tt;
-          points_in = omega arith;
-          records_in = omega arith;
-          pending = refl;
-          leads = λ more.
-              bare more (m.limit - m.steps) ∙ ap (λ n. to_come S.Going m start [] more n) none ∙
-              ap (further (Gives [] more 0 Exhausted)) later_some ∙
-              further-stop [] more 0 Limit farther tt ∙
-              ap (λ n. Gives [] more n Limit) (sym none);
-        }
+      later_some : later m at ≡ from_next ∷ later m (at + 1)
+      later_some = behind_some (tree m.nodes m.pattern.0) m.subject at m.anchored a room
 
-    -- the next start is taken up
-    pub start_leads : (new : List Point) (records : ℕ) → (m.steps ≡ m.limit → ⊥) → new ≡ first_point (N.Match m.pattern) (start + 1) ∷ [] → records ≤ m.records + 1 → Leads m start points None (m.steps + 1) (start + 1) new m.way records
-    start_leads new records z is few =
-        let n : m.limit - m.steps ≡ suc (m.limit - (m.steps + 1)) = omega (arith, z, inv.steps_in) in
-        record {
-          steps_in = omega (arith, z, inv.steps_in);
-          paid = omega arith;
-          start_in = omega (arith, room);
-          stack = first_stack m.nodes m.subject m.pattern (start + 1) new inv.pattern_in (omega (arith, room)) is;
-          asked = tt;
-          points_in = omega (arith, ap length is);
-          records_in = omega (arith, few);
-          pending = refl;
-          leads = λ more.
-              bare more (m.limit - m.steps) ∙ ap (λ k. to_come S.Going m start [] more k) n ∙
-              ap (further (Gives [] more (suc (m.limit - (m.steps + 1))) Exhausted)) later_some ∙
-              ap (λ r. further r farther) (emit-none (from_next more (m.limit - (m.steps + 1)))) ∙
-              ap (λ b. further (from_next more (m.limit - (m.steps + 1))) (map (λ b. search m.subject b (Match (tree m.nodes m.pattern.0) ∷ []) b []) (later_starts b m.subject (start + 1)))) (sym a) ∙
-              ap (λ ps. to_come S.Going m (start + 1) ps more (m.limit - (m.steps + 1))) (sym is) ∙
-              sym (emit-none (to_come S.Going m (start + 1) new more (m.limit - (m.steps + 1))));
-        }
+      -- a start is due, and no step is left
+      pub limit_leads : m.steps + spent ≡ m.limit → Leads m start points (Some V.Limit) (m.steps + spent) at points m.way m.records
+      limit_leads z =
+          let none : m.limit - steps ≡ 0 = omega (arith, z) in
+          record {
+            steps_in = enough;
+            paid = omega arith;
+            start_in = in_at;
+            stack = inv.stack;
+            asked = tt;
+            points_in = omega arith;
+            records_in = omega arith;
+            pending = refl;
+            leads = λ more.
+                past more ∙ ap (λ n. to_come S.Going m at [] more n) none ∙
+                ap (further (Gives [] more 0 Exhausted)) later_some ∙
+                further-stop [] more 0 Limit (later m (at + 1)) tt ∙
+                ap (λ n. Gives [] more n Limit) (sym none);
+          }
+
+      -- the next start is taken up
+      pub start_leads : (new : List Point) (records : ℕ) → (m.steps + spent ≡ m.limit → ⊥) → new ≡ first_point (N.Match m.pattern) (at + 1) ∷ [] → records ≤ m.records + 1 →
+          Leads m start points None (m.steps + spent + 1) (at + 1) new m.way records
+      start_leads new records z is few =
+          let left = m.limit - (steps + 1) in
+          let n : m.limit - steps ≡ suc (m.limit - (steps + 1)) = omega (arith, z, enough) in
+          record {
+            steps_in = omega (arith, z, enough);
+            paid = omega arith;
+            start_in = omega (arith, room);
+            stack = first_stack m.nodes m.subject m.pattern (at + 1) new inv.pattern_in (omega (arith, room)) is;
+            asked = tt;
+            points_in = omega (arith, ap length is);
+            records_in = omega (arith, few);
+            pending = refl;
+            leads = λ more.
+                past more ∙ ap (λ k. to_come S.Going m at [] more k) n ∙
+                ap (further (Gives [] more (suc left) Exhausted)) later_some ∙
+                ap (λ r. further r (later m (at + 1))) (emit-none (from_next more left)) ∙
+                ap (λ ps. to_come S.Going m (at + 1) ps more left) (sym is) ∙
+                sym (emit-none (to_come S.Going m (at + 1) new more left));
+          }

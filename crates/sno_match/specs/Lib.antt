@@ -15,3 +15,4 @@ pub mod State
 pub mod Move
 pub mod Running
 pub mod Copied
+pub mod Starts

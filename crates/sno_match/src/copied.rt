@@ -1,5 +1,5 @@
 //! Resumption points whose goal lists are copied.
-ghost use Rattle.std.specs.Prelude.{◌≡◌, [], ◌∷◌, ◌++◌, OnOk, IfNone, IfSome};
+ghost use Rattle.std.specs.Prelude.{◌≡◌, ◌+◌, ◌≤◌, [], ◌∷◌, ◌++◌, length, reverse, vec_len, vec_capacity, IfNone, IfSome};
 ghost use Rattle.sno_match.specs.Point.{rest_of};
 
 use crate::event::Pending;
@@ -11,7 +11,7 @@ use std::mem::swap;
 /// A resumption point with lists of its own.
 #[derive(Drop)]
 struct Held {
-    /// What is still to be matched, the first goal first.
+    /// What is still to be matched, the first goal last: it is taken and replaced there without a look at the rest.
     goals: Vec<Goal>,
     /// Where the first goal begins.
     cursor: usize,
@@ -29,8 +29,6 @@ pub struct CopiedGoals {
     below: Vec<Held>,
     /// Points that were dropped: their lists become those of new ones.
     spare: Vec<Held>,
-    /// Where the next goals of the newest point are put together, before they take the place of its own.
-    room: Vec<Goal>,
     alloc: Global,
 }
 
@@ -46,7 +44,6 @@ impl Points for CopiedGoals {
             top: None,
             below: Vec::new(alloc),
             spare: Vec::new(alloc),
-            room: Vec::new(alloc),
             alloc,
         }
     }
@@ -81,8 +78,8 @@ impl Points for CopiedGoals {
 
     fn replace(&mut self, front: &[Goal], cursor: usize) -> Result<(), AllocError> {
         if let Some(point) = &mut self.top {
-            join(&mut self.room, front, &point.goals)?;
-            swap(&mut self.room, &mut point.goals);
+            point.goals.reserve(front.len())?;
+            put_front(&mut point.goals, front);
             point.cursor = cursor;
             point.mark = Mark::Enter;
         }
@@ -92,14 +89,14 @@ impl Points for CopiedGoals {
     fn branch(&mut self, front: &[Goal], cursor: usize, next: usize) -> Result<(), AllocError> {
         let alloc = self.alloc;
         if let Some(point) = &mut self.top {
-            join(&mut self.room, front, &point.goals)?;
+            point.goals.reserve(front.len())?;
             let mut stays = unused(&mut self.spare, alloc);
             stays.goals.extend_from_slice(&point.goals)?;
             stays.cursor = point.cursor;
             stays.pending.extend_from_slice(&point.pending)?;
             stays.mark = Mark::Next(next);
             self.below.push(stays)?;
-            swap(&mut self.room, &mut point.goals);
+            put_front(&mut point.goals, front);
             point.cursor = cursor;
             point.mark = Mark::Enter;
         }
@@ -108,9 +105,8 @@ impl Points for CopiedGoals {
 
     fn close(&mut self, assignment: Pending) -> Result<(), AllocError> {
         if let Some(point) = &mut self.top {
-            join(&mut self.room, &[], &point.goals)?;
             point.pending.push(assignment)?;
-            swap(&mut self.room, &mut point.goals);
+            let _closed = point.goals.pop();
             point.mark = Mark::Enter;
         }
         Ok(())
@@ -167,25 +163,23 @@ fn keep(spare: &mut Vec<Held>, point: Held) {
     let _kept = spare.push(point);
 }
 
-/// These goals, and then all but the first, are put together.
-fn join(room: &mut Vec<Goal>, front: &[Goal], goals: &[Goal]) -> Result<(), AllocError>
-    ensures { OnOk result (room.new.items ≡ front.now ++ rest_of goals.now) }
+/// These goals take the place of the first.
+fn put_front(goals: &mut Vec<Goal>, front: &[Goal])
+    requires room { vec_len goals.old + length front.now ≤ vec_capacity goals.old }
+    ensures { reverse goals.new.items ≡ front.now ++ rest_of (reverse goals.old.items) }
 {
-    room.clear();
-    room.extend_from_slice(front)?;
-    match goals {
-        [] => {}
-        [_first, rest @ ..] => room.extend_from_slice(rest)?,
+    let _first = goals.pop();
+    for goal in front.iter().rev() {
+        goals.push_reserved(*goal);
     }
-    Ok(())
 }
 
 fn first_of(goals: &[Goal]) -> Option<Goal>
-    ensures none { IfNone result (goals.now ≡ []) }
-    ensures some { IfSome result (λ goal. goals.now ≡ goal ∷ rest_of goals.now) }
+    ensures none { IfNone result (reverse goals.now ≡ []) }
+    ensures some { IfSome result (λ goal. reverse goals.now ≡ goal ∷ rest_of (reverse goals.now)) }
 {
     match goals {
         [] => None,
-        [goal, ..] => Some(*goal),
+        [.., goal] => Some(*goal),
     }
 }

@@ -11,6 +11,7 @@ use crate::goal::Goal;
 use crate::moves::{make_move, put_answer};
 use crate::points::Points;
 use crate::snapshot::Snapshot;
+use crate::starts::pass_failing_starts;
 use sno_pattern::Patterns;
 use sno_value::PatId;
 use std::alloc::{AllocError, Global};
@@ -146,7 +147,7 @@ impl<P: Points> Engine<P> {
         ensures counts { IsCounted self.new }
     {
         if self.points() == 0 {
-            let told = self.take_start()?;
+            let told = self.take_start(patterns)?;
             return Ok(told);
         }
         let told = make_move(
@@ -165,8 +166,10 @@ impl<P: Points> Engine<P> {
         Ok(told)
     }
 
-    /// The search from a start is exhausted: the next start is taken up, which is a step, if there is one.
-    fn take_start(&mut self) -> Result<Option<Event>, AllocError>
+    /// The search from a start is exhausted: the next start is taken up, which is a step, if there is one. Those that
+    /// fail at once are passed without a point.
+    fn take_start(&mut self, patterns: &Patterns) -> Result<Option<Event>, AllocError>
+        requires table { self.old.nodes ≡ patterns.now }
         requires going { self.old.waits ≡ false }
         requires on { self.old.ended ≡ false }
         requires none { self.old.points ≡ 0 }
@@ -174,20 +177,33 @@ impl<P: Points> Engine<P> {
         ensures err { OnErr result (self.new ≡ self.old) }
         ensures counts { IsCounted self.new }
     {
-        if self.anchored || self.start == self.subject.len() {
+        let passed = pass_failing_starts(
+            patterns,
+            self.pattern,
+            &self.subject,
+            self.anchored,
+            self.start,
+            self.limit - self.steps,
+        );
+        let steps = self.steps + passed.steps;
+        if self.anchored || passed.start == self.subject.len() {
+            self.start = passed.start;
+            self.steps = steps;
             self.told += 1;
             self.state = State::Ended(Event::Exhausted);
             return Ok(Some(Event::Exhausted));
         }
-        if self.steps == self.limit {
+        if steps == self.limit {
+            self.start = passed.start;
+            self.steps = steps;
             self.told += 1;
             self.state = State::Ended(Event::Limit);
             return Ok(Some(Event::Limit));
         }
         self.points
-            .begin(Goal::Match(self.pattern), self.start + 1)?;
-        self.start += 1;
-        self.steps += 1;
+            .begin(Goal::Match(self.pattern), passed.start + 1)?;
+        self.start = passed.start + 1;
+        self.steps = steps + 1;
         Ok(None)
     }
 

@@ -15,6 +15,7 @@ mod moves;
 mod plan;
 mod points;
 mod snapshot;
+mod starts;
 
 pub use copied::CopiedGoals;
 pub use engine::Engine;
