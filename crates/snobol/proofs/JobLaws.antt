@@ -1,5 +1,5 @@
 -- The status of a job whose program is refused.
-use Rattle.std.proofs.Common.{◌≡◌, ◌≢◌, ◌⊎◌, ℕ, List, inl, inr, refl, ap, sym, ◌∙◌, arith}
+use Rattle.std.proofs.Common.{◌≡◌, ◌≢◌, ◌⊎◌, ℕ, List, inl, inr, sym, ◌∙◌}
 use Rattle.sno_text.specs.declared.error.ReadError.{ReadError}
 use Rattle.sno_text.specs.declared.error.ReadError.TheVariants as why
 use Rattle.sno_text.specs.Programs.{IsRefusedProgram}

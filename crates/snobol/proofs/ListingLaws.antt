@@ -1,5 +1,5 @@
 -- The event of a match that is told next.
-use Rattle.std.proofs.Common.{◌≡◌, ℕ, ◌-◌, arith, Bool, true, false, ◌||◌, refl, Some, slice_get}
+use Rattle.std.proofs.Common.{◌≡◌, ◌-◌, arith, Bool, true, false, ◌||◌, refl, Some, slice_get}
 use Rattle.sno_match.specs.declared.event.Event.{Event as Told}
 use Rattle.sno_match.specs.Events.{in_trace}
 use Rattle.sno_match.specs.Session.{Session, SameMatch, IsTold, trace_of}

@@ -1,7 +1,6 @@
 -- How functions join that read and write what their actions do.
-use Rattle.std.proofs.Common.{◌≡◌, ℕ, ◌≤◌, Bool, true, false, List, [], ◌∷◌, ◌++◌, refl, ap, sym, ◌∙◌, subst, append_assoc, arith, Option, None, Some, Result, Ok, Err, OnOk}
+use Rattle.std.proofs.Common.{◌≡◌, ℕ, Bool, true, false, List, [], ◌++◌, refl, ap, sym, ◌∙◌, subst, append_assoc, arith, Option, None, Some, Result, Ok, Err, OnOk}
 use Rattle.std.proofs.lemmas.List.{append-nil}
-use Rattle.std.specs.Io.KnownBytes.{Consumes, Appends}
 use Rattle.sno_io.specs.Devices.{Begins}
 use Rattle.sno_io.proofs.Bytes.{consumes_then, appends_then}
 use Rattle.sno_pattern.specs.Table.{Node}
@@ -10,8 +9,8 @@ use Rattle.sno_machine.specs.declared.machine.Exit.TheVariants.{Failure, Halt}
 use Rattle.sno_machine.specs.declared.machine.Stop.{Stop}
 use Rattle.sno_machine.specs.declared.machine.Stop.TheVariants.{Error as HasError, ErrorIn as HasErrorIn, NoMemory, ReadFault, WriteFault, Ended as HasEnded}
 use Rattle.sno_machine.specs.World.{World, Keywords}
-use Rattle.sno_machine.specs.Action.{Error, Ending, Got, Fails, Stops, Outcome, Action, settled, settles, either, and_then, fails}
-use Rattle.sno_machine.specs.State.{State, world, untouched, Meets, MeetsReading, Does, Reads, Feed, IsReady, Grows, OnAnswer, OnGoing, HasCause, itself, any}
+use Rattle.sno_machine.specs.Action.{Ending, Got, Fails, Stops, Outcome, Action, settled, settles, either, and_then, fails}
+use Rattle.sno_machine.specs.State.{State, world, untouched, MeetsReading, Does, Reads, Feed, IsReady, OnAnswer, OnGoing, HasCause, itself, any}
 use Rattle.sno_machine.specs.Performs.{Ends, Performs}
 use Rattle.snobol.specs.Running.{Devices, CanRun, MeetsRunning, HasFault, Goes, Runs}
 use Rattle.sno_machine.proofs.Outcomes.{grows_twice, fails_does}

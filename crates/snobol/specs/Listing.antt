@@ -1,5 +1,5 @@
 -- The listing of a pattern's ways: what `ways` writes, and how it ends.
-use Rattle.std.specs.Prelude.{◌≡◌, ◌⊎◌, pos, ℕ, nat_lt, Bool, List, [], if◌then◌else◌, length, codes, Option}
+use Rattle.std.specs.Prelude.{◌≡◌, ◌⊎◌, ℕ, nat_lt, Bool, List, [], if◌then◌else◌, length, codes, Option}
 use Rattle.sno_io.specs.Devices.{Begins}
 use Rattle.sno_value.specs.declared.ids.ExprId.{ExprId}
 use Rattle.sno_text.specs.Source.{Source}
@@ -7,8 +7,8 @@ use Rattle.sno_pattern.specs.Pattern.{Pattern}
 use Rattle.sno_match.specs.Search.{Event, Answer, trace}
 use Rattle.snobol.specs.declared.enumeration.WaysOutcome.{WaysOutcome}
 use Rattle.snobol.specs.declared.enumeration.WaysOutcome.TheVariants.{Done, Refused, Error as HasError, NoMemory, WriteFault}
-use Rattle.sno_machine.specs.World.{World, new_world, new_keywords}
-use Rattle.sno_machine.specs.Action.{End, Error, ErrorIn, Ended, Ending, Got, Fails, Stops, Outcome, Action, gives, stops, settles, either, and_then}
+use Rattle.sno_machine.specs.World.{new_world, new_keywords}
+use Rattle.sno_machine.specs.Action.{Error, ErrorIn, Ended, Ending, Got, Fails, Stops, Outcome, Action, gives, stops, settles, either, and_then}
 use Rattle.snobol.specs.Forms.{value}
 use Rattle.sno_machine.specs.Operators.{as_pattern}
 use Rattle.snobol.specs.Evaluate.{expression}

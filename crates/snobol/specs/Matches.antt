@@ -2,7 +2,7 @@
 use Rattle.std.specs.Prelude.{ℕ, Bool, List, [], ◌∷◌}
 use Rattle.sno_match.specs.declared.event.Pending.{Pending}
 use Rattle.sno_pattern.specs.Pattern.{Pattern}
-use Rattle.sno_match.specs.Search.{Event, Answer, Way, Assign, Cursor, Value, Ended, Exhausted, Aborted, Limit, Waiting, trace}
+use Rattle.sno_match.specs.Search.{Event, Answer, Way, Ended, Exhausted, Aborted, Limit, Waiting, trace}
 use Rattle.sno_machine.specs.Values.{Str}
 use Rattle.sno_machine.specs.Action.{Error, Action, gives, fails, stops, and_then}
 use Rattle.sno_machine.specs.Variables.{assigns}
