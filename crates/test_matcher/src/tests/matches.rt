@@ -85,6 +85,30 @@ fn steps_run_out(rt: HostRuntime) -> Result<(), Fail> {
     check_rows::<Matches, _>(&rt, LIMITS)
 }
 
+/// They are 'A'; SPAN('A'); 'A' 'B'; and ('A' LEN(0)) LEN(0).
+const FAILING_STARTS: &str = r"
+floating 1000 BBA: TEXT:A => way 2 3 at 5; exhausted at 7;
+floating 6 BBA: TEXT:A => way 2 3 at 5; limit at 6;
+floating 5 BBA: TEXT:A => way 2 3 at 5; limit at 5;
+floating 4 BBA: TEXT:A => limit at 4;
+floating 3 BBA: TEXT:A => limit at 3;
+floating 2 BBA: TEXT:A => limit at 2;
+anchored 1000 BBA: TEXT:A => exhausted at 1;
+floating 1000 BAAB: SPAN:A => way 1 3 at 3; way 2 3 at 5; exhausted at 9;
+floating 12 BAB: TEXT:A TEXT:B &:0,1 => way 1 3 at 6; exhausted at 12;
+floating 11 BAB: TEXT:A TEXT:B &:0,1 => way 1 3 at 6; limit at 11;
+floating 10 BAB: TEXT:A TEXT:B &:0,1 => way 1 3 at 6; limit at 10;
+floating 9 BAB: TEXT:A TEXT:B &:0,1 => way 1 3 at 6; limit at 9;
+floating 8 BAB: TEXT:A TEXT:B &:0,1 => way 1 3 at 6; limit at 8;
+floating 1000 BBA: TEXT:A LEN:0 &:0,1 &:2,1 => way 2 3 at 13; exhausted at 17;
+floating 7 BBA: TEXT:A LEN:0 &:0,1 &:2,1 => limit at 7;
+";
+
+#[test]
+fn starts_that_fail(rt: HostRuntime) -> Result<(), Fail> {
+    check_rows::<Matches, _>(&rt, FAILING_STARTS)
+}
+
 const CONCATENATIONS: &str = r"
 anchored 1000 AB: TEXT:A LEN:1 &:0,1 |:2,1 => way 0 2 at 4; way 0 1 at 6; exhausted at 6;
 anchored 5 AB: TEXT:A LEN:1 &:0,1 |:2,1 => way 0 2 at 4; limit at 5;
@@ -270,5 +294,24 @@ fn parts_of_the_subject(rt: HostRuntime) -> Result<(), Fail> {
     let m = Matcher::new(rt.alloc(), &table, none, b"AB", true, 10)?;
     assert_eq!(rt; m.part(0, 1), b"A".as_slice());
     assert_eq!(rt; m.part(1, 2), b"B".as_slice());
+    Ok(())
+}
+
+/// How many concatenations a long chain has.
+const LONG: u32 = 300_000;
+
+/// Texts that are chained to the left, so that as many goals wait as there are concatenations. A move that copied them
+/// would take longer than a test may.
+#[test]
+fn a_long_chain(rt: HostRuntime) -> Result<(), Fail> {
+    let mut table = Patterns::new(rt.alloc());
+    let null = table.text(b"")?;
+    let mut chain = null;
+    for _part in 0..LONG {
+        chain = table.cat(chain, null)?;
+    }
+    let told = all_events(rt.alloc(), &table, chain, b"", true, 1_000_000, &[])?;
+    let text = drawn_events(rt.alloc(), &told)?;
+    assert_eq!(rt; text.as_str(), "way 0 0 at 600001; exhausted at 600001;");
     Ok(())
 }
