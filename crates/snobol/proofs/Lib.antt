@@ -1,6 +1,7 @@
 pub mod Expressions
 pub mod Piles
 pub mod Leads
+pub mod PileSteps
 pub mod ApplyLaws
 pub mod Holders
 pub mod Ordered

@@ -29,7 +29,7 @@ holds_last (g ∷ fs) f = let h = holds_last fs f in omega arith
 pub held_in : (xs fs : List Waiting) (f : Waiting) (n : ℕ) → xs ≡ fs ++ f ∷ [] → holds xs ≤ n → f.held + holds fs ≤ n
 held_in xs fs f n e h = let k = rw e at h in let l = holds_last fs f in omega arith
 
-held_of : (xs fs : List Waiting) (f : Waiting) (n : ℕ) → xs ≡ fs ++ f ∷ [] → f.held + holds fs ≤ n → holds xs ≤ n
+pub held_of : (xs fs : List Waiting) (f : Waiting) (n : ℕ) → xs ≡ fs ++ f ∷ [] → f.held + holds fs ≤ n → holds xs ≤ n
 held_of xs fs f n e h = let l = holds_last fs f in rw e (omega arith)
 
 pub held_if : (xs fs : List Waiting) (f : Waiting) (ok : Bool) (n : ℕ) → xs ≡ (if ok then fs ++ f ∷ [] else fs) → f.held + holds fs ≤ n → holds xs ≤ n

@@ -1,6 +1,6 @@
 //! The expressions that wait for an operand, and the values that they hold. Evaluation is a loop over this pile, so that
 //! no depth of operators reaches the machine's stack.
-ghost use Rattle.std.specs.Prelude.{◌≡◌, ◌≤◌, ◌+◌, ◌-◌, List, [], length, map, take, drop, IfOk, IfErr};
+ghost use Rattle.std.specs.Prelude.{◌≡◌, ◌≤◌, ◌+◌, ◌-◌, ◌++◌, List, [], ◌∷◌, length, map, take, drop, option_to_list, IfOk, IfErr, MatchOption, OnOk};
 ghost use Rattle.std.specs.List.{AllByRecursion};
 ghost use Rattle.sno_pattern.specs.Table.{Node};
 ghost use Rattle.sno_machine.specs.Values.{shown, IsValueOf};
@@ -36,7 +36,6 @@ pub(crate) enum Turn {
 /// What is to be done next.
 #[derive(Debug, Drop)]
 pub(crate) enum Next {
-    Turn(Turn),
     /// The form is applied to the last so many values.
     Apply(Part, usize),
     /// The outermost expression gave this value.
@@ -76,7 +75,7 @@ impl Pile {
         }
     }
 
-    /// Takes a turn.
+    /// Takes a turn, and goes on to the next form that can be applied.
     pub fn next(&mut self, program: &Program, turn: Turn) -> Result<Next, Exit>
         requires { IsOrdered program.now }
         ensures rest { IfOk result (λ n. (call : Caller) (nodes : List Node) → after_turn program.now call (shown nodes) self.old turn ≡ after_next program.now call (shown nodes) self.new n) }
@@ -87,11 +86,11 @@ impl Pile {
         match turn {
             Turn::Enter(part) => self.enter(program, part),
             Turn::Got(value) => self.resume(program, value),
-            Turn::Failed => Ok(self.fail(program)),
+            Turn::Failed => self.fail(program),
         }
     }
 
-    /// Enters an expression: its first operand is next, or its form where it has none.
+    /// Enters an expression, and in it each first operand down to a form that has none.
     fn enter(&mut self, program: &Program, part: Part) -> Result<Next, Exit>
         requires { IsOrdered program.now }
         ensures rest { IfOk result (λ n. (call : Caller) (nodes : List Node) → after_turn program.now call (shown nodes) self.old (Turn.Enter part) ≡ after_next program.now call (shown nodes) self.new n) }
@@ -99,16 +98,25 @@ impl Pile {
         ensures known { IfOk result (λ n. Keeps self.old.values (still_at_hand self.new.values n)) }
         ensures memory { IfErr result (λ e. e ≡ Exit.Halt Stop.NoMemory) }
     {
-        match operand(program, part, 0) {
-            Some(first) => {
-                self.waiting.push(Waiting { part, held: 0 })?;
-                Ok(Next::Turn(Turn::Enter(first)))
-            }
-            None => Ok(Next::Apply(part, 0)),
+        // that the pile holds enough values is known only where a field is used
+        let _ = &self.waiting;
+        let mut inner = part;
+        'operands: while let Some(first) = operand(program, inner, 0) {
+            self.wait(inner)?;
+            inner = first;
         }
+        Ok(Next::Apply(inner, 0))
     }
 
-    /// The last that waits takes a value: its next operand is next, or its form where it has no more.
+    /// An expression waits for its first operand.
+    fn wait(&mut self, part: Part) -> Result<(), AllocError>
+        ensures { OnOk result (self.new ≡ record self.old { waiting = self.old.waiting ++ (record { part = part; held = 0 }) ∷ [] }) }
+    {
+        self.waiting.push(Waiting { part, held: 0 })?;
+        Ok(())
+    }
+
+    /// The last that waits takes a value: its next operand is entered, or its form is next where it has no more.
     fn resume(&mut self, program: &Program, value: Value) -> Result<Next, Exit>
         requires { IsOrdered program.now }
         ensures rest { IfOk result (λ n. (call : Caller) (nodes : List Node) → after_turn program.now call (shown nodes) self.old (Turn.Got value) ≡ after_next program.now call (shown nodes) self.new n) }
@@ -127,27 +135,42 @@ impl Pile {
                     part: last.part,
                     held,
                 })?;
-                Ok(Next::Turn(Turn::Enter(next)))
+                let entered = self.enter(program, next)?;
+                Ok(entered)
             }
             None => Ok(Next::Apply(last.part, held)),
         }
     }
 
-    /// The last that waits fails with its operand, or is null where it absorbs the failure.
-    fn fail(&mut self, program: &Program) -> Next
-        ensures rest { (call : Caller) (nodes : List Node) → after_turn program.now call (shown nodes) self.old Turn.Failed ≡ after_next program.now call (shown nodes) self.new result }
-        ensures work { Falls program.now self.new result (turn_work program.now self.old Turn.Failed) }
-        ensures known { Keeps self.old.values (still_at_hand self.new.values result) }
+    /// The last that waits fails with its operand, and so on up to one that absorbs the failure and is null.
+    fn fail(&mut self, program: &Program) -> Result<Next, Exit>
+        requires { IsOrdered program.now }
+        ensures rest { IfOk result (λ n. (call : Caller) (nodes : List Node) → after_turn program.now call (shown nodes) self.old Turn.Failed ≡ after_next program.now call (shown nodes) self.new n) }
+        ensures work { IfOk result (λ n. Falls program.now self.new n (turn_work program.now self.old Turn.Failed)) }
+        ensures known { IfOk result (λ n. Keeps self.old.values (still_at_hand self.new.values n)) }
+        ensures memory { IfErr result (λ e. e ≡ Exit.Halt Stop.NoMemory) }
+    {
+        let alloc = self.alloc;
+        'waiting: while let Some(last) = self.leave() {
+            if absorbs_failure(program, last.part) {
+                let next = self.resume(program, null(alloc))?;
+                return Ok(next);
+            }
+        }
+        Ok(Next::Lost)
+    }
+
+    /// The last that waits, which is let go with the values that it held.
+    fn leave(&mut self) -> Option<Waiting>
+        ensures waiting { self.old.waiting ≡ self.new.waiting ++ option_to_list result }
+        ensures values { MatchOption result ((self.old.waiting ≡ []) × (self.new.values ≡ self.old.values)) (λ last. self.new.values ≡ take (length self.old.values - last.held) self.old.values) }
     {
         let Some(last) = self.waiting.pop() else {
-            return Next::Lost;
+            return None;
         };
         let at = self.values.len().saturating_sub(last.held);
         self.values.truncate(at);
-        if absorbs_failure(program, last.part) {
-            return Next::Turn(Turn::Got(null(self.alloc)));
-        }
-        Next::Turn(Turn::Failed)
+        Some(last)
     }
 
     /// What a form gives that is applied to the last values, which are let go. It is no call of a function that the program

@@ -1,34 +1,33 @@
-use Rattle.std.proofs.Common.{◌≤◌, length, map, ap, sym, ◌∙◌, arith, refl, is_ok}
-use Rattle.sno_machine.specs.Values.{shown}
-use Rattle.snobol.specs.Pile.{holds, under, outcome}
-use Rattle.snobol.specs.Evaluate.{expression}
-use Rattle.sno_machine.specs.Action.{settles}
-use Rattle.snobol.proofs.Piles.{held_if, under_in, entered_first, entered_leaf, first_falls, leaf_falls, applied_seen}
+use Rattle.std.proofs.Common.{sym, ◌∙◌}
+use Rattle.snobol.specs.declared.pile.Turn.TheVariants.{Enter}
+use Rattle.snobol.specs.declared.pile.Next.TheVariants.{Apply}
+use Rattle.snobol.proofs.PileSteps.{goes_start, goes_then, goes_rest, goes_work, first_goes, first_fewer, first_held, leaf_rest, leaf_work}
 use Rattle.snobol.proofs.pile.Pile.enter.Goals as goal
 
-pub invariant_of-self-in-Some : goal.invariant_of-self-in-Some
-invariant_of-self-in-Some c =
-    held_if c.push.new.self.items c.self.inside.waiting.items (record { part = c.args.part; held = 0 }) (is_ok c.push.result) (length c.self.inside.values.items) c.push.ensures.items
-    (let i : holds c.self.inside.waiting.items ≤ length c.self.inside.values.items = c.self.invariant in omega arith)
+pub operands-init : goal.operands-init
+operands-init c = record { goes = goes_start c.args.program.now c.args.self.now (Enter c.args.part); held = rw (← c.self.view_is) c.self.invariant }
 
-pub returns-in_ok-push-in-Some-clause-rest : goal.returns-in_ok-push-in-Some-clause-rest
-returns-in_ok-push-in-Some-clause-rest c call nodes =
-    let see = shown nodes in
-    let source = c.args.program.now in let waiting = c.self.inside.waiting.items in let values = c.self.inside.values.items in
-    rw (← c.self.view_is) (entered_first source call c.args.part c.in-Some.first (map see values) (under source call waiting outcome) c.requires (sym c.operand.ensures ∙ c.in-Some.is)
-    ∙ ap (λ k. settles (expression source call c.in-Some.first) (k (map see values))) (sym (under_in source call c.push.new.self.items waiting (record { part = c.args.part; held = 0 }) outcome c.in_ok-push-in-Some.ensures.items)))
+pub operands-smaller : goal.operands-smaller
+operands-smaller c = first_fewer c.args.program.now c.operands.self c.wait.new.self c.operands.inner c.in-Some.first c.requires (sym c.operand.ensures ∙ c.in-Some.is) c.in_ok-wait.ensures
 
-pub returns-in_ok-push-in-Some-clause-work : goal.returns-in_ok-push-in-Some-clause-work
-returns-in_ok-push-in-Some-clause-work c =
-    rw (← c.self.view_is) (first_falls c.args.program.now c.args.part c.in-Some.first c.self.inside.waiting.items c.push.new.self.items c.requires (sym c.operand.ensures ∙ c.in-Some.is) c.in_ok-push-in-Some.ensures.items)
+pub operands-preserved : goal.operands-preserved
+operands-preserved c =
+    let source = c.args.program.now in let inner = c.operands.inner in
+    record {
+      goes = goes_then source c.args.self.now c.operands.self c.wait.new.self (Enter c.args.part) (Enter inner) (Enter c.in-Some.first) c.operands.invariant.goes
+          (first_goes source c.operands.self c.wait.new.self inner c.in-Some.first c.requires (sym c.operand.ensures ∙ c.in-Some.is) c.in_ok-wait.ensures);
+      held = first_held c.operands.self c.wait.new.self inner c.in_ok-wait.ensures c.operands.invariant.held;
+    }
 
-pub returns-in-None-clause-rest : goal.returns-in-None-clause-rest
-returns-in-None-clause-rest c call nodes =
-    let see = shown nodes in
-    let source = c.args.program.now in let values = c.args.self.now.values in let rest = under source call c.args.self.now.waiting outcome in
-    entered_leaf source call c.args.part (map see values) rest c.requires (sym c.operand.ensures ∙ c.in-None.is)
-    ∙ applied_seen source call c.args.part see 0 values (map see values) rest refl
+pub returns-clause-rest : goal.returns-clause-rest
+returns-clause-rest c =
+    let source = c.args.program.now in let inner = c.operands.inner in
+    goes_rest source c.args.self.now c.operands.self c.operands.self (Enter c.args.part) (Enter inner) (Apply inner 0) c.operands.invariant.goes (leaf_rest source c.operands.self inner c.requires (sym c.operand.ensures ∙ c.in_default.is))
 
-pub returns-in-None-clause-work : goal.returns-in-None-clause-work
-returns-in-None-clause-work c =
-    let i = c.self.invariant in rw (← c.self.view_is) (leaf_falls c.args.program.now c.args.part c.self.inside.waiting.items c.requires, omega arith)
+pub returns-clause-work : goal.returns-clause-work
+returns-clause-work c =
+    let source = c.args.program.now in let inner = c.operands.inner in
+    goes_work source c.args.self.now c.operands.self c.operands.self (Enter c.args.part) (Enter inner) (Apply inner 0) c.operands.invariant.goes (leaf_work source c.operands.self inner c.requires c.operands.invariant.held)
+
+pub returns-clause-known : goal.returns-clause-known
+returns-clause-known c = c.operands.invariant.goes.known

@@ -1,10 +1,11 @@
-use Rattle.std.proofs.Common.{◌≡◌, suc, ◌+◌, [], ◌∷◌, ◌++◌, length, map, ap, sym, ◌∙◌, arith, Some, slice_get, is_ok}
+use Rattle.std.proofs.Common.{◌≡◌, suc, ◌+◌, [], ◌∷◌, ◌++◌, length, map, ap, sym, ◌∙◌, subst, arith, Some, is_ok}
 use Rattle.std.proofs.lemmas.List.{length-append, map-append}
-use Rattle.sno_machine.specs.Values.{shown}
-use Rattle.snobol.specs.Pile.{under, outcome}
-use Rattle.snobol.specs.Evaluate.{expression}
-use Rattle.sno_machine.specs.Action.{settles}
-use Rattle.snobol.proofs.Piles.{held_in, held_if, under_in, resumed_next, resumed_last, next_falls, last_falls, applied_seen}
+use Rattle.std.specs.List.{AllByRecursion}
+use Rattle.sno_machine.specs.Values.{shown, IsValueOf}
+use Rattle.snobol.specs.declared.pile.Turn.TheVariants.{Enter, Got as HasGot}
+use Rattle.snobol.specs.Pile.{Piled, under, outcome}
+use Rattle.snobol.proofs.Piles.{held_in, held_if, under_in, resumed_last, last_falls, applied_seen}
+use Rattle.snobol.proofs.PileSteps.{next_goes, goes_rest, goes_work}
 use Rattle.snobol.proofs.pile.Pile.resume.Goals as goal
 
 pub invariant_of-self-in_err-push : goal.invariant_of-self-in_err-push
@@ -22,25 +23,6 @@ pub invariant_of-self-in-None : goal.invariant_of-self-in-None
 invariant_of-self-in-None c =
     let h = held_in _ _ _ _ c.in-Some.ensures.items c.self.invariant in let a = ap length c.in_ok-push.ensures.items in let b = length-append c.self.inside.values.items (c.args.value ∷ []) in omega arith
 
-pub returns-in_ok-push-in-Some-operand-clause-rest : goal.returns-in_ok-push-in-Some-operand-clause-rest
-returns-in_ok-push-in-Some-operand-clause-rest c call nodes =
-    let see = shown nodes in
-    let source = c.args.program.now in let waiting = c.pop.new.self.items in let values = c.self.inside.values.items in let part = c.in-Some.last.part in let held = c.in-Some.last.held in let next = c.in-Some-operand.next in
-    let more : held + 1 ≡ suc held = omega arith in
-    let found : slice_get _ (suc held) ≡ Some next = rw more at (sym c.operand.ensures ∙ c.in-Some-operand.is) in
-    let pushed = rw more at c.in_ok-push-in-Some-operand.ensures.items in
-    rw (← c.self.view_is, c.in_ok-push.ensures.items)
-    (ap (λ k. k (map see values) (Some (see c.args.value))) (under_in source call c.self.inside.waiting.items waiting c.in-Some.last outcome c.in-Some.ensures.items)
-    ∙ (resumed_next source call part next held (map see values) (see c.args.value) (under source call waiting outcome) found
-    ∙ (λ i. settles (expression source call next) (sym (under_in source call c.push-in-Some-operand.new.self.items waiting (record { part = part; held = suc held }) outcome pushed) i (sym (map-append see values (c.args.value ∷ [])) i)))))
-
-pub returns-in_ok-push-in-Some-operand-clause-work : goal.returns-in_ok-push-in-Some-operand-clause-work
-returns-in_ok-push-in-Some-operand-clause-work c =
-    let held = c.in-Some.last.held in
-    let more : held + 1 ≡ suc held = omega arith in
-    rw (← c.self.view_is) (next_falls c.args.program.now c.in-Some.last.part c.in-Some-operand.next held c.pop.new.self.items c.self.inside.waiting.items c.push-in-Some-operand.new.self.items
-    (rw more at (sym c.operand.ensures ∙ c.in-Some-operand.is)) c.in-Some.ensures.items (rw more at c.in_ok-push-in-Some-operand.ensures.items))
-
 pub returns-in-None-clause-rest : goal.returns-in-None-clause-rest
 returns-in-None-clause-rest c call nodes =
     let see = shown nodes in
@@ -56,3 +38,25 @@ pub returns-in-None-clause-work : goal.returns-in-None-clause-work
 returns-in-None-clause-work c =
     let h = held_in _ _ _ _ c.in-Some.ensures.items c.self.invariant in let a = ap length c.in_ok-push.ensures.items in let b = length-append c.self.inside.values.items (c.args.value ∷ []) in
     rw (← c.self.view_is) (last_falls c.args.program.now c.in-Some.last c.pop.new.self.items c.self.inside.waiting.items c.in-Some.ensures.items, omega arith)
+
+pub returns-in_ok-entered-in-Some-operand-clause-rest : goal.returns-in_ok-entered-in-Some-operand-clause-rest
+returns-in_ok-entered-in-Some-operand-clause-rest c =
+    let source = c.args.program.now in let held = c.in-Some.last.held in let part = c.in-Some.last.part in let next = c.in-Some-operand.next in
+    let more : held + 1 ≡ suc held = omega arith in
+    let between : Piled = record { waiting = c.push-in-Some-operand.new.self.items; values = c.push.new.self.items } in
+    let goes = next_goes source c.args.self.now between c.pop.new.self.items part next held c.args.value (rw more at (sym c.operand.ensures ∙ c.in-Some-operand.is))
+    (ap (λ (z : Piled). z.waiting) (sym c.self.view_is) ∙ c.in-Some.ensures.items) (rw more at c.in_ok-push-in-Some-operand.ensures.items) (c.in_ok-push.ensures.items ∙ ap (λ (z : Piled). z.values ++ c.args.value ∷ []) c.self.view_is) in
+    goes_rest source c.args.self.now between c.enter.new.self (HasGot c.args.value) (Enter next) c.in_ok-entered-in-Some-operand.entered goes c.in_ok-entered-in-Some-operand.ensures.rest
+
+pub returns-in_ok-entered-in-Some-operand-clause-work : goal.returns-in_ok-entered-in-Some-operand-clause-work
+returns-in_ok-entered-in-Some-operand-clause-work c =
+    let source = c.args.program.now in let held = c.in-Some.last.held in let part = c.in-Some.last.part in let next = c.in-Some-operand.next in
+    let more : held + 1 ≡ suc held = omega arith in
+    let between : Piled = record { waiting = c.push-in-Some-operand.new.self.items; values = c.push.new.self.items } in
+    let goes = next_goes source c.args.self.now between c.pop.new.self.items part next held c.args.value (rw more at (sym c.operand.ensures ∙ c.in-Some-operand.is))
+    (ap (λ (z : Piled). z.waiting) (sym c.self.view_is) ∙ c.in-Some.ensures.items) (rw more at c.in_ok-push-in-Some-operand.ensures.items) (c.in_ok-push.ensures.items ∙ ap (λ (z : Piled). z.values ++ c.args.value ∷ []) c.self.view_is) in
+    goes_work source c.args.self.now between c.enter.new.self (HasGot c.args.value) (Enter next) c.in_ok-entered-in-Some-operand.entered goes c.in_ok-entered-in-Some-operand.ensures.work
+
+pub returns-in_ok-entered-in-Some-operand-clause-known : goal.returns-in_ok-entered-in-Some-operand-clause-known
+returns-in_ok-entered-in-Some-operand-clause-known c = λ nodes h.
+    c.in_ok-entered-in-Some-operand.ensures.known nodes (subst (AllByRecursion (IsValueOf nodes)) (sym (c.in_ok-push.ensures.items ∙ ap (λ (z : Piled). z.values ++ c.args.value ∷ []) c.self.view_is)) h)
