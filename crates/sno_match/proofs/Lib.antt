@@ -12,6 +12,7 @@ pub mod EngineLaws
 pub mod NextLaws
 pub mod AnswerLaws
 pub mod CopiedLaws
+pub mod SharedLaws
 pub mod GrowLaws
 pub mod WeightLaws
 pub mod LateLaws

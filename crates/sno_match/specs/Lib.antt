@@ -7,6 +7,7 @@ pub mod Ways
 pub mod Events
 pub mod Within
 pub mod Session
+pub mod Shared
 pub mod Point
 pub mod Top
 pub mod Reading

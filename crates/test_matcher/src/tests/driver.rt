@@ -1,7 +1,7 @@
 //! Asks a match for all its events.
 ghost use Rattle.std.specs.Prelude.{◌<◌, ◌↔◌, length, IfSome, IsTrue};
 
-use sno_match::{Event, Matcher, Pending};
+use sno_match::{Engine, Event, Pending, Points};
 use sno_pattern::Patterns;
 use sno_value::PatId;
 use std::alloc::{AllocError, Global};
@@ -14,8 +14,8 @@ pub struct Told {
     pub pending: Vec<Pending>,
 }
 
-/// The events of a match, up to the last or to a Value for which there is no answer.
-pub fn all_events(
+/// The events of a match over a stack of this type, up to the last or to a Value for which there is no answer.
+pub fn all_events<P: Points>(
     alloc: Global,
     table: &Patterns,
     pattern: PatId,
@@ -26,7 +26,7 @@ pub fn all_events(
 ) -> Result<Vec<Told>, AllocError>
     requires { pattern.0 < length table.now }
 {
-    let mut m = Matcher::new(alloc, table, pattern, subject, anchored, limit)?;
+    let mut m = Engine::<P>::new(alloc, table, pattern, subject, anchored, limit)?;
     let mut told = Vec::new(alloc);
     let mut given = 0;
     'events: for _ in 0..100_000 {

@@ -4,6 +4,7 @@ ghost use Rattle.std.specs.Prelude.{◌<◌};
 use super::driver::{Told, all_events};
 use super::forms::{Form, table_of};
 use super::reference::search_events;
+use sno_match::{CopiedGoals, SharedGoals};
 use sno_value::{ExprId, PatId, Prim};
 use std::alloc::{AllocError, Global};
 use std::process::Abort;
@@ -128,7 +129,14 @@ fn is_same(got: &Told, want: &Told) -> bool {
         && got.pending.as_slice() == want.pending.as_slice()
 }
 
-/// Compares what the two tell of one pattern, and gives the number of events.
+fn check_same(rt: &impl Abort, got: &[Told], want: &[Told]) {
+    assert_eq!(rt; got.len(), want.len());
+    for (g, w) in got.iter().zip(want) {
+        assert!(rt; is_same(g, w));
+    }
+}
+
+/// Compares what the matcher over either stack and the plain search tell of one pattern, and gives the number of events.
 fn compare(rt: &impl Abort, alloc: Global, chance: &mut Chance) -> Result<usize, Fail> {
     let forms = chance.forms(alloc)?;
     let answers = chance.answers(alloc, forms.len())?;
@@ -136,13 +144,16 @@ fn compare(rt: &impl Abort, alloc: Global, chance: &mut Chance) -> Result<usize,
     let limit = chance.below(90) as u32;
     let subject = chance.among(&SUBJECTS);
     let (table, pattern) = table_of(alloc, &forms)?;
-    let got = all_events(alloc, &table, pattern, subject, anchored, limit, &answers)?;
+    let shared = all_events::<SharedGoals>(
+        alloc, &table, pattern, subject, anchored, limit, &answers,
+    )?;
+    let copied = all_events::<CopiedGoals>(
+        alloc, &table, pattern, subject, anchored, limit, &answers,
+    )?;
     let want = search_events(alloc, &forms, pattern, subject, anchored, limit, &answers)?;
-    assert_eq!(rt; got.len(), want.len());
-    for (g, w) in got.iter().zip(&want) {
-        assert!(rt; is_same(g, w));
-    }
-    Ok(got.len())
+    check_same(rt, &shared, &want);
+    check_same(rt, &copied, &want);
+    Ok(want.len())
 }
 
 #[test]

@@ -1,10 +1,12 @@
 //! Worked rows: what a match tells, with the steps where they were counted by hand.
+ghost use Rattle.std.specs.Prelude.{◌<◌, length};
+
 use super::drawing::{drawn_event, drawn_events, push_number};
 use super::driver::all_events;
 use super::forms::table_of;
 use super::notation::forms_of;
 use super::rows::{Question, check_rows, parts};
-use sno_match::{Event, Matcher};
+use sno_match::{CopiedGoals, Event, Matcher, Points, SharedGoals};
 use sno_pattern::Patterns;
 use sno_value::{ExprId, PatId};
 use std::alloc::Global;
@@ -32,7 +34,24 @@ fn search_of(text: &'static str) -> Result<Search, Fail> {
     })
 }
 
-/// The events of the last form in the subject, with at most so many steps. The first form answers a deferred part.
+/// The events of a pattern over a stack of this type. The first form answers a deferred part.
+fn events_over<P: Points>(
+    alloc: Global,
+    table: &Patterns,
+    pattern: PatId,
+    s: Search,
+) -> Result<String, Fail>
+    requires { pattern.0 < length table.now }
+{
+    let answers = [Some(PatId(0))];
+    let told = all_events::<P>(
+        alloc, table, pattern, s.subject, s.anchored, s.limit, &answers,
+    )?;
+    let text = drawn_events(alloc, &told)?;
+    Ok(text)
+}
+
+/// The events of the last form in the subject, with at most so many steps, which either stack tells.
 #[derive(Drop)]
 struct Matches;
 
@@ -41,11 +60,11 @@ impl Question for Matches {
         let s = search_of(text)?;
         let forms = forms_of(alloc, s.words)?;
         let (table, pattern) = table_of(alloc, &forms)?;
-        let answers = [Some(PatId(0))];
-        let told = all_events(
-            alloc, &table, pattern, s.subject, s.anchored, s.limit, &answers,
-        )?;
-        let text = drawn_events(alloc, &told)?;
+        let text = events_over::<SharedGoals>(alloc, &table, pattern, s)?;
+        let copied = events_over::<CopiedGoals>(alloc, &table, pattern, s)?;
+        if text.as_str() != copied.as_str() {
+            return Err(Fail::from("the stacks tell different events"));
+        }
         Ok(text)
     }
 }
@@ -300,6 +319,8 @@ fn parts_of_the_subject(rt: HostRuntime) -> Result<(), Fail> {
 /// How many concatenations a long chain has.
 const LONG: u32 = 300_000;
 
+const LONG_EVENTS: &str = "way 0 0 at 600001; exhausted at 600001;";
+
 /// Texts that are chained to the left, so that as many goals wait as there are concatenations. A move that copied them
 /// would take longer than a test may.
 #[test]
@@ -310,8 +331,50 @@ fn a_long_chain(rt: HostRuntime) -> Result<(), Fail> {
     for _part in 0..LONG {
         chain = table.cat(chain, null)?;
     }
-    let told = all_events(rt.alloc(), &table, chain, b"", true, 1_000_000, &[])?;
-    let text = drawn_events(rt.alloc(), &told)?;
-    assert_eq!(rt; text.as_str(), "way 0 0 at 600001; exhausted at 600001;");
+    let search = Search {
+        words: "",
+        subject: b"",
+        anchored: true,
+        limit: 1_000_000,
+    };
+    let shared = events_over::<SharedGoals>(rt.alloc(), &table, chain, search)?;
+    assert_eq!(rt; shared.as_str(), LONG_EVENTS);
+    let copied = events_over::<CopiedGoals>(rt.alloc(), &table, chain, search)?;
+    assert_eq!(rt; copied.as_str(), LONG_EVENTS);
+    Ok(())
+}
+
+/// How many times a pattern names itself.
+const LEVELS: u32 = 100_000;
+
+/// P = *P 'A' | 'A' names itself first, so that at each level one goal more waits behind the deferred part, and a point
+/// stays at the `|`. Goals that were copied there would not fit into memory.
+#[test]
+fn a_pattern_that_names_itself_first(rt: HostRuntime) -> Result<(), Fail> {
+    let mut table = Patterns::new(rt.alloc());
+    let a = table.text(b"A")?;
+    let same = table.defer(ExprId(4))?;
+    let longer = table.cat(same, a)?;
+    let pattern = table.alt(longer, a)?;
+    let mut m = Matcher::new(rt.alloc(), &table, pattern, b"A", true, 3 * LEVELS)?;
+    'levels: for level in 0..LEVELS {
+        let told = m.next(&table)?;
+        assert_eq!(rt;
+            told,
+            Event::Value {
+                prim: None,
+                expr: ExprId(4)
+            }
+        );
+        assert_eq!(rt; m.steps(), 3 * level + 3);
+        assert!(rt; m.records() <= 2 * m.steps() as usize + 2);
+        if !m.is_waiting() {
+            return Err(Fail::from("no value is wanted"));
+        }
+        m.answer(&table, Some(pattern))?;
+    }
+    let last = m.next(&table)?;
+    assert_eq!(rt; last, Event::Limit);
+    assert_eq!(rt; m.points(), LEVELS as usize + 1);
     Ok(())
 }

@@ -1,7 +1,7 @@
 //! Refused memory: a stack of points that refuses growths, which are then asked for again.
 ghost use Rattle.std.specs.Prelude.{◌≡◌, ◌<◌, ◌+◌, false, length, IfOk};
 
-use sno_match::{CopiedGoals, Engine, Event, Goal, Pending, Points, Top};
+use sno_match::{CopiedGoals, Engine, Event, Goal, Pending, Points, SharedGoals, Top};
 use sno_pattern::{BuildError, Patterns};
 use sno_value::PatId;
 use std::alloc::{AllocError, Global};
@@ -11,13 +11,13 @@ use std::test::Fail;
 /// Refuses growths. Which ones, the number of the pattern says, since nothing else reaches a stack from a test: every
 /// second one for the pattern with the number 3, the first alone for that with 4, the second for that with 5, and so on.
 #[derive(Drop)]
-struct Refusing {
-    inner: CopiedGoals,
+struct Refusing<P: Points> {
+    inner: P,
     pattern: u32,
     asked: u32,
 }
 
-impl Refusing {
+impl<P: Points> Refusing<P> {
     /// Whether the growth that is asked for now is refused.
     fn refuses(&mut self) -> bool
         ensures { self.new.inner ≡ self.old.inner }
@@ -31,16 +31,14 @@ impl Refusing {
     }
 }
 
-impl Points for Refusing {
-    ghost use Rattle.sno_match.specs.Copied.{points_of};
+impl<P: Points> Points for Refusing<P> {
+    ghost points = { λ s. P.points s.inner };
 
-    ghost points = { λ s. points_of s.inner.top s.inner.below.items };
+    ghost records = { λ s. P.records s.inner };
 
-    ghost records = { λ s. 0 };
-
-    fn empty(alloc: Global) -> Refusing {
+    fn empty(alloc: Global) -> Refusing<P> {
         Refusing {
-            inner: CopiedGoals::empty(alloc),
+            inner: P::empty(alloc),
             pattern: 0,
             asked: 0,
         }
@@ -184,13 +182,33 @@ fn asked_again<P: Points>(
     Ok(refused)
 }
 
+/// The number of refusals, also where the first is in `new`.
+fn asked_in_full<P: Points>(
+    rt: &impl Abort,
+    table: &Patterns,
+    pattern: PatId,
+    alloc: Global,
+) -> Result<u32, AllocError>
+    requires { pattern.0 < length table.now }
+{
+    match asked_again::<P>(rt, table, pattern, alloc) {
+        Ok(refused) => Ok(refused),
+        Err(_) => {
+            let refused = asked_again::<P>(rt, table, pattern, alloc)?;
+            Ok(refused.saturating_add(1))
+        }
+    }
+}
+
 #[test]
 fn every_second_growth_is_refused(rt: HostRuntime) -> Result<(), Fail> {
     let mut table = Patterns::new(rt.alloc());
     let some = add_repetition(&mut table)?;
     assert_eq!(rt; some.0, 3);
-    let refused = asked_again::<Refusing>(&rt, &table, some, rt.alloc())?;
-    assert_eq!(rt; refused, GROWTHS);
+    let shared = asked_again::<Refusing<SharedGoals>>(&rt, &table, some, rt.alloc())?;
+    assert_eq!(rt; shared, GROWTHS);
+    let copied = asked_again::<Refusing<CopiedGoals>>(&rt, &table, some, rt.alloc())?;
+    assert_eq!(rt; copied, GROWTHS);
     Ok(())
 }
 
@@ -204,11 +222,13 @@ fn each_growth_is_refused_once(rt: HostRuntime) -> Result<(), Fail> {
     'growths: for k in 0..1000u32 {
         let some = table.arbno(choice)?;
         assert_eq!(rt; some.0, k + 4);
-        let refused = asked_again::<Refusing>(&rt, &table, some, rt.alloc())?;
-        if refused == 0 {
+        let shared = asked_again::<Refusing<SharedGoals>>(&rt, &table, some, rt.alloc())?;
+        let copied = asked_again::<Refusing<CopiedGoals>>(&rt, &table, some, rt.alloc())?;
+        assert_eq!(rt; shared, copied);
+        if shared == 0 {
             break;
         }
-        assert_eq!(rt; refused, 1);
+        assert_eq!(rt; shared, 1);
         growths = k + 1;
     }
     assert_eq!(rt; growths, GROWTHS);
@@ -228,14 +248,10 @@ fn a_refused_allocation_is_no_event(rt: HostRuntime) -> Result<(), Fail> {
             add_repetition(&mut table)?
         }
     };
-    let refused = match asked_again::<CopiedGoals>(&rt, &table, some, rt.alloc()) {
-        Ok(refused) => refused,
-        Err(_) => {
-            before += 1;
-            asked_again::<CopiedGoals>(&rt, &table, some, rt.alloc())?
-        }
-    };
-    assert!(rt; before <= 1);
-    assert!(rt; refused <= 1 - before);
+    let shared = asked_in_full::<SharedGoals>(&rt, &table, some, rt.alloc())?;
+    let copied = asked_in_full::<CopiedGoals>(&rt, &table, some, rt.alloc())?;
+    assert!(rt; shared <= 1);
+    assert!(rt; copied <= 1);
+    assert!(rt; before + shared + copied <= 1);
     Ok(())
 }

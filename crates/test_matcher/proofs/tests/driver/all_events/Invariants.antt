@@ -2,4 +2,4 @@ use Rattle.std.proofs.Common.{◌≡◌, false}
 use Rattle.test_matcher.proofs.tests.driver.all_events.Given as goal
 
 abbrev pub invariant-events : goal.invariant-events
-invariant-events l = (l.m.nodes ≡ l.table) × (l.m.waits ≡ false)
+invariant-events g l = (l.m.nodes ≡ l.table) × (l.m.waits ≡ false)

@@ -1,0 +1,286 @@
+//! Resumption points whose goal lists are numbered records, shared between them.
+ghost use Rattle.std.specs.Prelude.{◌≡◌, ℕ, ◌+◌, ◌≤◌, [], ◌∷◌, ◌++◌, length, reverse, take, vec_len, vec_capacity, IfOk, IfNone, IfSome, OnOk, OnErr};
+ghost use Rattle.sno_match.specs.Point.{rest_of};
+ghost use Rattle.sno_match.specs.Shared.{Falls, Extends, goals_of};
+
+use crate::event::Pending;
+use crate::goal::{Goal, Mark, Top};
+use crate::points::Points;
+use std::alloc::{AllocError, Global};
+use std::marker::Model;
+
+/// A goal, and the list behind it.
+#[derive(Clone, Copy, Drop)]
+struct GoalRecord {
+    goal: Goal,
+    /// The number of the record behind, which is a smaller one, or 0 where no goal is left.
+    behind: usize,
+}
+
+/// A resumption point. Its lists are numbers.
+#[derive(Clone, Copy, Drop)]
+struct Held {
+    /// The number of its first goal's record, or 0 where no goal is left.
+    goals: usize,
+    /// Where the first goal begins.
+    cursor: usize,
+    /// Whether the first goal is to be entered, or where its next alternative goes on.
+    mark: Mark,
+    /// The points below it need no record past this number.
+    floor: usize,
+    /// How many entries of the pending list are its own: the first ones.
+    assigned: usize,
+}
+
+/// A stack of points: the newest, and those below it with the newest of them last. Record k has the number k + 1.
+///
+/// No list is copied at a branch. The records of a point that is dropped are cut back with it, and those that no list of
+/// the newest point or of one below has any more where the next ones are put. Entries of dropped points are cut back where
+/// the next one is put.
+#[derive(Drop)]
+pub struct SharedGoals {
+    records: Vec<GoalRecord>,
+    /// The assignments that wait on the way to the newest point, and maybe those of points that were dropped.
+    pending: Vec<Pending>,
+    top: Option<Held>,
+    below: Vec<Held>,
+}
+
+impl Model for SharedGoals {
+    ghost use Rattle.std.specs.Prelude.{length};
+    ghost use Rattle.sno_match.specs.Shared.{Seen, Holds, points_of};
+
+    ghost Value = { Seen };
+
+    ghost view = { λ s. record { points = points_of s.records.items s.pending.items s.top s.below.items; count = length s.records.items } };
+
+    ghost invariant = { λ s. Holds s.records.items s.pending.items s.top s.below.items };
+}
+
+impl Points for SharedGoals {
+    ghost points = { λ s. s.points };
+
+    ghost records = { λ s. s.count };
+
+    fn empty(alloc: Global) -> SharedGoals {
+        SharedGoals {
+            records: Vec::new(alloc),
+            pending: Vec::new(alloc),
+            top: None,
+            below: Vec::new(alloc),
+        }
+    }
+
+    fn depth(&self) -> usize {
+        match &self.top {
+            None => 0,
+            Some(_) => self.below.len() + 1,
+        }
+    }
+
+    fn count_records(&self) -> usize {
+        self.records.len()
+    }
+
+    fn top(&self) -> Top {
+        let Some(point) = self.top else {
+            return Top::Empty;
+        };
+        match first_of(&self.records, point.goals) {
+            None => Top::Complete {
+                cursor: point.cursor,
+                mark: point.mark,
+            },
+            Some(goal) => Top::Open {
+                goal,
+                cursor: point.cursor,
+                mark: point.mark,
+            },
+        }
+    }
+
+    fn replace(&mut self, front: &[Goal], cursor: usize) -> Result<(), AllocError> {
+        let Some(point) = self.top else {
+            return Ok(());
+        };
+        let behind = behind_first(&self.records, point.goals);
+        let keep = larger(behind, point.floor);
+        let goals = put_front(&mut self.records, keep, behind, front)?;
+        self.top = Some(Held {
+            goals,
+            cursor,
+            mark: Mark::Enter,
+            floor: point.floor,
+            assigned: point.assigned,
+        });
+        Ok(())
+    }
+
+    fn branch(&mut self, front: &[Goal], cursor: usize, next: usize) -> Result<(), AllocError> {
+        let Some(point) = self.top else {
+            return Ok(());
+        };
+        self.below.reserve(1)?;
+        let behind = behind_first(&self.records, point.goals);
+        let keep = larger(point.goals, point.floor);
+        let goals = put_front(&mut self.records, keep, behind, front)?;
+        self.below.push_reserved(Held {
+            goals: point.goals,
+            cursor: point.cursor,
+            mark: Mark::Next(next),
+            floor: point.floor,
+            assigned: point.assigned,
+        });
+        self.top = Some(Held {
+            goals,
+            cursor,
+            mark: Mark::Enter,
+            floor: keep,
+            assigned: point.assigned,
+        });
+        Ok(())
+    }
+
+    fn close(&mut self, assignment: Pending) -> Result<(), AllocError> {
+        let Some(point) = self.top else {
+            return Ok(());
+        };
+        put_pending(&mut self.pending, point.assigned, assignment)?;
+        self.top = Some(Held {
+            goals: behind_first(&self.records, point.goals),
+            cursor: point.cursor,
+            mark: Mark::Enter,
+            floor: point.floor,
+            assigned: point.assigned + 1,
+        });
+        Ok(())
+    }
+
+    fn pop(&mut self) {
+        if let Some(point) = self.top {
+            self.top = self.below.pop();
+            self.records.truncate(point.floor);
+        }
+    }
+
+    fn finish(&mut self, way: &mut Vec<Pending>) -> Result<(), AllocError> {
+        if let Some(point) = self.top {
+            copy_out(way, &self.pending[..point.assigned])?;
+            self.pop();
+        }
+        Ok(())
+    }
+
+    fn begin(&mut self, goal: Goal, cursor: usize) -> Result<(), AllocError> {
+        let goals = put_front(&mut self.records, 0, 0, &[goal])?;
+        self.below.clear();
+        self.top = Some(Held {
+            goals,
+            cursor,
+            mark: Mark::Enter,
+            floor: 0,
+            assigned: 0,
+        });
+        Ok(())
+    }
+}
+
+/// Cuts the records back to the first `keep`, and puts these goals in front of a list of those.
+fn put_front(
+    records: &mut Vec<GoalRecord>,
+    keep: usize,
+    behind: usize,
+    front: &[Goal],
+) -> Result<usize, AllocError>
+    requires falls { Falls (reverse records.old.items) }
+    requires keep { keep ≤ length records.old.items }
+    requires behind { behind ≤ keep }
+    ensures ok { IfOk result (λ goals. Extends (take keep records.old.items) behind front.now records.new.items goals) }
+    ensures err { OnErr result (records.new.items ≡ records.old.items) }
+{
+    records.reserve((keep + front.len()).saturating_sub(records.len()))?;
+    records.truncate(keep);
+    let goals = link(records, behind, front);
+    Ok(goals)
+}
+
+/// Puts these goals in front of a list: the number of the new one.
+fn link(records: &mut Vec<GoalRecord>, behind: usize, front: &[Goal]) -> usize
+    requires room { vec_len records.old + length front.now ≤ vec_capacity records.old }
+    requires falls { Falls (reverse records.old.items) }
+    requires behind { behind ≤ length records.old.items }
+    ensures { Extends records.old.items behind front.now records.new.items result }
+{
+    let mut goals = behind;
+    for goal in front.iter().rev() {
+        records.push_reserved(GoalRecord {
+            goal: *goal,
+            behind: goals,
+        });
+        goals = records.len();
+    }
+    goals
+}
+
+/// The first goal of a list.
+fn first_of(records: &[GoalRecord], goals: usize) -> Option<Goal>
+    requires falls { Falls (reverse records.now) }
+    requires inside { goals ≤ length records.now }
+    ensures none { IfNone result (goals_of records.now goals ≡ []) }
+    ensures some { IfSome result (λ goal. goals_of records.now goals ≡ goal ∷ rest_of (goals_of records.now goals)) }
+{
+    if goals == 0 {
+        return None;
+    }
+    Some(records[goals - 1].goal)
+}
+
+/// The list behind the first goal of a list.
+fn behind_first(records: &[GoalRecord], goals: usize) -> usize
+    requires falls { Falls (reverse records.now) }
+    requires inside { goals ≤ length records.now }
+    ensures value { goals_of records.now result ≡ rest_of (goals_of records.now goals) }
+    ensures smaller { result ≤ goals }
+{
+    if goals == 0 {
+        return 0;
+    }
+    records[goals - 1].behind
+}
+
+fn larger(first: usize, second: usize) -> usize
+    ensures first { first ≤ result }
+    ensures second { second ≤ result }
+    ensures least { (n : ℕ) → first ≤ n → second ≤ n → result ≤ n }
+{
+    if first < second { second } else { first }
+}
+
+/// Cuts the list back to its first `assigned` entries, which are the newest point's, and puts one more behind them.
+fn put_pending(
+    pending: &mut Vec<Pending>,
+    assigned: usize,
+    assignment: Pending,
+) -> Result<(), AllocError>
+    requires { assigned ≤ length pending.old.items }
+    ensures ok { OnOk result (pending.new.items ≡ take assigned pending.old.items ++ assignment ∷ []) }
+    ensures err { OnErr result (pending.new.items ≡ pending.old.items) }
+{
+    pending.reserve((assigned + 1).saturating_sub(pending.len()))?;
+    pending.truncate(assigned);
+    pending.push_reserved(assignment);
+    Ok(())
+}
+
+/// Hands these entries over in place of those that were there.
+fn copy_out(way: &mut Vec<Pending>, entries: &[Pending]) -> Result<(), AllocError>
+    ensures ok { OnOk result (way.new.items ≡ entries.now) }
+    ensures err { OnErr result (way.new.items ≡ way.old.items) }
+{
+    way.reserve(entries.len().saturating_sub(way.len()))?;
+    way.clear();
+    for entry in entries {
+        way.push_reserved(*entry);
+    }
+    Ok(())
+}
