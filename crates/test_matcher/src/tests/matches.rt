@@ -10,6 +10,7 @@ use sno_match::{CopiedGoals, Event, Matcher, Points, SharedGoals};
 use sno_pattern::Patterns;
 use sno_value::{ExprId, PatId};
 use std::alloc::Global;
+use std::process::Abort;
 use std::test::Fail;
 
 /// What a row asks for: `anchored LIMIT SUBJECT: FORMS` or `floating LIMIT SUBJECT: FORMS`.
@@ -347,6 +348,31 @@ fn a_long_chain(rt: HostRuntime) -> Result<(), Fail> {
 /// How many times a pattern names itself.
 const LEVELS: u32 = 100_000;
 
+/// Asks for the value of the deferred part at each level, and answers it by the whole pattern.
+fn name_itself(rt: &impl Abort, alloc: Global, table: &Patterns, pattern: PatId) -> Result<(), Fail>
+    requires { pattern.0 < length table.now }
+{
+    let mut m = Matcher::new(alloc, table, pattern, b"A", true, 3 * LEVELS)?;
+    let value = Event::Value {
+        prim: None,
+        expr: ExprId(4),
+    };
+    'levels: for level in 0..LEVELS {
+        let told = m.next(table)?;
+        assert_eq!(rt; told, value);
+        assert_eq!(rt; m.steps(), 3 * level + 3);
+        assert!(rt; m.records() <= 2 * m.steps() as usize + 2);
+        if !m.is_waiting() {
+            return Err(Fail::from("no value is wanted"));
+        }
+        m.answer(table, Some(pattern))?;
+    }
+    let last = m.next(table)?;
+    assert_eq!(rt; last, Event::Limit);
+    assert_eq!(rt; m.points(), LEVELS as usize + 1);
+    Ok(())
+}
+
 /// P = *P 'A' | 'A' names itself first, so that at each level one goal more waits behind the deferred part, and a point
 /// stays at the `|`. Goals that were copied there would not fit into memory.
 #[test]
@@ -356,25 +382,5 @@ fn a_pattern_that_names_itself_first(rt: HostRuntime) -> Result<(), Fail> {
     let same = table.defer(ExprId(4))?;
     let longer = table.cat(same, a)?;
     let pattern = table.alt(longer, a)?;
-    let mut m = Matcher::new(rt.alloc(), &table, pattern, b"A", true, 3 * LEVELS)?;
-    'levels: for level in 0..LEVELS {
-        let told = m.next(&table)?;
-        assert_eq!(rt;
-            told,
-            Event::Value {
-                prim: None,
-                expr: ExprId(4)
-            }
-        );
-        assert_eq!(rt; m.steps(), 3 * level + 3);
-        assert!(rt; m.records() <= 2 * m.steps() as usize + 2);
-        if !m.is_waiting() {
-            return Err(Fail::from("no value is wanted"));
-        }
-        m.answer(&table, Some(pattern))?;
-    }
-    let last = m.next(&table)?;
-    assert_eq!(rt; last, Event::Limit);
-    assert_eq!(rt; m.points(), LEVELS as usize + 1);
-    Ok(())
+    name_itself(&rt, rt.alloc(), &table, pattern)
 }
