@@ -76,6 +76,7 @@ impl Pile {
     }
 
     /// Takes a turn, and goes on to the next form that can be applied.
+    #[inline]
     pub fn next(&mut self, program: &Program, turn: Turn) -> Result<Next, Exit>
         requires { IsOrdered program.now }
         ensures rest { IfOk result (λ n. (call : Caller) (nodes : List Node) → after_turn program.now call (shown nodes) self.old turn ≡ after_next program.now call (shown nodes) self.new n) }
@@ -91,6 +92,7 @@ impl Pile {
     }
 
     /// Enters an expression, and in it each first operand down to a form that has none.
+    #[inline]
     fn enter(&mut self, program: &Program, part: Part) -> Result<Next, Exit>
         requires { IsOrdered program.now }
         ensures rest { IfOk result (λ n. (call : Caller) (nodes : List Node) → after_turn program.now call (shown nodes) self.old (Turn.Enter part) ≡ after_next program.now call (shown nodes) self.new n) }
@@ -109,6 +111,7 @@ impl Pile {
     }
 
     /// An expression waits for its first operand.
+    #[inline]
     fn wait(&mut self, part: Part) -> Result<(), AllocError>
         ensures { OnOk result (self.new ≡ record self.old { waiting = self.old.waiting ++ (record { part = part; held = 0 }) ∷ [] }) }
     {
@@ -117,6 +120,7 @@ impl Pile {
     }
 
     /// The last that waits takes a value: its next operand is entered, or its form is next where it has no more.
+    #[inline]
     fn resume(&mut self, program: &Program, value: Value) -> Result<Next, Exit>
         requires { IsOrdered program.now }
         ensures rest { IfOk result (λ n. (call : Caller) (nodes : List Node) → after_turn program.now call (shown nodes) self.old (Turn.Got value) ≡ after_next program.now call (shown nodes) self.new n) }
@@ -175,6 +179,7 @@ impl Pile {
 
     /// What a form gives that is applied to the last values, which are let go. It is no call of a function that the program
     /// defines.
+    #[inline]
     pub fn apply<R: Source>(
         &mut self,
         machine: &mut Machine,
@@ -202,6 +207,7 @@ impl Pile {
     }
 
     /// The last values, which are let go.
+    #[inline]
     pub fn split_off(&mut self, count: usize) -> Result<Vec<Value>, AllocError>
         requires { holds self.old.waiting + count ≤ length self.old.values }
         ensures taken { IfOk result (λ last. last.items ≡ drop (length self.old.values - count) self.old.values) }
