@@ -81,7 +81,7 @@ impl Pile {
     }
 
     /// Goes on with what a form gave that was applied.
-    #[inline]
+    #[inline(always)]
     pub fn go_on(&mut self, program: &Program, given: Result<Value, Exit>) -> Result<Next, Exit>
         requires { IsOrdered program.now }
         ensures goes { IfOk result (GoesWith program.now self.old given self.new) }
@@ -123,7 +123,7 @@ impl Pile {
     }
 
     /// The last that waits takes a value: its next operand is entered, or its form is next where it has no more.
-    #[inline]
+    #[inline(always)]
     fn resume(&mut self, program: &Program, value: Value) -> Result<Next, Exit>
         requires { IsOrdered program.now }
         ensures rest { IfOk result (λ n. (call : Caller) (nodes : List Node) → after_turn program.now call (shown nodes) self.old (HasGot value) ≡ after_next program.now call (shown nodes) self.new n) }
@@ -182,7 +182,7 @@ impl Pile {
 
     /// What a form gives that is applied to the last values, which are let go. It is no call of a function that the program
     /// defines.
-    #[inline]
+    #[inline(always)]
     pub fn apply<R: Source>(
         &mut self,
         machine: &mut Machine,
