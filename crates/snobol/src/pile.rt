@@ -68,7 +68,7 @@ impl Pile {
     }
 
     /// Begins with a part of a program; null where it is absent.
-    #[inline]
+    #[inline(always)]
     pub fn begin(&mut self, program: &Program, part: Option<Part>) -> Result<Next, Exit>
         requires { IsOrdered program.now }
         ensures goes { IfOk result (GoesTo program.now self.old (first_turn part) self.new) }
