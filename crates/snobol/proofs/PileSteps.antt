@@ -1,5 +1,5 @@
 -- What a pile that goes on keeps.
-use Rattle.std.proofs.Common.{◌≡◌, ℕ, suc, ◌-◌, ◌<◌, ◌≤◌, true, false, List, [], ◌∷◌, ◌++◌, length, map, take, refl, ap, sym, ◌∙◌, subst, arith, None, Some, slice_get}
+use Rattle.std.proofs.Common.{◌≡◌, ℕ, suc, ◌-◌, ◌<◌, ◌≤◌, true, false, List, [], ◌∷◌, ◌++◌, length, map, take, refl, ap, sym, ◌∙◌, subst, arith, None, Some, Result, Ok, Err, IfOk, slice_get}
 use Rattle.std.specs.List.{AllByRecursion}
 use Rattle.std.proofs.lemmas.List.{map-append}
 use Rattle.sno_value.specs.declared.value.Value.{Value as Stored}
@@ -7,18 +7,23 @@ use Rattle.sno_value.specs.declared.value.Value.TheVariants as stored
 use Rattle.sno_pattern.specs.Table.{Node}
 use Rattle.sno_text.specs.Source.{Source}
 use Rattle.snobol.specs.declared.forms.Part.{Part}
+use Rattle.sno_machine.specs.declared.machine.Exit.{Exit}
 use Rattle.snobol.specs.declared.pile.Waiting.{Waiting}
-use Rattle.snobol.specs.declared.pile.Turn.{Turn}
-use Rattle.snobol.specs.declared.pile.Turn.TheVariants.{Enter, Got as HasGot, Failed}
 use Rattle.snobol.specs.declared.pile.Next.{Next}
 use Rattle.snobol.specs.declared.pile.Next.TheVariants.{Apply, Done, Lost}
 use Rattle.sno_machine.specs.Values.{Str, shown, IsValueOf}
 use Rattle.sno_machine.specs.Action.{settles}
 use Rattle.snobol.specs.Evaluate.{Caller, expression}
 use Rattle.snobol.specs.Forms.{parts_at, node_at, absorbs, IsOrdered}
-use Rattle.snobol.specs.Pile.{Piled, under, outcome, holds, after_turn, after_next, turn_work, Falls, at_hand, Keeps}
+use Rattle.snobol.specs.Pile.{Piled, under, outcome, holds, after_turn, after_next, turn_work, Falls, at_hand, still_at_hand, Keeps, GoesTo, Turn, Enter, HasGot, Failed}
 use Rattle.snobol.proofs.Leads.{all_with, all_taken}
 use Rattle.snobol.proofs.Piles.{held_of, under_in, entered_first, entered_leaf, resumed_next, resumed_failed, resumed_absorbed, applied_seen, seen_before, first_falls, leaf_falls, next_falls, last_falls}
+
+-- what a call says of what comes next where it gives that
+pub goes_to : (source : Source) (before : Piled) (t : Turn) (after : Piled) (r : Result Next Exit) → IfOk r (λ n. (call : Caller) (nodes : List Node) → after_turn source call (shown nodes) before t ≡ after_next source call (shown nodes) after n)
+    → IfOk r (λ n. Falls source after n (turn_work source before t)) → IfOk r (λ n. Keeps (at_hand before.values t) (still_at_hand after.values n)) → IfOk r (GoesTo source before t after)
+goes_to source before t after (Ok n) rest work known = record { rest = rest; work = work; known = known }
+goes_to source before t after (Err e) rest work known = tt
 
 -- another pile with another turn has as much left to do, takes no more turns, and holds values of the same table
 pub record GoesOn (source : Source) (pile : Piled) (t : Turn) (pile1 : Piled) (t1 : Turn) : Type 0 where

@@ -7,7 +7,7 @@ ghost use Rattle.sno_machine.specs.Values.{shown, IsValueOf};
 ghost use Rattle.snobol.specs.Forms.{IsOrdered, node_at};
 ghost use Rattle.sno_machine.specs.State.{Reads, IsReady, feed};
 ghost use Rattle.snobol.specs.Evaluate.{Caller, given_by};
-ghost use Rattle.snobol.specs.Pile.{holds, after_turn, after_next, turn_work, Falls, at_hand, still_at_hand, Keeps};
+ghost use Rattle.snobol.specs.Pile.{holds, after_turn, after_next, turn_work, Falls, at_hand, still_at_hand, Keeps, first_turn, GoesTo, GoesWith, StopsWith, Enter, HasGot, Failed};
 
 use crate::apply::apply;
 use crate::forms::{Part, absorbs_failure, operand};
@@ -23,14 +23,6 @@ use std::marker::Model;
 pub(crate) struct Waiting {
     pub part: Part,
     pub held: usize,
-}
-
-/// What is to be evaluated, or what was given.
-#[derive(Debug, Drop)]
-pub(crate) enum Turn {
-    Enter(Part),
-    Got(Value),
-    Failed,
 }
 
 /// What is to be done next.
@@ -75,19 +67,30 @@ impl Pile {
         }
     }
 
-    /// Takes a turn, and goes on to the next form that can be applied.
-    #[inline]
-    pub fn next(&mut self, program: &Program, turn: Turn) -> Result<Next, Exit>
+    /// Begins with a part of a program; null where it is absent.
+    #[inline(always)]
+    pub fn begin(&mut self, program: &Program, part: Option<Part>) -> Result<Next, Exit>
         requires { IsOrdered program.now }
-        ensures rest { IfOk result (λ n. (call : Caller) (nodes : List Node) → after_turn program.now call (shown nodes) self.old turn ≡ after_next program.now call (shown nodes) self.new n) }
-        ensures work { IfOk result (λ n. Falls program.now self.new n (turn_work program.now self.old turn)) }
-        ensures known { IfOk result (λ n. Keeps (at_hand self.old.values turn) (still_at_hand self.new.values n)) }
+        ensures goes { IfOk result (GoesTo program.now self.old (first_turn part) self.new) }
         ensures memory { IfErr result (λ e. e ≡ Exit.Halt Stop.NoMemory) }
     {
-        match turn {
-            Turn::Enter(part) => self.enter(program, part),
-            Turn::Got(value) => self.resume(program, value),
-            Turn::Failed => self.fail(program),
+        match part {
+            Some(part) => self.enter(program, part),
+            None => self.resume(program, null(self.alloc)),
+        }
+    }
+
+    /// Goes on with what a form gave that was applied.
+    #[inline(always)]
+    pub fn go_on(&mut self, program: &Program, given: Result<Value, Exit>) -> Result<Next, Exit>
+        requires { IsOrdered program.now }
+        ensures goes { IfOk result (GoesWith program.now self.old given self.new) }
+        ensures stops { IfErr result (StopsWith given) }
+    {
+        match given {
+            Ok(value) => self.resume(program, value),
+            Err(Exit::Failure) => self.fail(program),
+            Err(Exit::Halt(stop)) => Err(Exit::Halt(stop)),
         }
     }
 
@@ -95,8 +98,8 @@ impl Pile {
     #[inline]
     fn enter(&mut self, program: &Program, part: Part) -> Result<Next, Exit>
         requires { IsOrdered program.now }
-        ensures rest { IfOk result (λ n. (call : Caller) (nodes : List Node) → after_turn program.now call (shown nodes) self.old (Turn.Enter part) ≡ after_next program.now call (shown nodes) self.new n) }
-        ensures work { IfOk result (λ n. Falls program.now self.new n (turn_work program.now self.old (Turn.Enter part))) }
+        ensures rest { IfOk result (λ n. (call : Caller) (nodes : List Node) → after_turn program.now call (shown nodes) self.old (Enter part) ≡ after_next program.now call (shown nodes) self.new n) }
+        ensures work { IfOk result (λ n. Falls program.now self.new n (turn_work program.now self.old (Enter part))) }
         ensures known { IfOk result (λ n. Keeps self.old.values (still_at_hand self.new.values n)) }
         ensures memory { IfErr result (λ e. e ≡ Exit.Halt Stop.NoMemory) }
     {
@@ -120,12 +123,12 @@ impl Pile {
     }
 
     /// The last that waits takes a value: its next operand is entered, or its form is next where it has no more.
-    #[inline]
+    #[inline(always)]
     fn resume(&mut self, program: &Program, value: Value) -> Result<Next, Exit>
         requires { IsOrdered program.now }
-        ensures rest { IfOk result (λ n. (call : Caller) (nodes : List Node) → after_turn program.now call (shown nodes) self.old (Turn.Got value) ≡ after_next program.now call (shown nodes) self.new n) }
-        ensures work { IfOk result (λ n. Falls program.now self.new n (turn_work program.now self.old (Turn.Got value))) }
-        ensures known { IfOk result (λ n. Keeps (at_hand self.old.values (Turn.Got value)) (still_at_hand self.new.values n)) }
+        ensures rest { IfOk result (λ n. (call : Caller) (nodes : List Node) → after_turn program.now call (shown nodes) self.old (HasGot value) ≡ after_next program.now call (shown nodes) self.new n) }
+        ensures work { IfOk result (λ n. Falls program.now self.new n (turn_work program.now self.old (HasGot value))) }
+        ensures known { IfOk result (λ n. Keeps (at_hand self.old.values (HasGot value)) (still_at_hand self.new.values n)) }
         ensures memory { IfErr result (λ e. e ≡ Exit.Halt Stop.NoMemory) }
     {
         let Some(last) = self.waiting.pop() else {
@@ -149,8 +152,8 @@ impl Pile {
     /// The last that waits fails with its operand, and so on up to one that absorbs the failure and is null.
     fn fail(&mut self, program: &Program) -> Result<Next, Exit>
         requires { IsOrdered program.now }
-        ensures rest { IfOk result (λ n. (call : Caller) (nodes : List Node) → after_turn program.now call (shown nodes) self.old Turn.Failed ≡ after_next program.now call (shown nodes) self.new n) }
-        ensures work { IfOk result (λ n. Falls program.now self.new n (turn_work program.now self.old Turn.Failed)) }
+        ensures rest { IfOk result (λ n. (call : Caller) (nodes : List Node) → after_turn program.now call (shown nodes) self.old Failed ≡ after_next program.now call (shown nodes) self.new n) }
+        ensures work { IfOk result (λ n. Falls program.now self.new n (turn_work program.now self.old Failed)) }
         ensures known { IfOk result (λ n. Keeps self.old.values (still_at_hand self.new.values n)) }
         ensures memory { IfErr result (λ e. e ≡ Exit.Halt Stop.NoMemory) }
     {
@@ -179,7 +182,7 @@ impl Pile {
 
     /// What a form gives that is applied to the last values, which are let go. It is no call of a function that the program
     /// defines.
-    #[inline]
+    #[inline(always)]
     pub fn apply<R: Source>(
         &mut self,
         machine: &mut Machine,

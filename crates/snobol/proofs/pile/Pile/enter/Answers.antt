@@ -1,6 +1,6 @@
 use Rattle.std.proofs.Common.{sym, ◌∙◌}
-use Rattle.snobol.specs.declared.pile.Turn.TheVariants.{Enter}
 use Rattle.snobol.specs.declared.pile.Next.TheVariants.{Apply}
+use Rattle.snobol.specs.Pile.{Enter}
 use Rattle.snobol.proofs.PileSteps.{goes_start, goes_then, goes_rest, goes_work, first_goes, first_fewer, first_held, leaf_rest, leaf_work}
 use Rattle.snobol.proofs.pile.Pile.enter.Goals as goal
 

@@ -1,6 +1,5 @@
 use Rattle.std.proofs.Common.{◌≤◌, length}
-use Rattle.snobol.specs.declared.pile.Turn.TheVariants.{Enter}
-use Rattle.snobol.specs.Pile.{holds, turn_work}
+use Rattle.snobol.specs.Pile.{holds, turn_work, Enter}
 use Rattle.snobol.proofs.PileSteps.{GoesOn}
 use Rattle.snobol.proofs.pile.Pile.enter.Given as goal
 

@@ -1,7 +1,6 @@
 use Rattle.std.proofs.Common.{[], sym, ◌∙◌}
 use Rattle.sno_value.specs.declared.value.Value.TheVariants.{Str}
-use Rattle.snobol.specs.declared.pile.Turn.TheVariants.{Got as HasGot, Failed}
-use Rattle.snobol.specs.Pile.{still_at_hand}
+use Rattle.snobol.specs.Pile.{still_at_hand, HasGot, Failed}
 use Rattle.snobol.proofs.PileSteps.{goes_then, goes_rest, goes_work, goes_known, failed_goes, failed_fewer, absorbed_goes, lost_rest}
 use Rattle.snobol.proofs.pile.Pile.fail.Goals as goal
 

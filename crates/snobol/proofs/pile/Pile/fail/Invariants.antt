@@ -1,5 +1,4 @@
-use Rattle.snobol.specs.declared.pile.Turn.TheVariants.{Failed}
-use Rattle.snobol.specs.Pile.{turn_work}
+use Rattle.snobol.specs.Pile.{turn_work, Failed}
 use Rattle.snobol.proofs.PileSteps.{GoesOn}
 use Rattle.snobol.proofs.pile.Pile.fail.Given as goal
 

@@ -2,8 +2,7 @@ use Rattle.std.proofs.Common.{◌≡◌, suc, ◌+◌, [], ◌∷◌, ◌++◌, 
 use Rattle.std.proofs.lemmas.List.{length-append, map-append}
 use Rattle.std.specs.List.{AllByRecursion}
 use Rattle.sno_machine.specs.Values.{shown, IsValueOf}
-use Rattle.snobol.specs.declared.pile.Turn.TheVariants.{Enter, Got as HasGot}
-use Rattle.snobol.specs.Pile.{Piled, under, outcome}
+use Rattle.snobol.specs.Pile.{Piled, under, outcome, Enter, HasGot}
 use Rattle.snobol.proofs.Piles.{held_in, held_if, under_in, resumed_last, last_falls, applied_seen}
 use Rattle.snobol.proofs.PileSteps.{next_goes, goes_rest, goes_work}
 use Rattle.snobol.proofs.pile.Pile.resume.Goals as goal
