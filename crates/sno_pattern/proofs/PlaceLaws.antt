@@ -1,12 +1,12 @@
 -- The next place at which a primitive has an end.
-use Rattle.std.proofs.Common.{◌≡◌, ◌≢◌, ℕ, zero, suc, ◌+◌, ◌-◌, ◌<◌, ◌≤◌, ◌==◌, ◌&&◌, nat_eq, Bool, true, false, not, cond, if◌then◌else◌, Option, Some, None, List, [], ◌∷◌, length, take, drop, get_or, position, slice_get, slice_index, refl, sym, ◌∙◌, ap, arith, ◌⊎◌, inl, inr, ⊎_elim}
+use Rattle.std.proofs.Common.{◌≡◌, ℕ, zero, suc, ◌+◌, ◌-◌, ◌<◌, ◌≤◌, ◌==◌, nat_eq, Bool, true, false, not, cond, if◌then◌else◌, Some, None, List, [], ◌∷◌, length, min, take, drop, get_or, position, slice_get, slice_index, refl, sym, ◌∙◌, ap, arith, ◌⊎◌, inl, inr, ⊎_elim}
 use Rattle.std.specs.Option.{is_some}
 use Rattle.std.specs.List.{position_from, starts_with}
 use Rattle.std.proofs.lemmas.Bool.{eq-eqb, ne_eqb}
 use Rattle.std.proofs.lemmas.Iterator.Adapters.{position_from-zero}
-use Rattle.std.proofs.lemmas.List.{get_or-take, get_or-drop, length-drop, length-take-le, take_rest}
+use Rattle.std.proofs.lemmas.List.{get_or-take, get_or-drop, length-drop, length-take, take_rest}
 use Rattle.std.proofs.lemmas.List.Quantifiers.{position-Some}
-use Rattle.std.proofs.lemmas.Option.{slice_get-get_or}
+use Rattle.std.proofs.lemmas.Option.{slice_get-get_or, slice_get_past}
 use Rattle.sno_pattern.specs.Pattern.{Text, Any, Span}
 use Rattle.sno_pattern.specs.Ends.{is_in, end_if, end_after, run_length}
 use Rattle.sno_pattern.proofs.SetLaws.{here_or_behind}
@@ -29,7 +29,7 @@ below_or_not zero (suc place) = inl (omega arith)
 below_or_not (suc c) zero = inr (omega arith)
 below_or_not (suc c) (suc place) = ⊎_elim (λ h. inl (omega (arith, h))) (λ h. inr (omega (arith, h))) (below_or_not c place)
 
-pub end_if-some : (b : Bool) (e : ℕ) → is_some (slice_get (end_if b e) 0) ≡ b
+end_if-some : (b : Bool) (e : ℕ) → is_some (slice_get (end_if b e) 0) ≡ b
 end_if-some true e = refl
 end_if-some false e = refl
 
@@ -50,38 +50,44 @@ none_from : (p : ℕ → Bool) (i : ℕ) (xs : List ℕ) → position_from p i x
 none_from p i [] e k h = absurd (omega arith)
 none_from p i (x ∷ xs) e k h = none_here p i x xs (p x) refl e (none_from p (i + 1) xs) k h
 
+byte_past : (p : ℕ → Bool) (s : List ℕ) (c : ℕ) → length s ≤ c → byte_passes p s c ≡ false
+byte_past p s c h = rw (slice_get_past s c h) refl
+
 module _ (p : ℕ → Bool) (s : List ℕ) (from until : ℕ) where
-  -- the bytes between the places, as the code borrows them
+  -- the bytes between the places
   abbrev part : List ℕ
   part = take (until - from) (drop from s)
 
-  long : until ≤ length s → length part ≡ until - from
-  long inside = length-take-le (until - from) (drop from s) (omega (arith, length-drop from s))
+  long : length part ≡ min (until - from) (length s - from)
+  long = length-take (until - from) (drop from s) ∙ ap (min (until - from)) (length-drop from s)
 
-  passes : (c : ℕ) → from ≤ c → c < until → until ≤ length s → byte_passes p s c ≡ p (get_or part (c - from) 0)
+  passes : (c : ℕ) → from ≤ c → c < until → c < length s → byte_passes p s c ≡ p (get_or part (c - from) 0)
   passes c low high inside =
       let same : from + (c - from) ≡ c = omega arith in
-      byte_at p s c (omega arith) ∙ ap (λ n. p (get_or s n 0)) (sym same) ∙ ap p (sym (part_at s from until (c - from) (omega arith)))
+      byte_at p s c inside ∙ ap (λ n. p (get_or s n 0)) (sym same) ∙ ap p (sym (part_at s from until (c - from) (omega arith)))
 
   -- the place of the first byte that passes
-  pub place_some : (n : ℕ) → until ≤ length s → Some n ≡ position p part → IsFirstPlace (byte_passes p s) from until (from + n)
-  place_some n inside e =
+  pub place_some : (n : ℕ) → Some n ≡ position p part → IsFirstPlace (byte_passes p s) from until (from + n)
+  place_some n e =
       let is = position-Some p part n 0 (sym e) in
-      let room : n < until - from = omega (arith, is.0, long inside) in
+      let room : n < until - from = omega (arith, is.0, long) in
+      let inside : from + n < length s = omega (arith, is.0, long) in
       let back : from + n - from ≡ n = omega arith in
       record {
         behind = omega arith;
         before = omega (arith, room);
-        none = λ c low high. passes c low (omega (arith, room)) inside ∙ is.2 (c - from) (omega arith);
+        none = λ c low high. passes c low (omega (arith, room)) (omega (arith, inside)) ∙ is.2 (c - from) (omega arith);
         found = λ high. passes (from + n) (omega arith) high inside ∙ ap (λ m. p (get_or part m 0)) back ∙ is.1;
       }
 
   -- no byte passes
-  pub place_none : from ≤ until → until ≤ length s → None ≡ position p part → IsFirstPlace (byte_passes p s) from until until
-  place_none range inside e = record {
+  pub place_none : from ≤ until → None ≡ position p part → IsFirstPlace (byte_passes p s) from until until
+  place_none range e = record {
     behind = range;
     before = omega arith;
-    none = λ c low high. passes c low high inside ∙ none_from p 0 part (sym (e ∙ position_from-zero p part)) (c - from) (omega (arith, long inside));
+    none = λ c low high. ⊎_elim
+        (λ inside. passes c low high inside ∙ none_from p 0 part (sym (e ∙ position_from-zero p part)) (c - from) (omega (arith, long, inside)))
+        (byte_past p s c) (below_or_not c (length s));
     found = λ high. absurd (omega arith);
   }
 
@@ -96,7 +102,7 @@ module _ (byte : ℕ) (rest : List ℕ) where
       rw turned refl
   starts (x ∷ s) (suc c) k h = starts s c k h
 
-  pub text_begins : (s : List ℕ) (c : ℕ) → byte_passes (λ b. b == byte) s c ≡ false → leaf_has_end (Text (byte ∷ rest)) s c ≡ false
+  text_begins : (s : List ℕ) (c : ℕ) → byte_passes (λ b. b == byte) s c ≡ false → leaf_has_end (Text (byte ∷ rest)) s c ≡ false
   text_begins s c h = end_if-some (starts_with nat_eq (drop c s) (byte ∷ rest)) (c + length (byte ∷ rest)) ∙ starts s c c h
 
 first_byte : (text s : List ℕ) (c : ℕ) → (length text == 0) ≡ false → byte_passes (λ b. b == slice_index text 0) s c ≡ false → leaf_has_end (Text text) s c ≡ false

@@ -1,5 +1,5 @@
 //! The next place at which a primitive has an end.
-ghost use Rattle.std.specs.Prelude.{◌≡◌, ◌≤◌, ◌==◌, length, position};
+ghost use Rattle.std.specs.Prelude.{◌≡◌, ◌≤◌, ◌+◌, ◌==◌, ◌-◌, length, take, drop, position};
 ghost use Rattle.sno_pattern.specs.Pattern.{Text, Any, NotAny};
 ghost use Rattle.sno_pattern.specs.Kinds.{node_of};
 ghost use Rattle.sno_pattern.specs.Places.{IsFirstPlace, leaf_has_end, node_has_end, byte_passes};
@@ -10,8 +10,9 @@ use crate::kind::Kind;
 
 /// The first place, from `from` up to `until`, at which a primitive node has an end; `until` where it has none before that.
 pub(crate) fn first_place_of_kind(kind: &Kind, subject: &[u8], from: usize, until: usize) -> usize
+    requires start { from ≤ length subject.now }
     requires range { from ≤ until }
-    requires inside { until ≤ length subject.now }
+    requires inside { until ≤ length subject.now + 1 }
     ensures { IsFirstPlace (node_has_end (node_of kind.now) subject.now) from until result }
 {
     match kind {
@@ -25,8 +26,9 @@ pub(crate) fn first_place_of_kind(kind: &Kind, subject: &[u8], from: usize, unti
 
 /// The first place at which a text stands.
 fn place_of_text(text: &[u8], subject: &[u8], from: usize, until: usize) -> usize
+    requires start { from ≤ length subject.now }
     requires range { from ≤ until }
-    requires inside { until ≤ length subject.now }
+    requires inside { until ≤ length subject.now + 1 }
     ensures { IsFirstPlace (leaf_has_end (Text text.now) subject.now) from until result }
 {
     if text.is_empty() {
@@ -42,14 +44,24 @@ fn place_of_text(text: &[u8], subject: &[u8], from: usize, until: usize) -> usiz
 
 /// The first place at which a byte stands.
 fn place_of_byte(byte: u8, subject: &[u8], from: usize, until: usize) -> usize
+    requires start { from ≤ length subject.now }
     requires range { from ≤ until }
-    requires inside { until ≤ length subject.now }
+    requires inside { until ≤ length subject.now + 1 }
     ensures { IsFirstPlace (byte_passes (λ b. b == byte) subject.now) from until result }
 {
-    match index_of(byte, &subject[from..until]) {
+    match index_of(byte, bytes_between(subject, from, until)) {
         Some(before) => from + before,
         None => until,
     }
+}
+
+/// The bytes from one place up to another, as far as the subject has them.
+fn bytes_between(subject: &[u8], from: usize, until: usize) -> &[u8]
+    requires start { from ≤ length subject.now }
+    requires range { from ≤ until }
+    ensures { result.now ≡ take (until - from) (drop from subject.now) }
+{
+    &subject[from..until.min(subject.len())]
 }
 
 /// The index of a byte in a list, if it stands there.
@@ -61,11 +73,12 @@ fn index_of(byte: u8, bytes: &[u8]) -> Option<usize>
 
 /// The first place whose byte is in a set.
 fn place_in_set(set: &ByteSet, subject: &[u8], from: usize, until: usize) -> usize
+    requires start { from ≤ length subject.now }
     requires range { from ≤ until }
-    requires inside { until ≤ length subject.now }
+    requires inside { until ≤ length subject.now + 1 }
     ensures { IsFirstPlace (leaf_has_end (Any set.now) subject.now) from until result }
 {
-    match set.first_in(&subject[from..until]) {
+    match set.first_in(bytes_between(subject, from, until)) {
         Some(before) => from + before,
         None => until,
     }
@@ -73,11 +86,12 @@ fn place_in_set(set: &ByteSet, subject: &[u8], from: usize, until: usize) -> usi
 
 /// The first place whose byte is not in a set.
 fn place_outside_set(set: &ByteSet, subject: &[u8], from: usize, until: usize) -> usize
+    requires start { from ≤ length subject.now }
     requires range { from ≤ until }
-    requires inside { until ≤ length subject.now }
+    requires inside { until ≤ length subject.now + 1 }
     ensures { IsFirstPlace (leaf_has_end (NotAny set.now) subject.now) from until result }
 {
-    match set.first_not_in(&subject[from..until]) {
+    match set.first_not_in(bytes_between(subject, from, until)) {
         Some(before) => from + before,
         None => until,
     }
@@ -85,8 +99,9 @@ fn place_outside_set(set: &ByteSet, subject: &[u8], from: usize, until: usize) -
 
 /// The first place at which a node of any kind has an end, by a look at each.
 fn place_of_end(kind: &Kind, subject: &[u8], from: usize, until: usize) -> usize
+    requires start { from ≤ length subject.now }
     requires range { from ≤ until }
-    requires inside { until ≤ length subject.now }
+    requires inside { until ≤ length subject.now + 1 }
     ensures { IsFirstPlace (node_has_end (node_of kind.now) subject.now) from until result }
 {
     let mut place = from;

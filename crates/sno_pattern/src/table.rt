@@ -54,7 +54,7 @@ impl Model for Patterns {
     ghost Value = { List Node };
 
     ghost use Rattle.sno_pattern.specs.Places.{IsFirstPlace, has_end};
-ghost use Rattle.sno_pattern.specs.Kinds.{nodes_of, IsTable};
+    ghost use Rattle.sno_pattern.specs.Kinds.{nodes_of, IsTable};
 
     ghost view = { λ p. nodes_of p.entries.items };
 
@@ -345,8 +345,9 @@ impl Patterns {
     pub fn first_place(&self, id: PatId, subject: &[u8], from: usize, until: usize) -> usize
         requires id { id.0 < length self.now }
         requires primitive { IsPrimitive (tree self.now id.0) }
+        requires start { from ≤ length subject.now }
         requires range { from ≤ until }
-        requires inside { until ≤ length subject.now }
+        requires inside { until ≤ length subject.now + 1 }
         ensures { IsFirstPlace (has_end (tree self.now id.0) subject.now) from until result }
     {
         first_place_of_kind(&self.entries[id.0 as usize].kind, subject, from, until)

@@ -1,4 +1,4 @@
-use Rattle.std.proofs.Common.{◌≤◌, sym, ◌∙◌, arith}
+use Rattle.std.proofs.Common.{sym, ◌∙◌, arith}
 use Rattle.sno_pattern.proofs.PlaceLaws.{text_first, text_next, not_there}
 use Rattle.sno_pattern.proofs.places.place_of_text.Goals as goal
 
@@ -7,6 +7,7 @@ places-init c = record {
   behind = c.place_of_byte-place.ensures.behind;
   before = c.place_of_byte-place.ensures.before;
   none = text_first c.args.text.now c.args.subject.now (sym c.is_empty.ensures ∙ c.if-is_empty.false) c.args.until c.args.from c.place_of_byte-place.result c.place_of_byte-place.ensures;
+  found = c.place_of_byte-place.ensures.found;
 }
 
 pub places-preserved : goal.places-preserved
@@ -15,4 +16,5 @@ places-preserved c = record {
   before = c.place_of_byte-place-in-places.ensures.before;
   none = text_next c.args.text.now c.args.subject.now (sym c.is_empty.ensures ∙ c.if-is_empty.false) c.args.until c.args.from c.places.place c.place_of_byte-place-in-places.result c.places.invariant.none (not_there c.args.text.now c.args.subject.now c.places.place (sym c.starts_with.ensures.value ∙ c.if-not-starts_with.true))
       c.place_of_byte-place-in-places.ensures;
+  found = c.place_of_byte-place-in-places.ensures.found;
 }
