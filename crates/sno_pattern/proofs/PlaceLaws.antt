@@ -53,6 +53,10 @@ none_from p i (x ∷ xs) e k h = none_here p i x xs (p x) refl e (none_from p (i
 byte_past : (p : ℕ → Bool) (s : List ℕ) (c : ℕ) → length s ≤ c → byte_passes p s c ≡ false
 byte_past p s c h = rw (slice_get_past s c h) refl
 
+-- a place with a byte that passes is inside
+pub byte_inside : (p : ℕ → Bool) (s : List ℕ) (c : ℕ) → byte_passes p s c ≡ true → c < length s
+byte_inside p s c h = ⊎_elim (λ below. below) (λ past. absurd (true_or_false (sym h ∙ byte_past p s c past))) (below_or_not c (length s))
+
 module _ (p : ℕ → Bool) (s : List ℕ) (from until : ℕ) where
   -- the bytes between the places
   abbrev part : List ℕ

@@ -1,5 +1,5 @@
-use Rattle.std.proofs.Common.{sym, ◌∙◌, arith}
-use Rattle.sno_pattern.proofs.PlaceLaws.{text_first, text_next, not_there}
+use Rattle.std.proofs.Common.{◌==◌, slice_index, sym, ◌∙◌, arith}
+use Rattle.sno_pattern.proofs.PlaceLaws.{byte_inside, text_first, text_next, not_there}
 use Rattle.sno_pattern.proofs.places.place_of_text.Goals as goal
 
 pub places-init : goal.places-init
@@ -18,3 +18,8 @@ places-preserved c = record {
       c.place_of_byte-place-in-places.ensures;
   found = c.place_of_byte-place-in-places.ensures.found;
 }
+
+pub place_of_byte-place-requires-in-places-clause-start : goal.place_of_byte-place-requires-in-places-clause-start
+place_of_byte-place-requires-in-places-clause-start c =
+    let inside = byte_inside (λ b. b == slice_index c.args.text.now 0) c.args.subject.now c.places.place (c.places.invariant.found c.places-test.true) in
+    omega (arith, inside)
