@@ -1,8 +1,11 @@
 -- A start that fails at once is passed.
-use Rattle.std.proofs.Common.{◌≡◌, ℕ, suc, ◌+◌, ◌-◌, ◌<◌, Bool, false, true, List, [], ◌∷◌, None, length, map, slice_get, refl, sym, ◌∙◌, ap, subst, arith}
+use Rattle.std.proofs.Common.{◌≡◌, ℕ, zero, suc, ◌+◌, ◌*◌, ◌-◌, ◌<◌, ◌≤◌, Bool, false, true, List, [], ◌∷◌, Option, None, Some, length, map, slice_get, refl, sym, ◌∙◌, ap, subst, arith}
+use Rattle.std.proofs.Math.Nat.{suc-mul}
+use Rattle.std.specs.Option.{is_some}
 use Rattle.sno_pattern.specs.Pattern.{Pattern, Primitive, Leaf, Cat}
 use Rattle.sno_pattern.specs.Ends.{ends, count_from}
 use Rattle.sno_pattern.specs.Shape.{end_of, IsPrimitive}
+use Rattle.sno_pattern.specs.Places.{has_end}
 use Rattle.sno_match.specs.Search.{Match, Exhausted, Gives, further, search}
 use Rattle.sno_match.specs.Starts.{searches_behind, FailsAt, FailsWith, Passes}
 use Rattle.sno_match.proofs.SearchLaws.{search-step}
@@ -66,10 +69,29 @@ module _ (p : Pattern) (s : List ℕ) (at : ℕ) where
   }
 
 -- the pattern begins with a primitive that has no end from the next start
-pub head_passes : (anchored : Bool) (p head : Pattern) (s : List ℕ) (from at price above : ℕ) → Passes anchored p s from at price → anchored ≡ false → at < length s → IsPrimitive head → FailsWith p head above →
+head_passes : (anchored : Bool) (p head : Pattern) (s : List ℕ) (from at price above : ℕ) → Passes anchored p s from at price → anchored ≡ false → at < length s → IsPrimitive head → FailsWith p head above →
     end_of head s (at + 1) 0 ≡ None → Passes anchored p s from (at + 1) (price + (above + 2))
 head_passes anchored p head s from at price above before floats room leaf with_head none =
     let vain : FailsAt (Leaf leaf.0) s 1 (at + 1) = leaf_fails s leaf.0 (at + 1) (subst (λ q. end_of q s (at + 1) 0 ≡ None) leaf.1 none) in
     let so : FailsAt p s (1 + above) (at + 1) = with_head.vain s 1 (at + 1) (subst (λ q. FailsAt q s 1 (at + 1)) (sym leaf.1) vain) in
     let same : price + (1 + above + 1) ≡ price + (above + 2) = omega arith in
     subst (λ n. Passes anchored p s from (at + 1) n) same (passes_more p s at anchored from price (1 + above) before floats room so)
+
+no_end : (end : Option ℕ) → is_some end ≡ false → end ≡ None
+no_end None h = refl
+no_end (Some e) h = absurd (cc)
+
+-- nor from the k next starts
+pub heads_pass : (anchored : Bool) (p head : Pattern) (s : List ℕ) (from above : ℕ) → anchored ≡ false → IsPrimitive head → FailsWith p head above → (k : ℕ) → from + k ≤ length s →
+    ((c : ℕ) → from + 1 ≤ c → c < from + 1 + k → has_end head s c ≡ false) → Passes anchored p s from (from + k) (k * (above + 2))
+heads_pass anchored p head s from above floats leaf with_head zero room none =
+    let same : from ≡ from + 0 = omega arith in
+    let free : 0 * (above + 2) ≡ 0 = omega arith in
+    rw free (subst (λ at. Passes anchored p s from at 0) same (passes_none anchored p s from))
+heads_pass anchored p head s from above floats leaf with_head (suc k) room none =
+    let before : Passes anchored p s from (from + k) (k * (above + 2)) =
+    heads_pass anchored p head s from above floats leaf with_head k (omega (arith, room)) (λ c low high. none c low (omega (arith, high))) in
+    let here : end_of head s (from + k + 1) 0 ≡ None = no_end (end_of head s (from + k + 1) 0) (none (from + k + 1) (omega arith) (omega arith)) in
+    let next = head_passes anchored p head s from (from + k) (k * (above + 2)) above before floats (omega (arith, room)) leaf with_head here in
+    let place : from + k + 1 ≡ from + suc k = omega arith in
+    rw (suc-mul k (above + 2)) (subst (λ at. Passes anchored p s from at (k * (above + 2) + (above + 2))) place next)

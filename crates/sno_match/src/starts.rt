@@ -38,24 +38,21 @@ pub(crate) fn pass_failing_starts(
     ensures enough { result.steps ≤ left }
     ensures passes { Passes anchored (tree patterns.now pattern.0) subject.now start result.start result.steps }
 {
-    let mut passed = Passed { start, steps: 0 };
-    if anchored {
-        return passed;
+    let none = Passed { start, steps: 0 };
+    if anchored || start >= subject.len() {
+        return none;
     }
     let Some(head) = head_of(patterns, pattern, left) else {
-        return passed;
+        return none;
     };
     let price = head.above + 2;
-    'starts: while left - passed.steps >= price
-        && passed.start < subject.len()
-        && patterns
-            .end_at(head.id, subject, passed.start + 1, 0)
-            .is_none()
-    {
-        passed.start += 1;
-        passed.steps += price;
+    let room = (subject.len() - start).min((left / price) as usize);
+    let next = patterns.first_place(head.id, subject, start + 1, start + 1 + room);
+    let passed = next - start - 1;
+    Passed {
+        start: start + passed,
+        steps: passed as u32 * price,
     }
-    passed
 }
 
 /// The primitive that a pattern begins with, if it begins with one and there are steps to reach it from a further start.

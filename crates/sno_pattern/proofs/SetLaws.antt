@@ -29,7 +29,7 @@ before-count p c (suc n) b h = go (p c) (before-count p (c + 1) n b (omega arith
     go true e = rw (apart, e) refl
     go false e = e
 
-here_or_behind : (c b : ℕ) → c ≤ b → (c ≡ b) ⊎ (c < b)
+pub here_or_behind : (c b : ℕ) → c ≤ b → (c ≡ b) ⊎ (c < b)
 here_or_behind zero zero h = inl refl
 here_or_behind zero (suc b) h = inr (omega arith)
 here_or_behind (suc c) zero h = absurd (omega arith)

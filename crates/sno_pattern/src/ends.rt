@@ -51,7 +51,7 @@ pub(crate) fn end_behind_of_kind(kind: &Kind, subject: &[u8], last: usize) -> Op
 }
 
 /// The end of a primitive node that is tried first.
-fn first_end(kind: &Kind, subject: &[u8], at: usize) -> Option<usize>
+pub(crate) fn first_end(kind: &Kind, subject: &[u8], at: usize) -> Option<usize>
     requires { at ≤ length subject.now }
     ensures { result ≡ end_of_node (node_of kind.now) subject.now at 0 }
 {

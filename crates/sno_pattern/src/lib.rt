@@ -7,6 +7,7 @@ mod byte_set;
 mod counts;
 mod ends;
 mod kind;
+mod places;
 mod sets;
 mod shape;
 mod table;

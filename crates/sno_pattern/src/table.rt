@@ -7,12 +7,14 @@ ghost use Rattle.sno_pattern.specs.Arguments.{IsArgOf, IsNullSet, IsBadCount, Is
 ghost use Rattle.sno_pattern.specs.Built.{Appends};
 ghost use Rattle.sno_pattern.specs.Quiet.{IsQuiet};
 ghost use Rattle.sno_pattern.specs.NextEnd.{ends_of, next_end};
+ghost use Rattle.sno_pattern.specs.Places.{IsFirstPlace, has_end};
 ghost use Rattle.sno_pattern.specs.Kinds.{nodes_of, node_of, IsTable};
 
 use crate::argument::{Arg, among, counted};
 use crate::byte_set::ByteSet;
 use crate::ends::{end_behind_of_kind, end_of_kind};
 use crate::kind::{Entry, Kind, is_quiet_over, shape_of_kind};
+use crate::places::first_place_of_kind;
 use crate::shape::Shape;
 use sno_value::{ExprId, Name, PatId, Prim};
 use std::alloc::Global;
@@ -51,6 +53,7 @@ impl Model for Patterns {
 
     ghost Value = { List Node };
 
+    ghost use Rattle.sno_pattern.specs.Places.{IsFirstPlace, has_end};
     ghost use Rattle.sno_pattern.specs.Kinds.{nodes_of, IsTable};
 
     ghost view = { λ p. nodes_of p.entries.items };
@@ -336,6 +339,18 @@ impl Patterns {
         ensures inside { IfSome result (λ e. e ≤ length subject.now) }
     {
         end_behind_of_kind(&self.entries[id.0 as usize].kind, subject, last)
+    }
+
+    /// The first place, from `from` up to `until`, at which a primitive has an end; `until` where it has none before that.
+    pub fn first_place(&self, id: PatId, subject: &[u8], from: usize, until: usize) -> usize
+        requires id { id.0 < length self.now }
+        requires primitive { IsPrimitive (tree self.now id.0) }
+        requires start { from ≤ length subject.now }
+        requires range { from ≤ until }
+        requires inside { until ≤ length subject.now + 1 }
+        ensures { IsFirstPlace (has_end (tree self.now id.0) subject.now) from until result }
+    {
+        first_place_of_kind(&self.entries[id.0 as usize].kind, subject, from, until)
     }
 }
 

@@ -1,6 +1,6 @@
 //! Each public call of the table of patterns on worked rows. The ends are those of the book's descriptions of the
 //! primitives.
-ghost use Rattle.std.specs.Prelude.{◌≤◌, ◌<◌, length};
+ghost use Rattle.std.specs.Prelude.{◌≤◌, ◌<◌, ◌+◌, length};
 ghost use Rattle.sno_pattern.specs.Shape.{IsPrimitive};
 ghost use Rattle.sno_pattern.specs.Table.{tree};
 
@@ -144,6 +144,100 @@ TEXT: from 0 of  => ends 0
 #[test]
 fn several_ends(rt: HostRuntime) -> Result<(), Fail> {
     check_rows::<Ends, _>(&rt, SEVERAL_ENDS)
+}
+
+/// The first place at which a primitive has an end: `FORM from FROM to UNTIL of SUBJECT`.
+#[derive(Drop)]
+struct Places;
+
+impl Question for Places {
+    fn answer(alloc: Global, text: &'static str) -> Result<String, Fail> {
+        let (words, rest) = parts(text, " from ")?;
+        let (from, rest) = parts(rest, " to ")?;
+        let (until, subject) = parts(rest, " of ")?;
+        let from: usize = from.parse()?;
+        let until: usize = until.parse()?;
+        let subject = subject.as_bytes();
+        let forms = forms_of(alloc, words)?;
+        let (patterns, id) = table_of(alloc, &forms)?;
+        if from > subject.len() || until < from || until > subject.len() + 1 {
+            return Err(Fail::from("the places are outside"));
+        }
+        match patterns.shape(id) {
+            Shape::Primitive => {
+                let text = place_of(alloc, &patterns, id, subject, from, until)?;
+                Ok(text)
+            }
+            _ => Err(Fail::from("no primitive")),
+        }
+    }
+}
+
+/// The place, and a sign where a look at each place in turn finds another.
+fn place_of(
+    alloc: Global,
+    patterns: &Patterns,
+    id: PatId,
+    subject: &[u8],
+    from: usize,
+    until: usize,
+) -> Result<String, AllocError>
+    requires id { id.0 < length patterns.now }
+    requires primitive { IsPrimitive (tree patterns.now id.0) }
+    requires start { from ≤ length subject.now }
+    requires range { from ≤ until }
+    requires inside { until ≤ length subject.now + 1 }
+{
+    let mut text = String::new(alloc);
+    text.push_str("place")?;
+    let place = patterns.first_place(id, subject, from, until);
+    let mut seen = until;
+    'places: for at in from..until {
+        if patterns.end_at(id, subject, at, 0).is_some() {
+            seen = at;
+            break;
+        }
+    }
+    push_end(alloc, &mut text, Some(place), Some(seen))?;
+    Ok(text)
+}
+
+const PLACES: &str = r"
+TEXT:BC from 0 to 4 of ABC => place 1
+TEXT:BC from 0 to 6 of ABBCB => place 2
+TEXT:BC from 0 to 1 of ABC => place 1
+TEXT:BC from 2 to 4 of ABC => place 4
+TEXT:BC from 1 to 3 of BCB => place 3
+TEXT:AB from 0 to 1 of ABC => place 0
+TEXT:A from 1 to 1 of ABC => place 1
+TEXT: from 3 to 4 of ABC => place 3
+ANY:BC from 0 to 4 of AABC => place 2
+ANY:BC from 4 to 5 of AABC => place 5
+NOTANY:AB from 0 to 5 of ABBC => place 3
+NOTANY:AB from 0 to 4 of ABB => place 4
+SPAN:BC from 0 to 5 of AABC => place 2
+SPAN:BC from 0 to 3 of AAA => place 3
+BREAK:, from 0 to 4 of AB, => place 0
+BREAK:, from 1 to 3 of ,AB => place 3
+LEN:2 from 0 to 4 of ABC => place 0
+LEN:2 from 2 to 4 of ABC => place 4
+LEN:0 from 3 to 4 of ABC => place 3
+POS:2 from 0 to 4 of ABC => place 2
+RPOS:0 from 0 to 4 of ABC => place 3
+RPOS:3 from 1 to 4 of ABC => place 4
+TAB:1 from 0 to 4 of ABC => place 0
+TAB:1 from 2 to 4 of ABC => place 4
+RTAB:1 from 3 to 4 of ABC => place 4
+ARB from 3 to 4 of ABC => place 3
+BAL from 0 to 4 of )(A) => place 1
+BAL from 0 to 3 of ))( => place 3
+REM from 3 to 4 of ABC => place 3
+FAIL from 0 to 4 of ABC => place 4
+";
+
+#[test]
+fn first_places(rt: HostRuntime) -> Result<(), Fail> {
+    check_rows::<Places, _>(&rt, PLACES)
 }
 
 /// The first and the last byte of each word of a mask, and their neighbours.

@@ -1,0 +1,25 @@
+use Rattle.std.proofs.Common.{◌==◌, slice_index, sym, ◌∙◌, arith}
+use Rattle.sno_pattern.proofs.PlaceLaws.{byte_inside, text_first, text_next, not_there}
+use Rattle.sno_pattern.proofs.places.place_of_text.Goals as goal
+
+pub places-init : goal.places-init
+places-init c = record {
+  behind = c.place_of_byte-place.ensures.behind;
+  before = c.place_of_byte-place.ensures.before;
+  none = text_first c.args.text.now c.args.subject.now (sym c.is_empty.ensures ∙ c.if-is_empty.false) c.args.until c.args.from c.place_of_byte-place.result c.place_of_byte-place.ensures;
+  found = c.place_of_byte-place.ensures.found;
+}
+
+pub places-preserved : goal.places-preserved
+places-preserved c = record {
+  behind = omega arith;
+  before = c.place_of_byte-place-in-places.ensures.before;
+  none = text_next c.args.text.now c.args.subject.now (sym c.is_empty.ensures ∙ c.if-is_empty.false) c.args.until c.args.from c.places.place c.place_of_byte-place-in-places.result c.places.invariant.none (not_there c.args.text.now c.args.subject.now c.places.place (sym c.starts_with.ensures.value ∙ c.if-not-starts_with.true))
+      c.place_of_byte-place-in-places.ensures;
+  found = c.place_of_byte-place-in-places.ensures.found;
+}
+
+pub place_of_byte-place-requires-in-places-clause-start : goal.place_of_byte-place-requires-in-places-clause-start
+place_of_byte-place-requires-in-places-clause-start c =
+    let inside = byte_inside (λ b. b == slice_index c.args.text.now 0) c.args.subject.now c.places.place (c.places.invariant.found c.places-test.true) in
+    omega (arith, inside)

@@ -1,0 +1,112 @@
+//! The next place at which a primitive has an end.
+ghost use Rattle.std.specs.Prelude.{◌≡◌, ◌≤◌, ◌+◌, ◌==◌, ◌-◌, length, take, drop, position};
+ghost use Rattle.sno_pattern.specs.Pattern.{Text, Any, NotAny};
+ghost use Rattle.sno_pattern.specs.Kinds.{node_of};
+ghost use Rattle.sno_pattern.specs.Places.{IsFirstPlace, leaf_has_end, node_has_end, byte_passes};
+
+use crate::byte_set::ByteSet;
+use crate::ends::first_end;
+use crate::kind::Kind;
+
+/// The first place, from `from` up to `until`, at which a primitive node has an end; `until` where it has none before that.
+pub(crate) fn first_place_of_kind(kind: &Kind, subject: &[u8], from: usize, until: usize) -> usize
+    requires start { from ≤ length subject.now }
+    requires range { from ≤ until }
+    requires inside { until ≤ length subject.now + 1 }
+    ensures { IsFirstPlace (node_has_end (node_of kind.now) subject.now) from until result }
+{
+    match kind {
+        Kind::Text(text) => place_of_text(text, subject, from, until),
+        Kind::Any(set) => place_in_set(set, subject, from, until),
+        Kind::NotAny(set) => place_outside_set(set, subject, from, until),
+        Kind::Span(set) => place_in_set(set, subject, from, until),
+        _ => place_of_end(kind, subject, from, until),
+    }
+}
+
+/// The first place at which a text stands.
+fn place_of_text(text: &[u8], subject: &[u8], from: usize, until: usize) -> usize
+    requires start { from ≤ length subject.now }
+    requires range { from ≤ until }
+    requires inside { until ≤ length subject.now + 1 }
+    ensures { IsFirstPlace (leaf_has_end (Text text.now) subject.now) from until result }
+{
+    if text.is_empty() {
+        return from;
+    }
+    let first = text[0];
+    let mut place = place_of_byte(first, subject, from, until);
+    'places: while place < until && !subject[place..].starts_with(text) {
+        place = place_of_byte(first, subject, place + 1, until);
+    }
+    place
+}
+
+/// The first place at which a byte stands.
+fn place_of_byte(byte: u8, subject: &[u8], from: usize, until: usize) -> usize
+    requires start { from ≤ length subject.now }
+    requires range { from ≤ until }
+    requires inside { until ≤ length subject.now + 1 }
+    ensures { IsFirstPlace (byte_passes (λ b. b == byte) subject.now) from until result }
+{
+    match index_of(byte, bytes_between(subject, from, until)) {
+        Some(before) => from + before,
+        None => until,
+    }
+}
+
+/// The bytes from one place up to another, as far as the subject has them.
+fn bytes_between(subject: &[u8], from: usize, until: usize) -> &[u8]
+    requires start { from ≤ length subject.now }
+    requires range { from ≤ until }
+    ensures { result.now ≡ take (until - from) (drop from subject.now) }
+{
+    &subject[from..until.min(subject.len())]
+}
+
+/// The index of a byte in a list, if it stands there.
+fn index_of(byte: u8, bytes: &[u8]) -> Option<usize>
+    ensures { result ≡ position (λ b. b == byte) bytes.now }
+{
+    bytes.iter().position(|b| *b == byte)
+}
+
+/// The first place whose byte is in a set.
+fn place_in_set(set: &ByteSet, subject: &[u8], from: usize, until: usize) -> usize
+    requires start { from ≤ length subject.now }
+    requires range { from ≤ until }
+    requires inside { until ≤ length subject.now + 1 }
+    ensures { IsFirstPlace (leaf_has_end (Any set.now) subject.now) from until result }
+{
+    match set.first_in(bytes_between(subject, from, until)) {
+        Some(before) => from + before,
+        None => until,
+    }
+}
+
+/// The first place whose byte is not in a set.
+fn place_outside_set(set: &ByteSet, subject: &[u8], from: usize, until: usize) -> usize
+    requires start { from ≤ length subject.now }
+    requires range { from ≤ until }
+    requires inside { until ≤ length subject.now + 1 }
+    ensures { IsFirstPlace (leaf_has_end (NotAny set.now) subject.now) from until result }
+{
+    match set.first_not_in(bytes_between(subject, from, until)) {
+        Some(before) => from + before,
+        None => until,
+    }
+}
+
+/// The first place at which a node of any kind has an end, by a look at each.
+fn place_of_end(kind: &Kind, subject: &[u8], from: usize, until: usize) -> usize
+    requires start { from ≤ length subject.now }
+    requires range { from ≤ until }
+    requires inside { until ≤ length subject.now + 1 }
+    ensures { IsFirstPlace (node_has_end (node_of kind.now) subject.now) from until result }
+{
+    let mut place = from;
+    'places: while place < until && first_end(kind, subject, place).is_none() {
+        place += 1;
+    }
+    place
+}
