@@ -3,6 +3,7 @@ mod driver;
 mod ends;
 mod forms;
 mod generated;
+mod long_subjects;
 mod matches;
 mod notation;
 mod patterns;

@@ -38,11 +38,11 @@ fn find<R: Source, W: Sink>(
     requires ready { machine.old.stopped ≡ None → CanRun machine.old.state (devices (R.left reader.old) (R.at_end reader.old) (R.broken reader.old) (W.taken writer.old) (W.broken writer.old)) }
     ensures ready { machine.new.stopped ≡ None → CanRun machine.new.state (devices (R.left reader.new) (R.at_end reader.new) (R.broken reader.new) (W.taken writer.new) (W.broken writer.new)) }
 {
-    let Some(pattern) = machine.pattern(reader, writer, expression)? else {
-        return Ok(None);
-    };
-    let found = machine.match_first(reader, writer, pattern, subject)?;
-    Ok(found)
+    match machine.pattern(reader, writer, expression) {
+        Ok(Some(pattern)) => machine.match_first(reader, writer, pattern, subject),
+        Ok(None) => Ok(None),
+        Err(outcome) => Err(outcome),
+    }
 }
 
 /// The number of the pattern that an expression gives.
