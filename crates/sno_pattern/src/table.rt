@@ -53,7 +53,6 @@ impl Model for Patterns {
 
     ghost Value = { List Node };
 
-    ghost use Rattle.sno_pattern.specs.Places.{IsFirstPlace, has_end};
     ghost use Rattle.sno_pattern.specs.Kinds.{nodes_of, IsTable};
 
     ghost view = { λ p. nodes_of p.entries.items };
