@@ -1,16 +1,12 @@
 -- What a chain of builders makes of a command, a step at a time.
 use Rattle.std.proofs.Common.{◌≡◌, ◌∙◌, ◌||◌, ap, ap₂, false}
-use Rattle.clap.specs.Words.{AddsArg, AddsSubcommand, App, Rule, app_of, rule_of, with_rule, with_subcommand}
+use Rattle.clap.specs.Words.{AddsArg, AddsSubcommand, App, Rule, rule_of, with_rule, with_subcommand}
 use Rattle.clap.specs.Simple.{app_of_fields}
 use Rattle.clap.specs.declared.builder.arg.Arg.{Arg}
 use Rattle.clap.specs.declared.builder.command.Command.{Command}
 use Rattle.clap.specs.declared.builder.command.Command.TheOpen.{Command-F}
 use Rattle.clap.specs.declared.builder.command.Command.TheViews.{out-Command}
-
--- the command is that of the definition, and no argument of it is global
-pub record Makes (c : Command) (app : App) : Type 0 where
-  pub is : app_of c ≡ app
-  pub local : (out-Command c).has_globals ≡ false
+use Rattle.sno_io.specs.Commands.{Makes}
 
 pub setting_made : (c : Command) (fields : Command-F Command) (app : App) → out-Command c ≡ fields → app_of_fields fields ≡ app → fields.has_globals ≡ false → Makes c app
 setting_made c fields app e is local = record { is = ap app_of_fields e ∙ is; local = ap (λ (f : Command-F Command). f.has_globals) e ∙ local }

@@ -4,6 +4,7 @@
 
 mod buffer;
 mod devices;
+mod help;
 mod jobs;
 mod lines;
 mod streams;

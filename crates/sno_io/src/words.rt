@@ -4,8 +4,9 @@ ghost use Rattle.clap.specs.Words.{app_of, found_of, kind_of, rows_of, rule_of, 
 ghost use Rattle.clap.specs.declared.builder.value_parser.ValueParser.TheVariants as parsers;
 ghost use Rattle.sno_io.specs.declared.jobs.Job.{Job};
 ghost use Rattle.sno_io.specs.declared.jobs.Limits.{Limits};
-ghost use Rattle.sno_io.specs.Commands.{flag_rule, number_rule, snobol4, status, word_rule, HoldsJob, IsCheck, IsJob, IsJobOf, IsNumber, IsRefusalOf, IsRun, IsWays};
+ghost use Rattle.sno_io.specs.Commands.{check_app, flag_rule, number_rule, run_app, snobol4, status, ways_app, word_rule, HoldsJob, IsCheck, IsJob, IsJobOf, IsNumber, IsRefusalOf, IsRun, IsWays, Makes};
 
+use crate::help;
 use crate::jobs::{Job, Limits};
 use clap::builder::ValueParser;
 use clap::error::ErrorKind;
@@ -62,28 +63,61 @@ pub fn status_of(error: &Error) -> u8
 fn program<'a>(alloc: Global) -> Result<Command<'a>, AllocError>
     ensures { IfOk result (λ c. app_of c ≡ snobol4) }
 {
-    let run = Command::new(alloc, "run")
-        .about("Run a program")
-        .arg(number(alloc, "statements", STATEMENTS_HELP, 1, MOST_STATEMENTS))?
-        .arg(number(alloc, "match-steps", MATCH_STEPS_HELP, 0, MOST_STEPS))?
-        .arg(word(alloc, "FILE", "The file that holds the program"))?;
-    let check = Command::new(alloc, "check")
-        .about("Check a program: nothing is written where it is accepted")
-        .arg(word(alloc, "FILE", "The file that holds the program"))?;
-    let ways = Command::new(alloc, "ways")
-        .about("List the ways in which a pattern matches a subject")
-        .arg(flag(alloc, "anchor", "Start at the subject's first byte alone"))?
-        .arg(number(alloc, "steps", STEPS_HELP, 0, MOST_STEPS))?
-        .arg(word(alloc, "PATTERN", "A pattern, written as in a program"))?
-        .arg(word(alloc, "SUBJECT", "The text in which it is matched"))?;
+    let run = run_command(alloc)?;
+    let check = check_command(alloc)?;
+    let ways = ways_command(alloc)?;
     let root = Command::new(alloc, "snobol4")
-        .about("A SNOBOL4 interpreter with a resumable pattern matcher")
+        .about(help::PROGRAM)
+        .long_about(help::PROGRAM_LONG)
+        .after_help(help::PROGRAM_AFTER)
+        .version(help::VERSION)
         .subcommand_required(true)
         .arg_required_else_help(true)
         .subcommand(run)?
         .subcommand(check)?
         .subcommand(ways)?;
     Ok(root)
+}
+
+/// The command `run`.
+fn run_command<'a>(alloc: Global) -> Result<Command<'a>, AllocError>
+    ensures { IfOk result (λ c. Makes c run_app) }
+{
+    let run = Command::new(alloc, "run")
+        .about(help::RUN)
+        .long_about(help::RUN_LONG)
+        .after_help(help::RUN_AFTER)
+        .arg(number(alloc, "statements", STATEMENTS_HELP, 1, MOST_STATEMENTS))?
+        .arg(number(alloc, "match-steps", MATCH_STEPS_HELP, 0, MOST_STEPS))?
+        .arg(word(alloc, "FILE", "The file that holds the program"))?;
+    Ok(run)
+}
+
+/// The command `check`.
+fn check_command<'a>(alloc: Global) -> Result<Command<'a>, AllocError>
+    ensures { IfOk result (λ c. Makes c check_app) }
+{
+    let check = Command::new(alloc, "check")
+        .about(help::CHECK)
+        .long_about(help::CHECK_LONG)
+        .after_help(help::CHECK_AFTER)
+        .arg(word(alloc, "FILE", "The file that holds the program"))?;
+    Ok(check)
+}
+
+/// The command `ways`.
+fn ways_command<'a>(alloc: Global) -> Result<Command<'a>, AllocError>
+    ensures { IfOk result (λ c. Makes c ways_app) }
+{
+    let ways = Command::new(alloc, "ways")
+        .about(help::WAYS)
+        .long_about(help::WAYS_LONG)
+        .after_help(help::WAYS_AFTER)
+        .arg(flag(alloc, "anchor", "Start at the subject's first byte alone"))?
+        .arg(number(alloc, "steps", STEPS_HELP, 0, MOST_STEPS))?
+        .arg(word(alloc, "PATTERN", "A pattern, written as in a program"))?
+        .arg(word(alloc, "SUBJECT", "The text in which it is matched"))?;
+    Ok(ways)
 }
 
 /// A word that has to be there.

@@ -7,12 +7,14 @@ mod byte_set;
 mod counts;
 mod ends;
 mod kind;
+mod lanes;
 mod places;
 mod sets;
 mod shape;
 mod table;
 
 pub use argument::Arg;
+pub use lanes::{first_in, first_not_in};
 pub use shape::Shape;
 pub use sno_value::{ExprId, Name, PatId, Prim};
 pub use table::{BuildError, Patterns};

@@ -3,15 +3,21 @@
 
 ghost use Rattle.snobol.specs.Jobs.{IsInRange};
 
-use snobol::{Device, Job, Sink, command, perform, status_of};
-use std::alloc::Global;
+mod standard;
+
+use snobol::{Device, Job, command, perform, status_of};
+use standard::{Asking, Output, Writing};
+use std::cell::RefCell;
 use std::env;
 use std::fs::File;
-use std::io::{self, BufWriter, ErrorKind, IsTerminal, LineWriter, Read, Write};
+use std::io::{self, ErrorKind, Read, Write};
 use std::process::ExitCode;
 
 /// The most bytes that are read of a file: one more than a program may have.
 const MOST_READ: u64 = 4_000_001;
+
+/// How long a line on standard error may be, but for the name of a file.
+const LONGEST_LINE: usize = 64;
 
 /// The status of a usage fault.
 const USAGE: u8 = 64;
@@ -65,11 +71,11 @@ fn work(rt: &HostRuntime, job: &Job) -> u8
 {
     match job {
         Job::Run { file, .. } | Job::Check { file } => match read(rt, file) {
-            Ok(text) => write_out(rt, job, Some(text.as_slice())),
+            Ok(text) => finish(rt, job, Some(text.as_slice()), file.len()),
             Err(error) if error.kind() == ErrorKind::OutOfMemory => no_memory(rt),
-            Err(_) => write_out(rt, job, None),
+            Err(_) => finish(rt, job, None, file.len()),
         },
-        Job::Ways { .. } => write_out(rt, job, None),
+        Job::Ways { .. } => finish(rt, job, None, 0),
     }
 }
 
@@ -82,35 +88,27 @@ fn read(rt: &HostRuntime, file: &str) -> io::Result<Vec<u8>> {
     Ok(text)
 }
 
-/// Does a job on standard output, which is written through a buffer: by lines where it is a terminal.
-fn write_out(rt: &HostRuntime, job: &Job, file: Option<&[u8]>) -> u8
+/// Does a job on the standard devices, and writes out what the buffer holds before a fault is told. `name` is how long
+/// the name of the job's file is: room for the longest line that may be told is made first.
+fn finish(rt: &HostRuntime, job: &Job, file: Option<&[u8]>, name: usize) -> u8
     requires { IsInRange job.now }
 {
     let alloc = rt.alloc();
-    let stdout = rt.stdout();
-    if stdout.is_terminal() {
-        match LineWriter::new(alloc, stdout) {
-            Ok(writer) => finish(rt, job, file, writer),
-            Err(_) => no_memory(rt),
-        }
-    } else {
-        match BufWriter::new(alloc, stdout) {
-            Ok(writer) => finish(rt, job, file, writer),
-            Err(_) => no_memory(rt),
-        }
-    }
-}
-
-/// Does a job, and writes out what the buffer holds before a fault is told.
-fn finish<W: Write + Drop>(rt: &HostRuntime, job: &Job, file: Option<&[u8]>, writer: W) -> u8
-    requires { IsInRange job.now }
-{
-    let alloc = rt.alloc();
-    let mut input = Device::new(rt.stdin());
-    let mut output = Device::new(writer);
-    let mut errors = Device::new(Vec::new(alloc));
-    let status = perform(alloc, job, file, &mut input, &mut output, &mut errors);
-    if output.flush().is_err() {
+    let Ok(line) = Vec::with_capacity(alloc, name.saturating_add(LONGEST_LINE)) else {
+        return no_memory(rt);
+    };
+    let Ok(output) = Output::new(rt) else {
+        return no_memory(rt);
+    };
+    let output = RefCell::new(output);
+    let mut reader = Device::new(Asking {
+        input: rt.stdin(),
+        output: &output,
+    });
+    let mut writer = Device::new(Writing { output: &output });
+    let mut errors = Device::new(line);
+    let status = perform(alloc, job, file, &mut reader, &mut writer, &mut errors);
+    if writer.flush().is_err() {
         let _ = eprintln!(rt; "snobol4: write fault");
         return FAULT;
     }

@@ -1,0 +1,108 @@
+//! What the program says of itself.
+
+/// The version of the program.
+pub(crate) const VERSION: &str = "0.9.0";
+
+/// The program, in a line.
+pub(crate) const PROGRAM: &str = "A SNOBOL4 interpreter with a resumable pattern matcher";
+
+/// What the program does.
+pub(crate) const PROGRAM_LONG: &str = "A SNOBOL4 interpreter with a resumable pattern matcher.
+
+It runs SNOBOL4 programs, tells what is wrong with them, and lists every way in
+which a pattern matches a text, in the order in which the ways are tried.";
+
+/// Examples of the program, its statuses, and where to read on.
+pub(crate) const PROGRAM_AFTER: &str = "Examples:
+  snobol4 run hello.sno
+  snobol4 ways --anchor \"'A' | 'AB'\" AB
+
+Statuses:
+  0   the program ended, was accepted, or the ways were listed; help, version
+  1   an error, which standard error tells by its number
+  2   the program or the pattern is refused
+  3   FILE can't be read
+  4   the limit of statements (error 20)
+  5   the limit of match steps (error 21)
+  6   no memory
+  7   standard input or output failed
+  64  wrong words on the command line
+
+Documents: docs/LANGUAGE.md, docs/ERRORS.md, man snobol4";
+
+/// The command `run`, in a line.
+pub(crate) const RUN: &str = "Run a program";
+
+/// What the command `run` does.
+pub(crate) const RUN_LONG: &str = "Run a program.
+
+What the program assigns to OUTPUT goes to standard output, and INPUT reads a
+line of standard input. A run ends at END, at an error, or at a limit: so many
+statements in all, and so many steps in each match.";
+
+/// Examples of the command `run`, its statuses, and where to read on.
+pub(crate) const RUN_AFTER: &str = "Examples:
+  snobol4 run hello.sno
+  snobol4 run --statements 50000000 words.sno < words.txt
+
+Statuses:
+  0   the program came to its END
+  1   an error, which standard error tells by its number
+  2   the program is refused
+  3   FILE can't be read
+  4   the limit of statements (error 20)
+  5   the limit of match steps (error 21)
+  6   no memory
+  7   standard input or output failed
+  64  wrong words on the command line
+
+Documents: docs/LANGUAGE.md, docs/ERRORS.md, man snobol4";
+
+/// The command `check`, in a line.
+pub(crate) const CHECK: &str = "Check a program: nothing is written where it is accepted";
+
+/// What the command `check` does.
+pub(crate) const CHECK_LONG: &str = "Check a program: nothing is written where it is accepted.
+
+The program is read as by run, and not run. Where it is refused, standard error
+tells the first line at which something is wrong.";
+
+/// Examples of the command `check`, its statuses, and where to read on.
+pub(crate) const CHECK_AFTER: &str = "Examples:
+  snobol4 check hello.sno
+  snobol4 check hello.sno && snobol4 run hello.sno
+
+Statuses:
+  0   the program is accepted
+  2   the program is refused
+  3   FILE can't be read
+  6   no memory
+  64  wrong words on the command line
+
+Documents: docs/LANGUAGE.md, docs/ERRORS.md, man snobol4";
+
+/// The command `ways`, in a line.
+pub(crate) const WAYS: &str = "List the ways in which a pattern matches a subject";
+
+/// What the command `ways` does.
+pub(crate) const WAYS_LONG: &str = "List the ways in which a pattern matches a subject.
+
+Each way is a line: where it starts, where it ends, and the assignments that it
+would make. Assignments that are made while the pattern is tried have lines of
+their own. The last line tells how the search ended: exhausted, aborted, limit.
+A word that begins with - is given behind --.";
+
+/// Examples of the command `ways`, its statuses, and where to read on.
+pub(crate) const WAYS_AFTER: &str = "Examples:
+  snobol4 ways --anchor \"'A' | 'AB'\" AB
+  snobol4 ways \"BREAK(',') . FIELD\" one,two
+
+Statuses:
+  0   the ways were listed, at the limit too
+  1   an error, which standard error tells by its number
+  2   the pattern is refused
+  6   no memory
+  7   standard output failed
+  64  wrong words on the command line
+
+Documents: docs/LANGUAGE.md, docs/ERRORS.md, man snobol4";
