@@ -8,7 +8,7 @@
 # A block of another kind has a word behind its ```, as ```text has.
 #
 # A column of a table whose head begins with `Example` has one of these in each cell, or nothing:
-# - `P` on `S`: `LINE`, `LINE`     the lines of ways --anchor P S, without `exhausted` at the end
+# - `P` on `S`: `LINE`, `LINE`     the lines of ways --anchor P S without `exhausted` at the end, or `none`
 # - `P` on `S`, c: e, e            the ends of P from the cursor c, or `none`
 # - `E` is `V`                     the line that OUTPUT = E writes
 # - `E` is error N                 the error of OUTPUT = E, or of the statement E where it has a =
@@ -166,7 +166,7 @@ cut_examples() {
         if (column < 0 || cells[column] ~ /^-+$/ || cells[column] == "") { next }
         cell = cells[column]; count = quoted(cell, part)
         expected = ""
-        if (cell ~ /^`[^`]+` on `[^`]*`: (`[^`]+`(, )?)+$/) {
+        if (cell ~ /^`[^`]+` on `[^`]*`: (none|(`[^`]+`(, )?)+)$/) {
             for (i = 3; i <= count; i++) { expected = expected part[i] "\n" }
             put("ways", part[1], part[2], expected "exhausted\n")
         } else if (cell ~ /^`[^`]+` on `[^`]*`, [0-9]+: (none|[0-9, ]+)$/) {
