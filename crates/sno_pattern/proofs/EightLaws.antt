@@ -1,8 +1,8 @@
 -- A set of few bytes as a list of eight.
-use Rattle.std.proofs.Common.{◌≡◌, ◌≢◌, ℕ, suc, ◌+◌, ◌<◌, ◌≤◌, ◌==◌, Bool, true, false, ◌||◌, Option, Some, None, IfSome, List, [], ◌∷◌, ◌++◌, length, take, drop, get_or, slice_set, Fits, w8, refl, sym, ◌∙◌, ap, arith, ◌⊎◌, ⊎_elim}
+use Rattle.std.proofs.Common.{◌≡◌, ◌≢◌, ℕ, suc, ◌+◌, ◌<◌, ◌≤◌, ◌==◌, true, false, ◌||◌, Option, Some, None, IfSome, List, [], ◌∷◌, length, take, drop, get_or, slice_set, Fits, w8, refl, sym, ◌∙◌, ap, arith, ⊎_elim}
 use Rattle.std.proofs.lemmas.Bool.{eq-eqb, ne_eqb}
 use Rattle.std.proofs.lemmas.Bool.Decides.{eqb_tells}
-use Rattle.std.proofs.lemmas.List.{get_or-drop, get_or-set_other, length-drop, length-set, take-append-drop, take_all, take_more_set}
+use Rattle.std.proofs.lemmas.List.{get_or-drop, get_or-set_other, length-drop, take-append-drop, take_all, take_more_set}
 use Rattle.std.proofs.lemmas.List.Folds.{list_any-append, list_any_at}
 use Rattle.sno_pattern.specs.Ends.{is_in}
 use Rattle.sno_pattern.specs.Sets.{set_of}

@@ -1,6 +1,6 @@
 -- Where the first byte that passes stands, part by part.
-use Rattle.std.proofs.Common.{◌≡◌, ◌≢◌, ℕ, zero, suc, ◌+◌, ◌*◌, ◌-◌, ◌<◌, ◌≤◌, Bool, true, false, not, cond, ltb, Some, None, Option, List, [], ◌∷◌, ◌++◌, length, take, drop, map, position, option_map, refl, sym, ◌∙◌, ap, arith}
-use Rattle.std.specs.List.{position_from, position_or_len, prefix_len}
+use Rattle.std.proofs.Common.{◌≡◌, ◌≢◌, ℕ, suc, ◌+◌, ◌*◌, ◌-◌, ◌<◌, ◌≤◌, Bool, true, false, not, cond, ltb, Some, None, Option, List, [], ◌∷◌, ◌++◌, length, take, drop, map, position, option_map, refl, sym, ◌∙◌, ap, arith}
+use Rattle.std.specs.List.{position_from, position_or_len}
 use Rattle.std.specs.Simd.Lanes.{mask_l}
 use Rattle.std.proofs.lemmas.Bool.{lt-ltb, le-ltb}
 use Rattle.std.proofs.lemmas.Iterator.Adapters.{position_from-zero}

@@ -1,4 +1,4 @@
-use Rattle.std.proofs.Common.{◌≡◌, ◌≢◌, ◌<◌, ◌==◌, true, false, length, sym, ◌∙◌, arith}
+use Rattle.std.proofs.Common.{sym, ◌∙◌}
 use Rattle.sno_pattern.proofs.EightLaws.{eight_seen, some_bytes}
 use Rattle.sno_pattern.proofs.byte_set.eight_of.Goals as goal
 

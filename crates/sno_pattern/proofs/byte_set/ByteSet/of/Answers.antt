@@ -1,4 +1,4 @@
-use Rattle.std.proofs.Common.{◌≡◌, ℕ, List, refl, ◌∙◌, ap, sym}
+use Rattle.std.proofs.Common.{◌≡◌, ℕ, List, refl, ◌∙◌, ap}
 use Rattle.sno_pattern.specs.Sets.{set_of}
 use Rattle.sno_pattern.specs.Masks.{members}
 use Rattle.sno_pattern.proofs.EightLaws.{eight-members}
