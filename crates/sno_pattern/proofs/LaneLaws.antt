@@ -1,5 +1,5 @@
 -- Eight comparisons of a block of lanes, joined.
-use Rattle.std.proofs.Common.{◌≡◌, ◌≢◌, ℕ, ◌-◌, ◌%◌, ◌^◌, ◌<◌, ◌≤◌, ◌==◌, Bool, true, false, not, ◌||◌, cond, eqb, List, [], ◌∷◌, length, map, get_or, replicate, bit_or, refl, sym, ◌∙◌, ap, ap₂, arith, ◌⊎◌, ⊎_elim}
+use Rattle.std.proofs.Common.{◌≡◌, ℕ, ◌-◌, ◌%◌, ◌^◌, Bool, true, false, not, ◌||◌, cond, eqb, List, [], ◌∷◌, length, map, get_or, replicate, bit_or, refl, sym, ◌∙◌, ap, ap₂, arith, ⊎_elim}
 use Rattle.std.specs.Simd.Lanes.{zip2, mask_l, top}
 use Rattle.std.proofs.lemmas.Bool.{eq-eqb, ne_eqb}
 use Rattle.std.proofs.lemmas.Bool.Decides.{eqb_tells}
@@ -51,7 +51,7 @@ joined a b c d e f g h =
       or_hits (((((a || b) || c) || d) || e) || f) g, or_hits ((((((a || b) || c) || d) || e) || f) || g) h, any_of_eight a b c d e f g h)
     refl
 
-turned : (x y : ℕ) → eqb x y ≡ eqb y x
+pub turned : (x y : ℕ) → eqb x y ≡ eqb y x
 turned x y = ⊎_elim (λ same. same.0 ∙ sym (eq-eqb y x (sym same.1))) (λ apart. apart.0 ∙ sym (ne_eqb y x (λ e. apart.1 (sym e)))) (eqb_tells x y)
 
 hits-is_in : (set : List ℕ) → length set ≡ 8 → (x : ℕ) → hits set x ≡ cond (is_in set x) 255 0

@@ -1,5 +1,5 @@
 -- The next place at which a primitive has an end.
-use Rattle.std.proofs.Common.{◌≡◌, ℕ, zero, suc, ◌+◌, ◌-◌, ◌<◌, ◌≤◌, ◌==◌, nat_eq, Bool, true, false, not, cond, if◌then◌else◌, Some, None, List, [], ◌∷◌, length, min, take, drop, get_or, position, slice_get, slice_index, refl, sym, ◌∙◌, ap, arith, ◌⊎◌, inl, inr, ⊎_elim}
+use Rattle.std.proofs.Common.{◌≡◌, ℕ, zero, suc, ◌+◌, ◌-◌, ◌<◌, ◌≤◌, ◌==◌, nat_eq, Bool, true, false, not, ◌||◌, cond, if◌then◌else◌, Some, None, List, [], ◌∷◌, length, min, take, drop, get_or, position, slice_get, slice_index, refl, sym, ◌∙◌, ap, arith, ◌⊎◌, inl, inr, ⊎_elim}
 use Rattle.std.specs.Option.{is_some}
 use Rattle.std.specs.List.{position_from, starts_with}
 use Rattle.std.proofs.lemmas.Bool.{eq-eqb, ne_eqb}
@@ -7,9 +7,10 @@ use Rattle.std.proofs.lemmas.Iterator.Adapters.{position_from-zero}
 use Rattle.std.proofs.lemmas.List.{get_or-take, get_or-drop, length-drop, length-take, take_rest}
 use Rattle.std.proofs.lemmas.List.Quantifiers.{position-Some}
 use Rattle.std.proofs.lemmas.Option.{slice_get-get_or, slice_get_past}
-use Rattle.sno_pattern.specs.Pattern.{Text, Any, Span}
-use Rattle.sno_pattern.specs.Ends.{is_in, end_if, end_after, run_length}
+use Rattle.sno_pattern.specs.Pattern.{Text, Any, Span, Break}
+use Rattle.sno_pattern.specs.Ends.{is_in, end_if, end_after, run_length, first_in}
 use Rattle.sno_pattern.proofs.SetLaws.{here_or_behind}
+use Rattle.sno_pattern.proofs.LaneLaws.{turned}
 use Rattle.sno_pattern.specs.Places.{IsFirstPlace, leaf_has_end, byte_passes}
 
 pub same_place : (p q : ℕ → Bool) (from until place : ℕ) → ((c : ℕ) → p c ≡ q c) → IsFirstPlace p from until place → IsFirstPlace q from until place
@@ -23,7 +24,7 @@ same_place p q from until place same first = record {
 true_or_false : true ≡ false → ⊥
 true_or_false e = absurd (cc)
 
-below_or_not : (c place : ℕ) → (c < place) ⊎ (place ≤ c)
+pub below_or_not : (c place : ℕ) → (c < place) ⊎ (place ≤ c)
 below_or_not zero zero = inr (omega arith)
 below_or_not zero (suc place) = inl (omega arith)
 below_or_not (suc c) zero = inr (omega arith)
@@ -146,3 +147,56 @@ span_begins set (x ∷ s) (suc c) low high = span_begins set s c low high
 pub span_place : (set s : List ℕ) (from until place : ℕ) → IsFirstPlace (leaf_has_end (Any set) s) from until place → IsFirstPlace (leaf_has_end (Span set) s) from until place
 span_place set s from until place first =
     same_place (leaf_has_end (Any set) s) (leaf_has_end (Span set) s) from until place (λ c. span_begins set s c c (c + run_length set (drop c s))) first
+
+-- no byte of a set is ahead, from wherever places are counted
+none_at_all : (set : List ℕ) (k n : ℕ) (s : List ℕ) → None ≡ slice_get (first_in set k s) 0 → is_some (slice_get (first_in set n s) 0) ≡ false
+none_at_all set k n [] e = refl
+none_at_all set k n (x ∷ s) e = go (is_in set x) e (none_at_all set (k + 1) (n + 1) s)
+  where
+    go : (b : Bool) → None ≡ slice_get (if b then k ∷ [] else first_in set (k + 1) s) 0 → (None ≡ slice_get (first_in set (k + 1) s) 0 → is_some (slice_get (first_in set (n + 1) s) 0) ≡ false) →
+        is_some (slice_get (if b then n ∷ [] else first_in set (n + 1) s) 0) ≡ false
+    go true none behind = absurd (cc)
+    go false none behind = behind none
+
+none_behind : (set : List ℕ) (k x : ℕ) (s : List ℕ) → None ≡ slice_get (first_in set k (x ∷ s)) 0 → None ≡ slice_get (first_in set (k + 1) s) 0
+none_behind set k x s e = go (is_in set x) e
+  where
+    go : (b : Bool) → None ≡ slice_get (if b then k ∷ [] else first_in set (k + 1) s) 0 → None ≡ slice_get (first_in set (k + 1) s) 0
+    go true none = absurd (cc)
+    go false none = none
+
+-- where a byte of a set is ahead of no place, it is ahead of no later one
+none_later : (set : List ℕ) (c d k n : ℕ) (s : List ℕ) → c ≤ d → None ≡ slice_get (first_in set k (drop c s)) 0 → is_some (slice_get (first_in set n (drop d s)) 0) ≡ false
+none_later set zero zero k n s h e = none_at_all set k n s e
+none_later set zero (suc d) k n [] h e = refl
+none_later set zero (suc d) k n (x ∷ s) h e = none_later set zero d (k + 1) n s (omega arith) (none_behind set k x s e)
+none_later set (suc c) zero k n s h e = absurd (omega arith)
+none_later set (suc c) (suc d) k n [] h e = refl
+none_later set (suc c) (suc d) k n (x ∷ s) h e = none_later set c d k n s (omega arith) e
+
+pub break_place_here : (set s : List ℕ) (from until end : ℕ) → from ≤ until → Some end ≡ slice_get (first_in set from (drop from s)) 0 → IsFirstPlace (leaf_has_end (Break set) s) from until from
+break_place_here set s from until end range e = record {
+  behind = omega arith;
+  before = range;
+  none = λ c low high. absurd (omega arith);
+  found = λ high. ap is_some (sym e);
+}
+
+pub break_place_none : (set s : List ℕ) (from until : ℕ) → from ≤ until → None ≡ slice_get (first_in set from (drop from s)) 0 → IsFirstPlace (leaf_has_end (Break set) s) from until until
+break_place_none set s from until range e = record {
+  behind = range;
+  before = omega arith;
+  none = λ c low high. none_later set from c from c s low e;
+  found = λ high. absurd (omega arith);
+}
+
+-- eight times the same byte
+pub same_eight : (byte : ℕ) (bytes : List ℕ) → position (is_in (byte ∷ byte ∷ byte ∷ byte ∷ byte ∷ byte ∷ byte ∷ byte ∷ [])) bytes ≡ position (λ b. b == byte) bytes
+same_eight byte bytes = ap (λ (p : ℕ → Bool). position p bytes) (λ i b. same b i)
+  where
+    once : (t : Bool) → (t || (t || (t || (t || (t || (t || (t || (t || false)))))))) ≡ t
+    once true = refl
+    once false = refl
+
+    same : (b : ℕ) → is_in (byte ∷ byte ∷ byte ∷ byte ∷ byte ∷ byte ∷ byte ∷ byte ∷ []) b ≡ (b == byte)
+    same b = once (byte == b) ∙ turned byte b

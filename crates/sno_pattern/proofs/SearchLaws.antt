@@ -1,6 +1,6 @@
 -- Where the first byte that passes stands, part by part.
-use Rattle.std.proofs.Common.{◌≡◌, ◌≢◌, ℕ, zero, suc, ◌+◌, ◌*◌, ◌-◌, ◌<◌, ◌≤◌, Bool, true, false, not, cond, ltb, Some, None, Option, List, [], ◌∷◌, ◌++◌, length, take, drop, map, position, option_map, refl, sym, ◌∙◌, ap, arith}
-use Rattle.std.specs.List.{position_from, position_or_len, prefix_len}
+use Rattle.std.proofs.Common.{◌≡◌, ◌≢◌, ℕ, suc, ◌+◌, ◌*◌, ◌-◌, ◌<◌, ◌≤◌, Bool, true, false, not, cond, ltb, Some, None, Option, List, [], ◌∷◌, ◌++◌, length, take, drop, map, position, option_map, refl, sym, ◌∙◌, ap, arith}
+use Rattle.std.specs.List.{position_from, position_or_len}
 use Rattle.std.specs.Simd.Lanes.{mask_l}
 use Rattle.std.proofs.lemmas.Bool.{lt-ltb, le-ltb}
 use Rattle.std.proofs.lemmas.Iterator.Adapters.{position_from-zero}
@@ -109,3 +109,14 @@ first_lane p xs mask few some e =
     let inside : position_or_len p xs < length xs = omega (arith, prefix_len-le-length (λ x. not (p x)) xs, apart) in
     let within : ltb (position_or_len p xs) (length xs) ≡ true = lt-ltb (position_or_len p xs) (length xs) inside in
     rw (within, lowest) refl
+
+-- the bytes near, and those behind them
+pub found_near : (p : ℕ → Bool) (bytes : List ℕ) (k n : ℕ) → Some n ≡ position p (take k bytes) → Some n ≡ position p bytes
+found_near p bytes k n e = sym (ap (position p) (sym (take-append-drop k bytes)) ∙ found_before p (take k bytes) (drop k bytes) n (sym e))
+
+pub passed_near : (p : ℕ → Bool) (bytes : List ℕ) (k : ℕ) (o : Option ℕ) → k ≤ length bytes → None ≡ position p (take k bytes) → o ≡ position p (take (length bytes - k) (drop k bytes)) →
+    option_map (λ m. k + m) o ≡ position p bytes
+passed_near p bytes k o inside none e =
+    let long : length (take k bytes) ≡ k = omega (arith, length-take k bytes) in
+    ap (option_map (λ m. k + m)) (rw (take_rest bytes k) at e)
+    ∙ sym (ap (position p) (sym (take-append-drop k bytes)) ∙ (rw long at (passed_before p (take k bytes) (drop k bytes) (sym none))))

@@ -50,6 +50,22 @@ is_in-filter p c (suc n) b h k = ⊎_elim (λ at. rw (← at) (here (p c))) (λ 
     later behind true e = let apart : (c == b) ≡ false = ne_eqb c b (λ e. omega arith) in rw apart e
     later behind false e = e
 
+-- a number behind those that are counted is not among them
+behind-count : (p : ℕ → Bool) (c n b : ℕ) → c + n ≤ b → is_in (filter p (count_from c n)) b ≡ false
+behind-count p c zero b h = refl
+behind-count p c (suc n) b h = go (p c) (behind-count p (c + 1) n b (omega arith))
+  where
+    apart : (c == b) ≡ false
+    apart = ne_eqb c b (λ e. omega arith)
+
+    go : (t : Bool) → is_in (filter p (count_from (c + 1) n)) b ≡ false → is_in (cond t (c ∷ filter p (count_from (c + 1) n)) (filter p (count_from (c + 1) n))) b ≡ false
+    go true e = rw (apart, e) refl
+    go false e = e
+
+pub past_set : (bytes : List ℕ) (b : ℕ) → 256 ≤ b → is_in (set_of bytes) b ≡ false
+unfolding set_of
+past_set bytes b h = behind-count (is_in bytes) 0 256 b (omega arith)
+
 pub is_in-members : (words : List ℕ) (b : ℕ) → b < 256 → is_in (members words) b ≡ has_bit words b
 unfolding members
 is_in-members words b h = is_in-filter (has_bit words) 0 256 b (omega arith) (omega arith)
@@ -100,15 +116,15 @@ has_bit-other words byte b four below apart =
     ⊎_elim (λ same. same_word words byte b (b / 64) (omega arith) (sym (eqb-true (b / 64) (byte / 64) same.0)) refl apart)
     (λ other. other_word words byte b other.1) (eqb_tells (b / 64) (byte / 64))
 
-or-right : (t : Bool) → (t || true) ≡ true
+pub or-right : (t : Bool) → (t || true) ≡ true
 or-right true = refl
 or-right false = refl
 
-or-none : (t : Bool) → (t || false) ≡ t
+pub or-none : (t : Bool) → (t || false) ≡ t
 or-none true = refl
 or-none false = refl
 
-is_in-more : (bytes : List ℕ) (i b : ℕ) → i < length bytes → is_in (take (i + 1) bytes) b ≡ (is_in (take i bytes) b || (get_or bytes i 0 == b))
+pub is_in-more : (bytes : List ℕ) (i b : ℕ) → i < length bytes → is_in (take (i + 1) bytes) b ≡ (is_in (take i bytes) b || (get_or bytes i 0 == b))
 is_in-more bytes i b inside =
     ap (λ (xs : List ℕ). is_in xs b) (take_more bytes i 0 inside) ∙ list_any-append (λ member. member == b) (take i bytes) (get_or bytes i 0 ∷ []) ∙
     ap (λ t. is_in (take i bytes) b || t) (or-none (get_or bytes i 0 == b))

@@ -1,23 +1,36 @@
 //! Sets of bytes.
-ghost use Rattle.std.specs.Prelude.{◌≡◌, not, position};
+ghost use Rattle.std.specs.Prelude.{◌≡◌, ℕ, Bool, not, position, IfSome};
 ghost use Rattle.sno_pattern.specs.Ends.{is_in};
 ghost use Rattle.sno_pattern.specs.Sets.{set_of};
+ghost use Rattle.sno_pattern.specs.Lanes.{passes};
 
+use crate::lanes;
 use std::marker::Model;
+
+/// How many bytes are looked up one by one before lanes are made ready.
+const NEAR: usize = 16;
+
+/// Fewer bytes than this are looked up one by one.
+pub(crate) const FEW: usize = 32;
 
 /// A set of bytes, as a mask of 256 bits. Contracts see its members in rising order.
 #[derive(Drop)]
 pub(crate) struct ByteSet {
     words: [u64; 4],
+    /// The members where they are at most eight, filled up with one of them.
+    eight: Option<[u8; 8]>,
 }
 
 impl Model for ByteSet {
-    ghost use Rattle.std.specs.Prelude.{List, ℕ};
+    ghost use Rattle.std.specs.Prelude.{List, ℕ, IfSome, ◌≡◌};
+    ghost use Rattle.sno_pattern.specs.Ends.{is_in};
     ghost use Rattle.sno_pattern.specs.Masks.{members};
 
     ghost Value = { List ℕ };
 
     ghost view = { λ s. members s.words };
+
+    ghost invariant = { λ s. IfSome s.eight (λ eight. (b : ℕ) → is_in eight b ≡ is_in (members s.words) b) };
 }
 
 impl ByteSet {
@@ -29,7 +42,8 @@ impl ByteSet {
         for byte in bytes {
             words[(byte / 64) as usize] |= 1 << (byte % 64);
         }
-        ByteSet { words }
+        let eight = eight_of(bytes);
+        ByteSet { words, eight }
     }
 
     pub(crate) fn contains(&self, byte: u8) -> bool
@@ -42,13 +56,79 @@ impl ByteSet {
     pub(crate) fn first_in(&self, bytes: &[u8]) -> Option<usize>
         ensures { result ≡ position (is_in self.now) bytes.now }
     {
-        bytes.iter().position(|byte| self.contains(*byte))
+        let place = self.first_that_passes(bytes, true);
+        place
     }
 
     /// The first place whose byte is not in the set.
     pub(crate) fn first_not_in(&self, bytes: &[u8]) -> Option<usize>
         ensures { result ≡ position (λ byte. not (is_in self.now byte)) bytes.now }
     {
-        bytes.iter().position(|byte| !self.contains(*byte))
+        let place = self.first_that_passes(bytes, false);
+        place
     }
+
+    /// The first place whose byte is in the set, or is not where `inside` is false. What is near is found without lanes,
+    /// which take longer to make ready than a short run to look through.
+    #[inline(always)]
+    fn first_that_passes(&self, bytes: &[u8], inside: bool) -> Option<usize>
+        ensures { result ≡ position (passes inside self.now) bytes.now }
+    {
+        let near = bytes.len().min(NEAR);
+        if let Some(place) = self.first_by_mask(&bytes[..near], inside) {
+            return Some(place);
+        }
+        match self.first_far(&bytes[near..], inside) {
+            Some(before) => Some(near + before),
+            None => None,
+        }
+    }
+
+    /// The same by lanes, where the set has few bytes and there are many to look at.
+    #[inline(always)]
+    fn first_far(&self, bytes: &[u8], inside: bool) -> Option<usize>
+        ensures { result ≡ position (passes inside self.now) bytes.now }
+    {
+        if bytes.len() < FEW {
+            return self.first_by_mask(bytes, inside);
+        }
+        match &self.eight {
+            Some(eight) if inside => lanes::first_in(bytes, eight),
+            Some(eight) => lanes::first_not_in(bytes, eight),
+            None => self.first_by_mask(bytes, inside),
+        }
+    }
+
+    /// The same by a look at each byte.
+    #[inline(always)]
+    fn first_by_mask(&self, bytes: &[u8], inside: bool) -> Option<usize>
+        ensures { result ≡ position (passes inside self.now) bytes.now }
+    {
+        if inside {
+            bytes.iter().position(|byte| self.contains(*byte))
+        } else {
+            bytes.iter().position(|byte| !self.contains(*byte))
+        }
+    }
+}
+
+/// The different bytes of a list, if they are at most eight, filled up with one of them.
+fn eight_of(bytes: &[u8]) -> Option<[u8; 8]>
+    ensures { IfSome result (λ eight. (b : ℕ) → is_in eight b ≡ is_in bytes.now b) }
+{
+    if bytes.is_empty() {
+        return None;
+    }
+    let mut eight = [bytes[0]; 8];
+    let mut count = 0;
+    for byte in bytes {
+        if !eight[..count].contains(byte) {
+            if count == 8 {
+                return None;
+            }
+            eight[count] = *byte;
+            count += 1;
+        }
+    }
+    Some(eight)
 }

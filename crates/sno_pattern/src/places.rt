@@ -1,12 +1,14 @@
 //! The next place at which a primitive has an end.
 ghost use Rattle.std.specs.Prelude.{◌≡◌, ◌≤◌, ◌+◌, ◌==◌, ◌-◌, length, take, drop, position};
-ghost use Rattle.sno_pattern.specs.Pattern.{Text, Any, NotAny};
+ghost use Rattle.sno_pattern.specs.Pattern.{Text, Any, NotAny, Break};
 ghost use Rattle.sno_pattern.specs.Kinds.{node_of};
 ghost use Rattle.sno_pattern.specs.Places.{IsFirstPlace, leaf_has_end, node_has_end, byte_passes};
 
-use crate::byte_set::ByteSet;
+use crate::byte_set::{ByteSet, FEW};
 use crate::ends::first_end;
 use crate::kind::Kind;
+use crate::lanes::first_in;
+use crate::sets::break_end;
 
 /// The first place, from `from` up to `until`, at which a primitive node has an end; `until` where it has none before that.
 pub(crate) fn first_place_of_kind(kind: &Kind, subject: &[u8], from: usize, until: usize) -> usize
@@ -20,6 +22,7 @@ pub(crate) fn first_place_of_kind(kind: &Kind, subject: &[u8], from: usize, unti
         Kind::Any(set) => place_in_set(set, subject, from, until),
         Kind::NotAny(set) => place_outside_set(set, subject, from, until),
         Kind::Span(set) => place_in_set(set, subject, from, until),
+        Kind::Break(set) => place_before_set(set, subject, from, until),
         _ => place_of_end(kind, subject, from, until),
     }
 }
@@ -68,7 +71,10 @@ fn bytes_between(subject: &[u8], from: usize, until: usize) -> &[u8]
 fn index_of(byte: u8, bytes: &[u8]) -> Option<usize>
     ensures { result ≡ position (λ b. b == byte) bytes.now }
 {
-    bytes.iter().position(|b| *b == byte)
+    if bytes.len() < FEW {
+        return bytes.iter().position(|b| *b == byte);
+    }
+    first_in(bytes, &[byte; 8])
 }
 
 /// The first place whose byte is in a set.
@@ -93,6 +99,19 @@ fn place_outside_set(set: &ByteSet, subject: &[u8], from: usize, until: usize) -
 {
     match set.first_not_in(bytes_between(subject, from, until)) {
         Some(before) => from + before,
+        None => until,
+    }
+}
+
+/// The first place at which a byte of a set stands or is ahead. Where one is ahead of the beginning that is the place, and
+/// else no place has one ahead.
+fn place_before_set(set: &ByteSet, subject: &[u8], from: usize, until: usize) -> usize
+    requires start { from ≤ length subject.now }
+    requires range { from ≤ until }
+    ensures { IsFirstPlace (leaf_has_end (Break set.now) subject.now) from until result }
+{
+    match break_end(set, subject, from) {
+        Some(_end) => from,
         None => until,
     }
 }

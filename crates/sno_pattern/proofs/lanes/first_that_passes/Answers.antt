@@ -1,4 +1,4 @@
-use Rattle.std.proofs.Common.{◌≡◌, ◌+◌, ◌-◌, ◌<◌, length, take, drop, position, Some, sym, ◌∙◌, ap, arith}
+use Rattle.std.proofs.Common.{◌+◌, take, position, sym, ◌∙◌, ap, arith}
 use Rattle.std.proofs.lemmas.List.{take_rest}
 use Rattle.std.proofs.lemmas.List.Quantifiers.{position-Some}
 use Rattle.sno_pattern.specs.Lanes.{passes}
