@@ -300,7 +300,7 @@ impl Store {
     /// Whether the symbols would be too many, had the names of a prototype joined them. It takes no memory, so that this is
     /// told before any is asked for.
     fn is_full_with(&self, parts: FunctionPrototype) -> bool
-        requires sound { is_sound (prototype_seen parts.entry) ≡ true }
+        requires sound { is_sound (prototype_seen parts) ≡ true }
         ensures { result ≡ nat_lt 1_000_000 (length (with_names (names (prototype_seen parts.entry)) self.now.symbols)) }
     {
         self.symbols.len() + MOST_NAMES > MOST_SYMBOLS && self.symbols.len_with(parts) > MOST_SYMBOLS
