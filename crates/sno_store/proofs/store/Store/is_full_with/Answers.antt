@@ -1,4 +1,4 @@
-use Rattle.std.proofs.Common.{◌≤◌, ◌∙◌, length, rules}
+use Rattle.std.proofs.Common.{rules}
 use Rattle.sno_store.specs.Definitions.{names}
 use Rattle.sno_store.specs.Seen.{prototype_seen}
 use Rattle.sno_store.proofs.CountLaws.{room_left}

@@ -1,5 +1,4 @@
-use Rattle.std.proofs.Common.{◌≡◌, ◌∙◌, ◌+◌, Bool, true, false, sym, ap, arith, rules, length, if◌then◌else◌}
-use Rattle.sno_store.specs.Contents.{is_symbol}
+use Rattle.std.proofs.Common.{◌≡◌, ◌∙◌, ◌+◌, true, false, ap, arith, rules, length, if◌then◌else◌}
 use Rattle.sno_store.specs.Seen.{prototype_seen}
 use Rattle.sno_store.proofs.CountLaws.{counted, prototype_counted}
 use Rattle.sno_store.proofs.NameLaws.{with_name}
