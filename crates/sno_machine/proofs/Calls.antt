@@ -119,7 +119,7 @@ not_entered s new function d arguments xs Full h = absurd h
 not_entered s new function d arguments xs WrongType h = absurd h
 not_entered s new function d arguments xs BadPrototype h = absurd h
 not_entered s new function d arguments xs CallLevel h = (refl, h.0, ap (λ (c : Contents). record s { store = c }) h.1)
-not_entered s new function d arguments xs NoMemory h = ap (λ (c : Contents). record s { store = c }) h
+not_entered s new function d arguments xs NoMemory h = ap (λ (c : Contents). record s { store = c }) h.1
 
 pub leaves : (s : State) (new : Contents) (calls : List (List (ℕ × Stored))) (call : List (ℕ × Stored)) (statement : ℕ) (value : Stored) → IsKnown s.nodes s.store → s.store.calls ≡ calls ++ call ∷ []
     → value ≡ function_value (stored.Str []) call s.store.values → new ≡ without_call s.nodes calls call s.store

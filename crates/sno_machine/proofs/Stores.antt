@@ -141,7 +141,7 @@ not_named a new name Full short h = refused_full a new name short h.0 h.1
 not_named a new name WrongType short h = absurd (named_or_full name a.store WrongType h.0 (λ e. cc e) (λ e. cc e))
 not_named a new name BadPrototype short h = absurd (named_or_full name a.store BadPrototype h.0 (λ e. cc e) (λ e. cc e))
 not_named a new name CallLevel short h = absurd (named_or_full name a.store CallLevel h.0 (λ e. cc e) (λ e. cc e))
-not_named a new name NoMemory short h = no_memory_does itself any (variable_named name) a (record a { store = new }) (grows_none a.nodes) (store_untouched a new h)
+not_named a new name NoMemory short h = no_memory_does itself any (variable_named name) a (record a { store = new }) (grows_none a.nodes) (store_untouched a new h.1)
 
 -- a name that was found before
 pub found_again : (s : State) (name : List ℕ) (id : SymId) → IsKnown s.nodes s.store → 0 < length name → slice_index_or s.store.symbols id.0 [] ≡ name → Does itself any (variable_named name) s s (Ok (Var id))

@@ -1,13 +1,18 @@
 -- What DEFINE makes of a prototype's names.
-use Rattle.std.proofs.Common.{◌≡◌, ℕ, ◌<◌, ◌≤◌, Bool, true, not, ◌&&◌, leb, List, [], ◌∷◌, ◌++◌, length, map, Vec, Option, Result, Ok, Err, IsErrAnd, refl, sym, ap, subst, ◌∙◌, arith}
+use Rattle.std.proofs.Common.{◌≡◌, ℕ, ◌<◌, ◌≤◌, Bool, true, false, not, ◌&&◌, leb, List, [], ◌∷◌, ◌++◌, ◌-◌, length, map, take, replicate, ltb, if◌then◌else◌, Vec, Option, Some, Result, Ok, Err, IsErrAnd, is_ok, refl, sym, ap, subst, ◌∙◌, arith}
 use Rattle.std.specs.List.{list_all}
 use Rattle.std.specs.declared.alloc.Global.{Global}
-use Rattle.std.proofs.lemmas.Bool.{and_parts, ltb-true, lt-ltb}
+use Rattle.std.proofs.lemmas.Bool.{and_parts, leb-true, ltb-true, ltb-false, lt-ltb}
 use Rattle.std.proofs.lemmas.List.Folds.{list_all-append}
 use Rattle.sno_value.specs.declared.ids.SymId.{SymId}
+use Rattle.sno_value.specs.declared.value.Value.{Value}
+use Rattle.sno_value.specs.declared.value.Value.TheVariants.{Str}
+use Rattle.std.proofs.lemmas.List.{take_at}
 use Rattle.sno_store.specs.declared.error.StoreError.{StoreError}
+use Rattle.sno_store.specs.declared.error.StoreError.TheVariants.{NullName, Full, WrongType, BadPrototype, CallLevel, NoMemory}
 use Rattle.sno_store.specs.Contents.{Contents, place, is_symbol, IsJoined}
-use Rattle.sno_store.specs.Definitions.{Definition, Prototype, is_name, is_device, names, is_sound, entry_label, with_names, definition, defined}
+use Rattle.sno_store.specs.Definitions.{Definition, Prototype, is_name, is_device, names, is_sound, entry_label, with_names, definition, defined, definition_in, definition_by, with_definition, prototype}
+use Rattle.sno_store.specs.Outcomes.{IsError}
 use Rattle.sno_store.specs.Symbols.{HasMore, AreTooMany, AreJoined, IsDefinedByParts}
 use Rattle.sno_store.proofs.NameLaws.{with_name, place_kept, is_joined, given_number, added, with_names-append, placed, grown, has_both, has_one, with_symbol_symbols, too_many_more, too_many_behind, too_many_same}
 
@@ -38,6 +43,10 @@ sound_names p h =
       formals = are_names p.formals others.0;
       locals = are_names p.locals others.1;
     }
+
+-- and there are few
+pub sound_few : (p : Prototype) → is_sound p ≡ true → length (names p) ≤ 100
+sound_few p h = leb-true (length (names p)) 100 (and_parts (leb (length (names p)) 100) (list_all may_be (names p)) h).0
 
 still_symbol : (name : List ℕ) (ns symbols : List (List ℕ)) → is_symbol name symbols ≡ true → is_symbol name (with_names ns symbols) ≡ true
 still_symbol name ns symbols h =
@@ -128,3 +137,31 @@ pub parts_passed : (p : Prototype) (entry : List ℕ) (old new : Contents) (e : 
     → AreTooMany (names p) old.symbols e × HasMore old new → IsDefinedByParts p entry old new result
 parts_passed p entry old new e (Ok done) is h = absurd is
 parts_passed p entry old new e (Err r) is h = (subst (AreTooMany (names p) old.symbols) (sym is) h.0, h.1)
+
+-- a refusal where the symbols would not be too many
+pub define_refused : (text entry : List ℕ) (p : Prototype) (symbols : List (List ℕ)) (definitions : List (Option Definition)) (e : StoreError) → Some p ≡ prototype text → is_sound p ≡ true
+    → ltb 1_000_000 (length (with_names (names p) symbols)) ≡ false → AreTooMany (names p) symbols e → IsError (with_definition text entry symbols definitions) e
+define_refused text entry p symbols definitions e is sound room why = by e why
+  where
+    meant : with_definition text entry symbols definitions ≡ Ok (with_names (names p) symbols, defined (place p.function (with_names (names p) symbols)) (definition entry p (with_names (names p) symbols)) definitions)
+    meant =
+        ap (definition_by entry symbols definitions) (sym is)
+        ∙ ap (λ b. if b then definition_in entry p (with_names (names p) symbols) definitions else Err 12) sound
+        ∙ ap (λ b. if b then Err 9 else Ok (with_names (names p) symbols, defined (place p.function (with_names (names p) symbols)) (definition entry p (with_names (names p) symbols)) definitions)) room
+
+    by : (e : StoreError) → AreTooMany (names p) symbols e → IsError (with_definition text entry symbols definitions) e
+    by NoMemory h = ap is_ok meant
+    by Full h = absurd (omega (arith, h, ltb-false 1_000_000 (length (with_names (names p) symbols)) room))
+    by NullName h = absurd h
+    by WrongType h = absurd h
+    by BadPrototype h = absurd h
+    by CallLevel h = absurd h
+
+-- what joined is taken back
+pub taken_back : (old new : Contents) (count : ℕ) (symbols : List (List ℕ)) (values : List Value) → HasMore old new → count ≡ length old.symbols → length old.values ≡ length old.symbols
+    → symbols ≡ take count new.symbols → values ≡ take count new.values → record new { symbols = symbols; values = values } ≡ old
+taken_back old new count symbols values more all same es ev =
+    let ss : symbols ≡ old.symbols = es ∙ ap (λ n. take n new.symbols) all ∙ more.symbols in
+    let vs : values ≡ old.values =
+    ev ∙ ap (take count) (ap (λ (c : Contents). c.values) more.others) ∙ take_at old.values (replicate (length new.symbols - length old.symbols) (Str [])) count (same ∙ sym all) in
+    (λ i. record new { symbols = ss i; values = vs i }) ∙ ap (λ (c : Contents). record c { symbols = old.symbols; values = old.values }) more.others

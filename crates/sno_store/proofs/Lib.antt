@@ -1,4 +1,5 @@
 pub mod CallLaws
+pub mod CountLaws
 pub mod DefineLaws
 pub mod EntryLaws
 pub mod FunctionLaws

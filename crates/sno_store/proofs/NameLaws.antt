@@ -152,7 +152,7 @@ stopped_by (byte ∷ bytes) ns symbols e is h =
     subst (AreTooMany ((byte ∷ bytes) ∷ ns) symbols) (sym full) (omega (arith, room, grown ns (with_name (byte ∷ bytes) symbols)))
 
 pub stopped : (name : List ℕ) (ns : List (List ℕ)) (old new : Contents) (e : StoreError) → is_name name ≡ true → IsJoined name old new (Err e) → AreTooMany (name ∷ ns) old.symbols e × (new ≡ old)
-stopped name ns old new NoMemory is h = (tt, h)
+stopped name ns old new NoMemory is h = (tt, h.1)
 stopped name ns old new NullName is h = (stopped_by name ns old.symbols NullName is h.0, h.1)
 stopped name ns old new Full is h = (stopped_by name ns old.symbols Full is h.0, h.1)
 stopped name ns old new WrongType is h = (stopped_by name ns old.symbols WrongType is h.0, h.1)

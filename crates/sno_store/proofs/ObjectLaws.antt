@@ -83,13 +83,13 @@ module _ (id : ObjId) (key : Value) (objects : List (Object Value)) (entries new
   refused_new true WrongType h = absurd (cc)
   refused_new true BadPrototype h = absurd (cc)
   refused_new true CallLevel h = absurd (cc)
-  refused_new true NoMemory h = tt
+  refused_new true NoMemory h = absurd (cc)
   refused_new false NullName h = absurd (cc)
   refused_new false Full h = absurd (cc)
   refused_new false WrongType h = absurd (cc)
   refused_new false BadPrototype h = absurd (cc)
   refused_new false CallLevel h = absurd (cc)
-  refused_new false NoMemory h = tt
+  refused_new false NoMemory h = refl
 
   made : (place : Option ℕ) (n : ℕ) → with_key key entries place ≡ Ok (n, new)
       → entry_or_new stored_notions id key objects entries place ≡ Ok (Entry id n, changed (λ _. TableOf new) objects id)
@@ -104,7 +104,7 @@ module _ (id : ObjId) (key : Value) (objects : List (Object Value)) (entries new
   refused (Some k) WrongType h = absurd (cc)
   refused (Some k) BadPrototype h = absurd (cc)
   refused (Some k) CallLevel h = absurd (cc)
-  refused (Some k) NoMemory h = tt
+  refused (Some k) NoMemory h = refl
   refused None refusal h = refused_new (length entries == 1_000_000) refusal h
 
   -- what was done to the table was done to the objects

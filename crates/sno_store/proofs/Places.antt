@@ -1,12 +1,11 @@
 -- The place of an element, found from the last subscript on.
-use Rattle.std.proofs.Common.{◌≡◌, ℕ, zero, suc, ◌+◌, ◌*◌, ◌-◌, ◌^◌, ◌<◌, ◌≤◌, min, ℤ, int_le, unsigned_abs, ◌-ℤ◌, ◌&&◌, Bool, true, false, cond, List, [], ◌∷◌, length, drop, get_or, Option, None, Some, refl, sym, ap, subst, ◌∙◌, arith}
+use Rattle.std.proofs.Common.{◌≡◌, ℕ, zero, suc, ◌+◌, ◌*◌, ◌<◌, ◌≤◌, ℤ, int_le, unsigned_abs, ◌-ℤ◌, ◌&&◌, Bool, true, false, cond, List, [], ◌∷◌, length, drop, get_or, Option, None, Some, refl, sym, ap, subst, ◌∙◌, arith}
 use Rattle.std.proofs.Math.Nat.{mul_comm, mul-le-mul_right}
-use Rattle.std.proofs.lemmas.Bool.Decides.{nat_tests}
 use Rattle.std.proofs.lemmas.Int.{ints}
 use Rattle.std.proofs.lemmas.List.{drop_more}
 use Rattle.sno_store.specs.declared.dimension.Dimension.{Dimension}
 use Rattle.sno_store.specs.Arrays.{size, element_count, offset, behind, element_place}
-use Rattle.sno_store.proofs.Prototypes.{size_some, count_some, times}
+use Rattle.sno_store.proofs.Prototypes.{size_some, times}
 
 -- the dimensions behind are no more elements than all
 count_behind : (dimensions : List Dimension) (i : ℕ) → element_count (drop i dimensions) ≤ element_count dimensions

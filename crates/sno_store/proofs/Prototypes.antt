@@ -1,5 +1,5 @@
 -- How many elements a prototype says, counted from text to text with a cap.
-use Rattle.std.proofs.Common.{◌≡◌, ℕ, zero, suc, ◌+◌, ◌*◌, ◌-◌, ◌^◌, ◌<◌, ◌≤◌, min, Bool, true, false, List, [], ◌∷◌, ◌++◌, filter_map, length, option_map, ltb, drop, get_or, Option, None, Some, refl, sym, ap, subst, ◌∙◌, arith}
+use Rattle.std.proofs.Common.{◌≡◌, ℕ, ◌+◌, ◌*◌, ◌-◌, ◌^◌, ◌<◌, ◌≤◌, min, Bool, true, false, List, [], ◌∷◌, ◌++◌, filter_map, length, option_map, ltb, drop, get_or, Option, None, Some, refl, sym, ap, subst, ◌∙◌, arith}
 use Rattle.std.proofs.Math.Nat.{min-eq_left, min-eq_right, min-le_right, mul-pos, mul-one, one-mul, mul_assoc, mul_comm, le-mul_of_pos_right}
 use Rattle.std.proofs.lemmas.Bool.{ltb-true, ltb-false}
 use Rattle.std.specs.List.{cons_option}

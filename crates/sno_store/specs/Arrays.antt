@@ -1,5 +1,5 @@
 -- Arrays: what a prototype says, and which element subscripts name.
-use Rattle.std.specs.Prelude.{◌≡◌, ℕ, ◌+◌, ◌*◌, ◌==◌, nat_lt, ℤ, pos, ◌-ℤ◌, int_le, unsigned_abs, Bool, ◌&&◌, List, [], ◌∷◌, length, take, drop, replicate, position, option_map, Option, None, Some, Result, Ok, Err, if◌then◌else◌}
+use Rattle.std.specs.Prelude.{ℕ, ◌+◌, ◌*◌, ◌==◌, nat_lt, ℤ, pos, ◌-ℤ◌, int_le, unsigned_abs, Bool, ◌&&◌, List, [], ◌∷◌, length, take, drop, replicate, position, option_map, Option, None, Some, Result, Ok, Err, if◌then◌else◌}
 use Rattle.std.specs.List.{slice_split}
 use Rattle.sno_value.specs.declared.ids.ObjId.{ObjId}
 use Rattle.sno_value.specs.declared.value.Name.{Name}

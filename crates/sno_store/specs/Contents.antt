@@ -1,5 +1,5 @@
 -- What a store holds, and what its calls do with that.
-use Rattle.std.specs.Prelude.{◌≡◌, ℕ, ◌==◌, List, [], ◌∷◌, ◌++◌, codes, length, slice_index_or, slice_set, Option, Result, Ok, Err, if◌then◌else◌}
+use Rattle.std.specs.Prelude.{◌≡◌, ℕ, ◌==◌, List, [], ◌∷◌, ◌++◌, codes, length, slice_index_or, slice_set, Option, Result, Ok, Err, IsOk, if◌then◌else◌}
 use Rattle.sno_value.specs.declared.ids.SymId.{SymId}
 use Rattle.sno_value.specs.declared.value.Name.{Name}
 use Rattle.sno_value.specs.declared.value.Name.TheVariants.{Var, Elem, Entry}
@@ -37,7 +37,7 @@ with_symbol name c = if is_symbol name c.symbols then c else record c { symbols 
 -- what `symbol` did
 abbrev pub IsJoined : List ℕ → Contents → Contents → Result SymId StoreError → Type 0
 IsJoined name old new (Ok id) = (joining name old.symbols ≡ Ok id.0) × (new ≡ with_symbol name old)
-IsJoined name old new (Err NoMemory) = new ≡ old
+IsJoined name old new (Err NoMemory) = IsOk (joining name old.symbols) × (new ≡ old)
 IsJoined name old new (Err refusal) = (joining name old.symbols ≡ Err refusal) × (new ≡ old)
 
 -- the value of what is named; null where the store has no such name

@@ -1,5 +1,5 @@
 -- Arrays and tables, over any type V of values. An object's number is its place in the list of objects.
-use Rattle.std.specs.Prelude.{◌≡◌, ℕ, zero, suc, ◌==◌, List, [], ◌∷◌, ◌++◌, length, map, slice_get, slice_index_or, slice_set, Option, None, Some, Result, Ok, Err, if◌then◌else◌}
+use Rattle.std.specs.Prelude.{ℕ, zero, suc, ◌==◌, List, [], ◌∷◌, ◌++◌, length, map, slice_get, slice_index_or, slice_set, Option, None, Some, Result, Ok, Err, if◌then◌else◌}
 use Rattle.sno_value.specs.declared.ids.ObjId.{ObjId}
 use Rattle.sno_store.specs.declared.dimension.Dimension.{Dimension}
 

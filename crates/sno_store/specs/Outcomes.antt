@@ -1,5 +1,5 @@
 -- What a call did, beside what is meant: a value, or the number of an error.
-use Rattle.std.specs.Prelude.{◌≡◌, ◌<◌, ℕ, ◌-◌, List, [], ◌∷◌, ◌++◌, length, replicate, Result, Ok, Err}
+use Rattle.std.specs.Prelude.{◌≡◌, ◌<◌, ℕ, ◌-◌, List, [], ◌∷◌, ◌++◌, length, replicate, Result, Ok, Err, IsOk}
 use Rattle.sno_value.specs.declared.ids.SymId.{SymId}
 use Rattle.sno_value.specs.declared.value.Value.{Value}
 use Rattle.sno_value.specs.declared.value.Value.TheVariants.{Str}
@@ -10,14 +10,14 @@ use Rattle.sno_store.specs.Contents.{Contents}
 use Rattle.sno_store.specs.Definitions.{Definition, with_definition}
 use Rattle.sno_store.specs.Objects.{Object}
 
--- the error that is meant is told by its name; that memory was refused says nothing of what is meant
+-- the error that is meant is told by its name; that memory was refused is told only where a success is meant
 abbrev pub IsError : {A : Type 0} → Result A ℕ → StoreError → Type 0
 IsError meant NullName = meant ≡ Err 6
 IsError meant Full = meant ≡ Err 9
 IsError meant WrongType = meant ≡ Err 1
 IsError meant BadPrototype = meant ≡ Err 12
 IsError meant CallLevel = meant ≡ Err 10
-IsError meant NoMemory = Unit {0}
+IsError meant NoMemory = IsOk meant
 
 -- What a call did that asks for no memory and changes nothing; `see` says what an answer stands for.
 abbrev pub IsAnswered : {X A : Type 0} → (X → A) → Result A ℕ → Result X StoreError → Type 0
@@ -46,5 +46,5 @@ IsEntered function d arguments old new (Ok done) =
     (length old.calls < 200) ×
     (new ≡ record old { values = entered (Str []) function.0 d arguments old.values; calls = old.calls ++ saved (Str []) function.0 d old.values ∷ [] })
 IsEntered function d arguments old new (Err CallLevel) = (length old.calls ≡ 200) × (new ≡ old)
-IsEntered function d arguments old new (Err NoMemory) = new ≡ old
+IsEntered function d arguments old new (Err NoMemory) = (length old.calls < 200) × (new ≡ old)
 IsEntered function d arguments old new (Err other) = ⊥

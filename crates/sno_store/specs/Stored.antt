@@ -1,5 +1,5 @@
 -- What tables ask of stored values.
-use Rattle.std.specs.Prelude.{◌≡◌, ℕ, ◌==◌, Bool, true, false, ◌&&◌, [], ◌∷◌}
+use Rattle.std.specs.Prelude.{◌==◌, Bool, true, false, ◌&&◌, []}
 use Rattle.std.specs.Ordering.{int_eq}
 use Rattle.std.specs.Str.{bytes_eq}
 use Rattle.sno_value.specs.declared.value.Name.{Name as Target}

@@ -1,11 +1,12 @@
 //! Prototypes of functions: `F(A,B)L,M`.
-ghost use Rattle.std.specs.Prelude.{◌≡◌, ◌==◌, ◌<◌, ◌&&◌, not, length, option_map, position, IfSome};
-ghost use Rattle.std.specs.List.{list_all};
+ghost use Rattle.std.specs.Prelude.{◌≡◌, ◌==◌, ◌<◌, ◌&&◌, not, length, option_map, position, take, IfSome};
+ghost use Rattle.std.specs.List.{list_all, list_any};
+ghost use Rattle.std.specs.Str.{bytes_eq};
 ghost use Rattle.sno_store.specs.Definitions.{cut_at, is_device, is_letter, is_name, is_name_byte, is_sound, listed, prototype};
 ghost use Rattle.sno_store.specs.Seen.{prototype_seen};
 
 /// How many names a prototype has at most (this profile).
-const MOST_NAMES: usize = 100;
+pub(crate) const MOST_NAMES: usize = 100;
 
 /// The parts of a prototype: the function's name, and the texts that list its formals and its locals.
 #[derive(Clone, Copy)]
@@ -58,13 +59,24 @@ fn first(text: &[u8], byte: u8) -> Option<usize>
 }
 
 /// How many names a list has.
-fn count(list: &[u8]) -> usize
+pub(crate) fn count(list: &[u8]) -> usize
     ensures { result ≡ length (listed list.now) }
 {
     if list.is_empty() {
         return 0;
     }
     list.split(|byte| *byte == b',').count()
+}
+
+/// Whether a name is among the first names of a list, of which so many are looked at.
+pub(crate) fn is_among(name: &[u8], list: &[u8], names: usize) -> bool
+    ensures { result ≡ list_any (bytes_eq name.now) (take names (listed list.now)) }
+{
+    !list.is_empty()
+        && list
+            .split(|byte| *byte == b',')
+            .take(names)
+            .any(|other| name == other)
 }
 
 /// Whether each text of a list may be a name of a prototype.

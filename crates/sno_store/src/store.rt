@@ -1,11 +1,11 @@
 //! The store: symbols, variables, arrays and tables, and functions with their calls.
-ghost use Rattle.std.specs.Prelude.{◌≡◌, ◌<◌, ◌≤◌, ℕ, List, [], ◌∷◌, ◌++◌, length, true, false, slice_index_or, Some, option_copied, IfOk, OnOk, OnErr, IsOkAnd};
+ghost use Rattle.std.specs.Prelude.{◌≡◌, ◌<◌, ◌≤◌, ℕ, List, [], ◌∷◌, ◌++◌, length, nat_lt, true, false, slice_index_or, Some, option_copied, IfOk, OnOk, OnErr, IsOkAnd};
 ghost use Rattle.std.specs.List.{list_all};
 ghost use Rattle.sno_value.specs.declared.value.Value.TheVariants.{Str};
 ghost use Rattle.sno_store.specs.Arrays.{new_array, element_name, prototype_of};
 ghost use Rattle.sno_store.specs.Calls.{function_value, restored};
 ghost use Rattle.sno_store.specs.Contents.{Contents, new_contents, is_symbol, IsJoined, value_of, with_value};
-ghost use Rattle.sno_store.specs.Definitions.{Definition as Defined, definition_at, is_name, is_sound, listed};
+ghost use Rattle.sno_store.specs.Definitions.{Definition as Defined, definition_at, is_name, is_sound, listed, names, with_names};
 ghost use Rattle.sno_store.specs.First.{first_patterns, search_patterns};
 ghost use Rattle.sno_store.specs.Outcomes.{IsAnswered, IsDefined, IsDone, IsEntered, itself};
 ghost use Rattle.sno_store.specs.Seen.{prototype_seen};
@@ -16,7 +16,7 @@ ghost use Rattle.sno_store.specs.Tables.{new_table, find_entry, make_entry, tabl
 use crate::call::Call;
 use crate::definition::Definition;
 use crate::error::StoreError;
-use crate::function_prototype::FunctionPrototype;
+use crate::function_prototype::{FunctionPrototype, MOST_NAMES};
 use crate::functions::Functions;
 use crate::objects::Objects;
 use crate::symbols::{MOST_SYMBOLS, Symbols};
@@ -233,6 +233,9 @@ impl Store {
         if !prototype.is_sound() {
             return Err(StoreError::BadPrototype);
         }
+        if self.is_full_with(prototype) {
+            return Err(StoreError::Full);
+        }
         let count = self.symbols.len();
         if let Err(refusal) = self.define_parts(prototype, entry) {
             self.symbols.truncate(count);
@@ -292,6 +295,15 @@ impl Store {
         ensures few { length self.now.calls ≤ 200 }
     {
         self.calls.len() as u32
+    }
+
+    /// Whether the symbols would be too many, had the names of a prototype joined them. It takes no memory, so that this is
+    /// told before any is asked for.
+    fn is_full_with(&self, parts: FunctionPrototype) -> bool
+        requires sound { is_sound (prototype_seen parts) ≡ true }
+        ensures { result ≡ nat_lt 1_000_000 (length (with_names (names (prototype_seen parts.entry)) self.now.symbols)) }
+    {
+        self.symbols.len() + MOST_NAMES > MOST_SYMBOLS && self.symbols.len_with(parts) > MOST_SYMBOLS
     }
 
     /// A function is defined by the parts of its prototype. Where that is refused, some of its names may be new symbols.

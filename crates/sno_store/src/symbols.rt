@@ -1,8 +1,13 @@
 //! The texts of the symbols, by number and by text.
-ghost use Rattle.std.specs.Prelude.{◌≡◌, ◌≤◌, ◌<◌, [], ◌∷◌, ◌++◌, length, take, false, slice_index_or, option_map, IfOk, OnOk, OnErr};
+ghost use Rattle.std.specs.Prelude.{◌≡◌, ◌+◌, ◌||◌, ◌≤◌, ◌<◌, [], ◌∷◌, ◌++◌, length, take, false, slice_index_or, option_map, IfOk, OnOk, OnErr};
+ghost use Rattle.std.specs.List.{list_any};
+ghost use Rattle.std.specs.Str.{bytes_eq};
 ghost use Rattle.sno_store.specs.Contents.{is_symbol};
+ghost use Rattle.sno_store.specs.Definitions.{listed, names, with_names};
+ghost use Rattle.sno_store.specs.Seen.{prototype_seen};
 ghost use Rattle.sno_store.specs.Symbols.{found};
 
+use crate::function_prototype::{FunctionPrototype, count, is_among};
 use indexmap::IndexSet;
 use sno_value::SymId;
 use std::alloc::{AllocError, Global};
@@ -53,6 +58,76 @@ impl Symbols {
     {
         let place = self.texts.get_index_of(name)?;
         Some(SymId(place as u32))
+    }
+
+    /// How many symbols there would be, had the names of a prototype joined them.
+    pub(crate) fn len_with(&self, parts: FunctionPrototype) -> usize
+        requires few { length (names (prototype_seen parts)) ≤ 100 }
+        ensures { result ≡ length (with_names (names (prototype_seen parts.entry)) self.now) }
+    {
+        let function = if self.has(parts.function) {
+            0
+        } else {
+            1
+        };
+        let formals = self.count_new(parts.function, b"", parts.formals);
+        let locals = self.count_new(parts.function, parts.formals, parts.locals);
+        self.len() + function + formals + locals
+    }
+
+    /// How many names of a list are no symbols, nor the first name, nor in the list before, each counted once.
+    fn count_new(&self, first: &[u8], before: &[u8], list: &[u8]) -> usize
+        requires few { length (listed list.now) ≤ 100 }
+        ensures number { length (with_names (listed list.now) (with_names (first.now ∷ listed before.now) self.now)) ≡ length (with_names (first.now ∷ listed before.now) self.now) + result }
+        ensures few { result ≤ length (listed list.now) }
+    {
+        if list.is_empty() {
+            return 0;
+        }
+        let mut new = 0;
+        let mut place = 0;
+        'names: for name in list.split(|byte| *byte == b',') {
+            if !self.is_counted(name, first, before, list, place) {
+                new += 1;
+            }
+            place += 1;
+        }
+        new
+    }
+
+    /// Whether a name of a list, behind so many others of it, would be a symbol, had these, a name and those of the list
+    /// before joined.
+    fn is_counted(
+        &self,
+        name: &[u8],
+        first: &[u8],
+        before: &[u8],
+        list: &[u8],
+        place: usize,
+    ) -> bool
+        ensures { result ≡ (is_symbol name.now (with_names (first.now ∷ listed before.now) self.now) || list_any (bytes_eq name.now) (take place (listed list.now))) }
+    {
+        self.has_with(name, first, before) || is_among(name, list, place)
+    }
+
+    /// Whether a name would be a symbol, had another name and those of a list joined.
+    fn has_with(&self, name: &[u8], first: &[u8], list: &[u8]) -> bool
+        ensures { result ≡ is_symbol name.now (with_names (first.now ∷ listed list.now) self.now) }
+    {
+        if self.has(name) {
+            return true;
+        }
+        if name == first {
+            return true;
+        }
+        is_among(name, list, count(list))
+    }
+
+    /// Whether a name is a symbol.
+    fn has(&self, name: &[u8]) -> bool
+        ensures { result ≡ is_symbol name.now self.now }
+    {
+        self.find(name).is_some()
     }
 
     /// A text that is no symbol joins them at the end.

@@ -1,5 +1,5 @@
 -- Cores are found exactly.
-use Rattle.std.proofs.Common.{◌≡◌, ◌≢◌, ℕ, ◌+◌, ◌≤◌, ◌⊎◌, ◌&&◌, inl, inr, Bool, true, false, List, length, arith, refl, ◌∙◌, ap, subst, Some, None, Option}
+use Rattle.std.proofs.Common.{◌≡◌, ◌≢◌, ℕ, ◌+◌, ◌≤◌, ◌⊎◌, ◌&&◌, inl, inr, Bool, true, false, List, [], ◌∷◌, ◌++◌, length, arith, refl, ◌∙◌, ap, subst, Some, None, Option}
 use Rattle.std.proofs.lemmas.List.{get_or_past}
 use Rattle.sno_value.specs.declared.ids.ExprId.{ExprId}
 use Rattle.sno_text.specs.declared.bytes.Class.TheVariants.{Blank}
@@ -14,10 +14,11 @@ use Rattle.sno_text.specs.Grammar.{IsBlanks, Level, Element, Reads}
 use Rattle.sno_text.specs.Links.{Starts, Stops, Refuses}
 use Rattle.sno_text.specs.Outcome.{Outcome as Found_outcome, Extends}
 use Rattle.sno_text.specs.Statements.{HasExpression, HasObject, IsCore, HasCore, CoreTree, option_fits, core_fits, core_option_fits}
-use Rattle.sno_text.specs.Pieces.{MeetsColon, MeetsEquals, Gives, Lacks, StandsExpression, StandsObject, StandsCore, StandsCores, HasObjectPair, object_fits}
+use Rattle.sno_text.specs.Source.{option_ids, core_ids, core_option_ids}
+use Rattle.sno_text.specs.Pieces.{object_ids, MeetsColon, MeetsEquals, Gives, Lacks, StandsExpression, StandsObject, StandsCore, StandsCores, HasObjectPair, object_fits}
 use Rattle.sno_text.proofs.Runs.{run_end_unique}
 use Rattle.sno_text.proofs.Starts.{reads_start, start_can_start}
-use Rattle.sno_text.proofs.Tables.{extends_same}
+use Rattle.sno_text.proofs.Tables.{extends_same, grown_of, grown_trans, uses_none, uses_both}
 use Rattle.sno_text.proofs.Standing.{stands_kept, stands_expression_more}
 use Rattle.sno_text.proofs.Stops.{end_byte_equals, blanks_whole, blanks_start, colon_meets_equals, blanks_equals, equals_stops, blanks_stop, start_meets_none}
 
@@ -41,7 +42,7 @@ no_expression_only s i k None n r = (r, refl)
 no_expression_only s i k (Some t) n (m, b, r) = absurd (n m b (reads_start r))
 
 pub gives_no_expression : (s : List ℕ) (i at : ℕ) (old : List Node) → IsWholeRun Blank s i at → (at ≡ i) ⊎ (can_start (byte s at) ≡ false) → i ≤ length s →
-    Gives (Option Tree) (Option ExprId) (HasExpression s i) (MeetsEquals s) StandsExpression option_fits (length s) i old old (record { what = None; end = i; fits = true })
+    Gives (Option Tree) (Option ExprId) (HasExpression s i) (MeetsEquals s) StandsExpression option_ids option_fits (length s) i old old (record { what = None; end = i; fits = true })
 gives_no_expression s i at old g h w = record {
   tree = None;
   reads = refl;
@@ -51,6 +52,7 @@ gives_no_expression s i at old g h w = record {
   order = omega arith;
   within = w;
   room = omega arith;
+  used = uses_none old [];
 }
 
 expression_only : (s : List ℕ) (i at k e : ℕ) (u : Option Tree) (t : Tree) → IsWholeRun Blank s i at → can_start (byte s at) ≡ true →
@@ -62,7 +64,7 @@ expression_only s i at k e (Some v) t g h only (m, b, r) stops =
 
 pub gives_expression : (s : List ℕ) (i at : ℕ) (old new : List Node) (f : Found) → at ≢ i → IsWholeRun Blank s i at → can_start (byte s at) ≡ true →
     Found_outcome s (Level 0) (Stops s 0) at old new (Some f) →
-    Gives (Option Tree) (Option ExprId) (HasExpression s i) (MeetsEquals s) StandsExpression option_fits (length s) i old new (record { what = Some f.id; end = f.end; fits = f.fits })
+    Gives (Option Tree) (Option ExprId) (HasExpression s i) (MeetsEquals s) StandsExpression option_ids option_fits (length s) i old new (record { what = Some f.id; end = f.end; fits = f.fits })
 gives_expression s i at old new f n g h a = record {
   tree = Some a.tree;
   reads = (at, blanks_at s i at n g, a.finds.reads);
@@ -72,6 +74,7 @@ gives_expression s i at old new f n g h a = record {
   order = let o = g.run.order in let v = a.some in omega arith;
   within = a.within;
   room = let o = g.run.order in let v = a.room in omega arith;
+  used = a.used;
 }
 
 expression_none : (s : List ℕ) (i at k : ℕ) (u : Option Tree) → IsWholeRun Blank s i at → can_start (byte s at) ≡ true → Refuses s (Level 0) (Stops s 0) at → HasExpression s i k u → MeetsEquals s k → ⊥
@@ -92,7 +95,7 @@ no_object_only s i at k true t g (inl e) (m, b, d, r) = let f = equals_at s i at
 no_object_only s i at k true t g (inr n) (m, b, d, r) = absurd (n (subst (λ x. byte s x ≡ 61) (equals_at s i at m g b d) d))
 
 pub gives_no_object : (s : List ℕ) (i at : ℕ) (old : List Node) → IsWholeRun Blank s i at → (at ≡ i) ⊎ (byte s at ≢ 61) → i ≤ length s →
-    Gives (Bool × Option Tree) Object (HasObjectPair s i) (MeetsColon s) StandsObject object_fits (length s) i old old (record { what = record { equals = false; object = None }; end = i; fits = true })
+    Gives (Bool × Option Tree) Object (HasObjectPair s i) (MeetsColon s) StandsObject object_ids object_fits (length s) i old old (record { what = record { equals = false; object = None }; end = i; fits = true })
 gives_no_object s i at old g h w = record {
   tree = (false, None);
   reads = (refl, refl);
@@ -102,6 +105,7 @@ gives_no_object s i at old g h w = record {
   order = omega arith;
   within = w;
   room = omega arith;
+  used = uses_none old [];
 }
 
 colon_not_equals : (s : List ℕ) (i at : ℕ) → IsWholeRun Blank s i at → byte s at ≡ 61 → MeetsColon s i → ⊥
@@ -119,8 +123,8 @@ object_only s i at k e true u t g h only (m, b, d, r) stops =
     let q = only k u (subst (λ x. HasExpression s (x + 1) k u) (equals_at s i at m g b d) r) (colon_meets_equals stops) in (q.0, refl, q.1)
 
 pub gives_object : (s : List ℕ) (i at : ℕ) (old new : List Node) (f : Read (Option ExprId)) → at ≢ i → IsWholeRun Blank s i at → byte s at ≡ 61 →
-    Gives (Option Tree) (Option ExprId) (HasExpression s (at + 1)) (MeetsEquals s) StandsExpression option_fits (length s) (at + 1) old new f →
-    Gives (Bool × Option Tree) Object (HasObjectPair s i) (MeetsColon s) StandsObject object_fits (length s) i old new (record { what = record { equals = true; object = f.what }; end = f.end; fits = f.fits })
+    Gives (Option Tree) (Option ExprId) (HasExpression s (at + 1)) (MeetsEquals s) StandsExpression option_ids option_fits (length s) (at + 1) old new f →
+    Gives (Bool × Option Tree) Object (HasObjectPair s i) (MeetsColon s) StandsObject object_ids object_fits (length s) i old new (record { what = record { equals = true; object = f.what }; end = f.end; fits = f.fits })
 gives_object s i at old new f n g h a = record {
   tree = (true, a.tree);
   reads = (at, blanks_at s i at n g, h, a.reads);
@@ -130,6 +134,7 @@ gives_object s i at old new f n g h a = record {
   order = let o = g.run.order in let v = a.order in omega arith;
   within = a.within;
   room = let o = g.run.order in let v = a.room in omega arith;
+  used = a.used;
 }
 
 object_none : (s : List ℕ) (i at k : ℕ) (b : Bool) (u : Option Tree) → IsWholeRun Blank s i at → byte s at ≡ 61 → Lacks (Option Tree) (HasExpression s (at + 1)) (MeetsEquals s) → HasObject s i k b u → MeetsColon s k → ⊥
@@ -172,9 +177,9 @@ fits_three a b c x y z e f g = rw (e, f, g) refl
 
 pub gives_core : {n : ℕ} (s : List ℕ) (i : ℕ) (old one two new : List Node) (f : Found) (g : Read (Option ExprId)) (h : Read Object) →
     Found_outcome s Element (Stops s 7) i old one (Some f) →
-    Gives (Option Tree) (Option ExprId) (HasExpression s f.end) (MeetsEquals s) StandsExpression option_fits (length s) f.end one two g → Extends n one two →
-    Gives (Bool × Option Tree) Object (HasObjectPair s g.end) (MeetsColon s) StandsObject object_fits (length s) g.end two new h → Extends n two new →
-    Gives CoreTree Core (IsCore s i) (MeetsColon s) StandsCore core_fits (length s) i old new
+    Gives (Option Tree) (Option ExprId) (HasExpression s f.end) (MeetsEquals s) StandsExpression option_ids option_fits (length s) f.end one two g → Extends n one two →
+    Gives (Bool × Option Tree) Object (HasObjectPair s g.end) (MeetsColon s) StandsObject object_ids object_fits (length s) g.end two new h → Extends n two new →
+    Gives CoreTree Core (IsCore s i) (MeetsColon s) StandsCore core_ids core_fits (length s) i old new
     (record { what = record { subject = f.id; pattern = g.what; equals = h.what.equals; object = h.what.object }; end = h.end; fits = (f.fits && g.fits) && h.fits })
 gives_core s i old one two new f g h a b x c y = record {
   tree = record { subject = a.tree; pattern = b.tree; equals = c.tree.0; object = c.tree.1 };
@@ -189,6 +194,8 @@ gives_core s i old one two new f g h a b x c y = record {
   order = let v = a.some in let w = b.order in let z = c.order in omega arith;
   within = c.within;
   room = let v = a.room in let w = b.room in let z = c.room in omega arith;
+  used = uses_both (length old) one new (f.id ∷ []) (option_ids g.what ++ option_ids h.what.object) a.used
+      (uses_both (length one) two new (option_ids g.what) (option_ids h.what.object) b.used c.used (grown_of y)) (grown_trans one two new (grown_of x) (grown_of y));
 }
 
 pub lacks_subject : (s : List ℕ) (i : ℕ) → Refuses s Element (Stops s 7) i → Lacks CoreTree (IsCore s i) (MeetsColon s)
@@ -203,7 +210,7 @@ lacks_pattern s i old one f a b = record {
 }
 
 pub lacks_core_object : (s : List ℕ) (i : ℕ) (old one two : List Node) (f : Found) (g : Read (Option ExprId)) → Found_outcome s Element (Stops s 7) i old one (Some f) →
-    Gives (Option Tree) (Option ExprId) (HasExpression s f.end) (MeetsEquals s) StandsExpression option_fits (length s) f.end one two g →
+    Gives (Option Tree) (Option ExprId) (HasExpression s f.end) (MeetsEquals s) StandsExpression option_ids option_fits (length s) f.end one two g →
     Lacks (Bool × Option Tree) (HasObjectPair s g.end) (MeetsColon s) → Lacks CoreTree (IsCore s i) (MeetsColon s)
 lacks_core_object s i old one two f g a b c = record {
   none = λ k u r stops.
@@ -218,7 +225,7 @@ no_core_only s i k None n r = (r, refl)
 no_core_only s i k (Some t) n (m, b, r) = absurd (n m b (reads_start r.subject))
 
 pub gives_no_core : (s : List ℕ) (i at : ℕ) (old : List Node) → IsWholeRun Blank s i at → (at ≡ i) ⊎ (can_start (byte s at) ≡ false) → i ≤ length s →
-    Gives (Option CoreTree) (Option Core) (HasCore s i) (MeetsColon s) StandsCores core_option_fits (length s) i old old (record { what = None; end = i; fits = true })
+    Gives (Option CoreTree) (Option Core) (HasCore s i) (MeetsColon s) StandsCores core_option_ids core_option_fits (length s) i old old (record { what = None; end = i; fits = true })
 gives_no_core s i at old g h w = record {
   tree = None;
   reads = refl;
@@ -228,6 +235,7 @@ gives_no_core s i at old g h w = record {
   order = omega arith;
   within = w;
   room = omega arith;
+  used = uses_none old [];
 }
 
 core_at : (s : List ℕ) (i at k m : ℕ) (t : CoreTree) → IsWholeRun Blank s i at → IsBlanks s i m → IsCore s m k t → IsCore s at k t
@@ -239,8 +247,8 @@ body_only s i at k e None t g h only r stops = absurd (start_meets_none s i at g
 body_only s i at k e (Some v) t g h only (m, b, r) stops = let q = only k v (core_at s i at k m v g b r) stops in (q.0, ap Some q.1)
 
 pub gives_body : (s : List ℕ) (i at : ℕ) (old new : List Node) (f : Read Core) → at ≢ i → IsWholeRun Blank s i at → can_start (byte s at) ≡ true →
-    Gives CoreTree Core (IsCore s at) (MeetsColon s) StandsCore core_fits (length s) at old new f →
-    Gives (Option CoreTree) (Option Core) (HasCore s i) (MeetsColon s) StandsCores core_option_fits (length s) i old new (record { what = Some f.what; end = f.end; fits = f.fits })
+    Gives CoreTree Core (IsCore s at) (MeetsColon s) StandsCore core_ids core_fits (length s) at old new f →
+    Gives (Option CoreTree) (Option Core) (HasCore s i) (MeetsColon s) StandsCores core_option_ids core_option_fits (length s) i old new (record { what = Some f.what; end = f.end; fits = f.fits })
 gives_body s i at old new f n g h a = record {
   tree = Some a.tree;
   reads = (at, blanks_at s i at n g, a.reads);
@@ -250,6 +258,7 @@ gives_body s i at old new f n g h a = record {
   order = let o = g.run.order in let v = a.order in omega arith;
   within = a.within;
   room = let o = g.run.order in let v = a.room in omega arith;
+  used = a.used;
 }
 
 body_none : (s : List ℕ) (i at k : ℕ) (u : Option CoreTree) → IsWholeRun Blank s i at → can_start (byte s at) ≡ true → Lacks CoreTree (IsCore s at) (MeetsColon s) → HasCore s i k u → MeetsColon s k → ⊥

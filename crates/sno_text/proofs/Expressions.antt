@@ -1,11 +1,11 @@
 -- A whole text is an expression or none.
-use Rattle.std.proofs.Common.{◌≡◌, ◌≢◌, ℕ, ◌≤◌, inl, inr, Bool, true, false, List, [], length, arith, refl, sym, ◌∙◌, subst, Some, Contains}
+use Rattle.std.proofs.Common.{◌≡◌, ◌≢◌, ℕ, ◌≤◌, inl, inr, Bool, true, false, List, [], ◌∷◌, length, arith, refl, sym, ◌∙◌, subst, Some, Contains}
 use Rattle.std.proofs.lemmas.List.{get_or_past}
 use Rattle.sno_text.specs.declared.bytes.Class.TheVariants.{Blank}
 use Rattle.sno_text.specs.declared.node.Node.{Node}
 use Rattle.sno_text.specs.declared.table.Found.{Found}
 use Rattle.sno_text.specs.Bytes.{byte, IsWholeRun}
-use Rattle.sno_text.specs.Trees.{Tree, fits, Stands}
+use Rattle.sno_text.specs.Trees.{Tree, fits, Stands, Uses}
 use Rattle.sno_text.specs.Grammar.{IsGap, Level, IsExpression}
 use Rattle.sno_text.specs.Links.{Stops, Refuses}
 use Rattle.sno_text.specs.Outcome.{Extends, Gives, Outcome}
@@ -33,8 +33,8 @@ pub too_big : (s : List ℕ) (k l : ℕ) (old new : List Node) (f : Found) → I
 too_big s k l old new f g d h e one b = (d.tree, is_expression s k l old new f g d h e one, sym d.fit ∙ b)
 
 pub accepted : (s : List ℕ) (k l : ℕ) (old new : List Node) (f : Found) → (HasOpenLiteral s → ⊥) → (IsTooLarge s → ⊥) → IsWholeRun Blank s 0 k → Outcome s (Level 0) (Stops s 0) k old new (Some f) →
-    IsWholeRun Blank s f.end l → l ≡ length s → (Contains s 10 → ⊥) → f.fits ≡ true → (t : Tree) × IsAccepted s t × Stands new f.id t
-accepted s k l old new f a c g d h e one b = (
+    IsWholeRun Blank s f.end l → l ≡ length s → (Contains s 10 → ⊥) → f.fits ≡ true → old ≡ [] → (t : Tree) × IsAccepted s t × Stands new f.id t × Uses new 0 (f.id ∷ [])
+accepted s k l old new f a c g d h e one b none = (
   d.tree,
   record {
     closed = a;
@@ -44,6 +44,7 @@ accepted s k l old new f a c g d h e one b = (
     fit = sym d.fit ∙ b;
   },
   d.stands,
+  subst (λ (x : List Node). Uses new (length x) (f.id ∷ [])) none d.used,
 )
 
 pub not_large : (s : List ℕ) → length s ≤ 8000 → is_deep 0 0 s ≡ false → IsTooLarge s → ⊥

@@ -102,7 +102,7 @@ has_entry s count before entries span n i old new p k r known (t, x, a, e, never
 pub judged : (s : List ℕ) (count : ℕ) (before : List StatementTree) (entries : Entries) (span : Span) (n i : ℕ) (old new : List Node) (p : Phrase) →
     Knows s before count entries → Shaped s count span → GivesPhrase (IsStatementAt s span) n i old new p → p.fits ≡ true →
     ((x : Span) → p.label ≡ Some x → number_of entries (part s x) ≡ None) → ((x : Span) → p.entry ≡ Some x → part s x ≢ codes "END" → is_some (number_of entries (part s x)) ≡ true) →
-    Accepts s before span new p
+    Accepts s before span old new p
 judged s count before entries span n i old new p k a r h fresh known = record {
   tree = r.tree;
   accepted = record {
@@ -116,6 +116,7 @@ judged s count before entries span n i old new p k a r h fresh known = record {
     entry = λ d. has_entry s count before entries span n i old new p k r known d;
   };
   stands = r.stands;
+  used = r.used;
 }
 
 -- a longer text

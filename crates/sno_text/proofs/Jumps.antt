@@ -1,5 +1,5 @@
 -- Two targets, a branch and a goto are found exactly.
-use Rattle.std.proofs.Common.{◌≡◌, ◌≢◌, ℕ, ◌+◌, ◌≤◌, ◌⊎◌, ◌&&◌, inl, inr, Bool, true, false, List, length, arith, refl, ◌∙◌, ap, subst, Some, Option}
+use Rattle.std.proofs.Common.{◌≡◌, ◌≢◌, ℕ, ◌+◌, ◌≤◌, ◌⊎◌, ◌&&◌, inl, inr, Bool, true, false, List, [], length, arith, refl, ◌∙◌, ap, subst, Some, Option}
 use Rattle.std.proofs.lemmas.List.{get_or_past}
 use Rattle.sno_text.specs.declared.bytes.Class.TheVariants.{Blank}
 use Rattle.sno_text.specs.declared.node.Node.{Node}
@@ -12,10 +12,11 @@ use Rattle.sno_text.specs.Bytes.{byte, is_blank, IsWholeRun}
 use Rattle.sno_text.specs.Grammar.{IsGap, IsBlanks}
 use Rattle.sno_text.specs.Outcome.{Extends}
 use Rattle.sno_text.specs.Statements.{TargetTree, JumpTree, Fall, Always, Either, IsTarget, HasOther, HasTargets, IsBranch, always, success, failure, HasJump, target_fits, target_option_fits, jump_fits}
-use Rattle.sno_text.specs.Pieces.{MeetsEnd, Anywhere, Gives, Lacks, StandsTarget, StandsTargets, StandsJump, HasTargetPair, StandsTargetPair, pair_fits}
+use Rattle.sno_text.specs.Source.{target_ids, target_option_ids, jump_ids}
+use Rattle.sno_text.specs.Pieces.{pair_ids, MeetsEnd, Anywhere, Gives, Lacks, StandsTarget, StandsTargets, StandsJump, HasTargetPair, StandsTargetPair, pair_fits}
 use Rattle.sno_text.proofs.Runs.{run_end_unique}
 use Rattle.sno_text.proofs.Standing.{stands_target_more}
-use Rattle.sno_text.proofs.Tables.{extends_same}
+use Rattle.sno_text.proofs.Tables.{extends_same, grown_of, uses_none, uses_both, uses_swapped}
 use Rattle.sno_text.proofs.Stops.{end_byte_colon, gap_whole, blanks_whole}
 
 pub fits_both : (a b x y : Bool) → a ≡ x → b ≡ y → (a && b) ≡ (x && y)
@@ -31,9 +32,9 @@ pair_only s letter i m k e t o v u first second (n, a, b) stops =
     (q.0, p.1, q.1)
 
 pub gives_targets : {n : ℕ} (s : List ℕ) (letter i : ℕ) (old mid new : List Node) (f : Read Target) (g : Read (Option Target)) →
-    Gives TargetTree Target (IsTarget s i) Anywhere StandsTarget target_fits (length s) i old mid f →
-    Gives (Option TargetTree) (Option Target) (HasOther s letter f.end) (MeetsEnd s) StandsTargets target_option_fits (length s) f.end mid new g → Extends n mid new →
-    Gives (TargetTree × Option TargetTree) Targets (HasTargetPair s letter i) (MeetsEnd s) StandsTargetPair pair_fits (length s) i old new
+    Gives TargetTree Target (IsTarget s i) Anywhere StandsTarget target_ids target_fits (length s) i old mid f →
+    Gives (Option TargetTree) (Option Target) (HasOther s letter f.end) (MeetsEnd s) StandsTargets target_option_ids target_option_fits (length s) f.end mid new g → Extends n mid new →
+    Gives (TargetTree × Option TargetTree) Targets (HasTargetPair s letter i) (MeetsEnd s) StandsTargetPair pair_ids pair_fits (length s) i old new
     (record { what = record { first = f.what; second = g.what }; end = g.end; fits = f.fits && g.fits })
 gives_targets s letter i old mid new f g a b x = record {
   tree = (a.tree, b.tree);
@@ -44,12 +45,13 @@ gives_targets s letter i old mid new f g a b x = record {
   order = let v = a.order in let w = b.order in omega arith;
   within = b.within;
   room = let v = a.room in let w = b.room in omega arith;
+  used = uses_both (length old) mid new (target_ids f.what) (target_option_ids g.what) a.used b.used (grown_of x);
 }
 
 pub lacks_first : (s : List ℕ) (letter i : ℕ) → Lacks TargetTree (IsTarget s i) Anywhere → Lacks (TargetTree × Option TargetTree) (HasTargetPair s letter i) (MeetsEnd s)
 lacks_first s letter i f = record { none = λ k u r stops. f.none r.0 u.0 r.1 tt }
 
-pub lacks_second : (s : List ℕ) (letter i : ℕ) (old mid : List Node) (f : Read Target) → Gives TargetTree Target (IsTarget s i) Anywhere StandsTarget target_fits (length s) i old mid f →
+pub lacks_second : (s : List ℕ) (letter i : ℕ) (old mid : List Node) (f : Read Target) → Gives TargetTree Target (IsTarget s i) Anywhere StandsTarget target_ids target_fits (length s) i old mid f →
     Lacks (Option TargetTree) (HasOther s letter f.end) (MeetsEnd s) → Lacks (TargetTree × Option TargetTree) (HasTargetPair s letter i) (MeetsEnd s)
 lacks_second s letter i old mid f a b = record { none = λ k u r stops. let p = a.only r.0 u.0 r.1 tt in b.none k u.1 (subst (λ x. HasOther s letter x k u.1) p.0 r.2) stops }
 
@@ -61,8 +63,8 @@ always_only s i k e g t h n only (success b r f) = absurd (h b)
 always_only s i k e g t h n only (failure b r f) = absurd (n b)
 
 pub gives_always : (s : List ℕ) (i : ℕ) (old new : List Node) (f : Read Target) → byte s i ≢ 83 → byte s i ≢ 70 →
-    Gives TargetTree Target (IsTarget s i) Anywhere StandsTarget target_fits (length s) i old new f →
-    Gives JumpTree Jump (IsBranch s i) (MeetsEnd s) StandsJump jump_fits (length s) i old new (record { what = jumps.Always f.what; end = f.end; fits = f.fits })
+    Gives TargetTree Target (IsTarget s i) Anywhere StandsTarget target_ids target_fits (length s) i old new f →
+    Gives JumpTree Jump (IsBranch s i) (MeetsEnd s) StandsJump jump_ids jump_fits (length s) i old new (record { what = jumps.Always f.what; end = f.end; fits = f.fits })
 gives_always s i old new f h n a = record {
   tree = Always a.tree;
   reads = always a.reads refl;
@@ -72,6 +74,7 @@ gives_always s i old new f h n a = record {
   order = a.order;
   within = a.within;
   room = a.room;
+  used = a.used;
 }
 
 always_none : (s : List ℕ) (i k : ℕ) (g : JumpTree) → byte s i ≢ 83 → byte s i ≢ 70 → Lacks TargetTree (IsTarget s i) Anywhere → IsBranch s i k g → ⊥
@@ -108,8 +111,8 @@ and_swap false true = refl
 and_swap false false = refl
 
 pub gives_success : (s : List ℕ) (i : ℕ) (old new : List Node) (f : Read Targets) → byte s i ≡ 83 →
-    Gives (TargetTree × Option TargetTree) Targets (HasTargetPair s 70 (i + 1)) (MeetsEnd s) StandsTargetPair pair_fits (length s) (i + 1) old new f →
-    Gives JumpTree Jump (IsBranch s i) (MeetsEnd s) StandsJump jump_fits (length s) i old new (record { what = jumps.Either (Some f.what.first) f.what.second; end = f.end; fits = f.fits })
+    Gives (TargetTree × Option TargetTree) Targets (HasTargetPair s 70 (i + 1)) (MeetsEnd s) StandsTargetPair pair_ids pair_fits (length s) (i + 1) old new f →
+    Gives JumpTree Jump (IsBranch s i) (MeetsEnd s) StandsJump jump_ids jump_fits (length s) i old new (record { what = jumps.Either (Some f.what.first) f.what.second; end = f.end; fits = f.fits })
 gives_success s i old new f h a = record {
   tree = Either (Some a.tree.0) a.tree.1;
   reads = success h a.reads refl;
@@ -119,11 +122,12 @@ gives_success s i old new f h a = record {
   order = let v = a.order in omega arith;
   within = a.within;
   room = let v = a.room in omega arith;
+  used = a.used;
 }
 
 pub gives_failure : (s : List ℕ) (i : ℕ) (old new : List Node) (f : Read Targets) → byte s i ≡ 70 →
-    Gives (TargetTree × Option TargetTree) Targets (HasTargetPair s 83 (i + 1)) (MeetsEnd s) StandsTargetPair pair_fits (length s) (i + 1) old new f →
-    Gives JumpTree Jump (IsBranch s i) (MeetsEnd s) StandsJump jump_fits (length s) i old new (record { what = jumps.Either f.what.second (Some f.what.first); end = f.end; fits = f.fits })
+    Gives (TargetTree × Option TargetTree) Targets (HasTargetPair s 83 (i + 1)) (MeetsEnd s) StandsTargetPair pair_ids pair_fits (length s) (i + 1) old new f →
+    Gives JumpTree Jump (IsBranch s i) (MeetsEnd s) StandsJump jump_ids jump_fits (length s) i old new (record { what = jumps.Either f.what.second (Some f.what.first); end = f.end; fits = f.fits })
 gives_failure s i old new f h a = record {
   tree = Either a.tree.1 (Some a.tree.0);
   reads = failure h a.reads refl;
@@ -133,6 +137,7 @@ gives_failure s i old new f h a = record {
   order = let v = a.order in omega arith;
   within = a.within;
   room = let v = a.room in omega arith;
+  used = uses_swapped (length old) new (target_ids f.what.first) (target_option_ids f.what.second) a.used;
 }
 
 success_none : (s : List ℕ) (i k : ℕ) (g : JumpTree) → byte s i ≡ 83 → Lacks (TargetTree × Option TargetTree) (HasTargetPair s 70 (i + 1)) (MeetsEnd s) → IsBranch s i k g → MeetsEnd s k → ⊥
@@ -175,7 +180,7 @@ fall_only s i k (Always t) n (m, l, b, h, c, r) = absurd (n m b h)
 fall_only s i k (Either t v) n (m, l, b, h, c, r) = absurd (n m b h)
 
 pub gives_fall : (s : List ℕ) (i at : ℕ) (old : List Node) → IsWholeRun Blank s i at → (at ≡ i) ⊎ (byte s at ≢ 58) → i ≤ length s →
-    Gives JumpTree Jump (HasJump s i) (MeetsEnd s) StandsJump jump_fits (length s) i old old (record { what = jumps.Fall; end = i; fits = true })
+    Gives JumpTree Jump (HasJump s i) (MeetsEnd s) StandsJump jump_ids jump_fits (length s) i old old (record { what = jumps.Fall; end = i; fits = true })
 gives_fall s i at old g h w = record {
   tree = Fall;
   reads = refl;
@@ -185,6 +190,7 @@ gives_fall s i at old g h w = record {
   order = omega arith;
   within = w;
   room = omega arith;
+  used = uses_none old [];
 }
 
 colon_not_end : (s : List ℕ) (i at : ℕ) → IsWholeRun Blank s i at → byte s at ≡ 58 → MeetsEnd s i → ⊥
@@ -214,8 +220,8 @@ jump_only s i at start k e (Always v) t g h c only (m, l, b, d, f, r) stops = on
 jump_only s i at start k e (Either v w) t g h c only (m, l, b, d, f, r) stops = only k (Either v w) (branch_at s i at start k m l (Either v w) g c b d f r) stops
 
 pub gives_jump : (s : List ℕ) (i at start : ℕ) (old new : List Node) (f : Read Jump) → at ≢ i → IsWholeRun Blank s i at → byte s at ≡ 58 → IsWholeRun Blank s (at + 1) start →
-    Gives JumpTree Jump (IsBranch s start) (MeetsEnd s) StandsJump jump_fits (length s) start old new f →
-    Gives JumpTree Jump (HasJump s i) (MeetsEnd s) StandsJump jump_fits (length s) i old new (record { what = f.what; end = f.end; fits = f.fits })
+    Gives JumpTree Jump (IsBranch s start) (MeetsEnd s) StandsJump jump_ids jump_fits (length s) start old new f →
+    Gives JumpTree Jump (HasJump s i) (MeetsEnd s) StandsJump jump_ids jump_fits (length s) i old new (record { what = f.what; end = f.end; fits = f.fits })
 gives_jump s i at start old new f n g h c a = record {
   tree = a.tree;
   reads = has_jump s i at start f.end a.tree (record { some = let o = g.run.order in omega arith; run = g.run }) h c.run a.reads;
@@ -225,6 +231,7 @@ gives_jump s i at start old new f n g h c a = record {
   order = let o = g.run.order in let v = c.run.order in let w = a.order in omega arith;
   within = a.within;
   room = let o = g.run.order in let v = c.run.order in let w = a.room in omega arith;
+  used = a.used;
 }
 
 jump_none : (s : List ℕ) (i at start k : ℕ) (u : JumpTree) → IsWholeRun Blank s i at → byte s at ≡ 58 → IsWholeRun Blank s (at + 1) start →

@@ -1,5 +1,5 @@
 -- Whole statements are found exactly.
-use Rattle.std.proofs.Common.{◌≡◌, ◌≢◌, ℕ, ◌<◌, ◌≤◌, ◌⊎◌, ◌&&◌, inl, inr, ◌||◌, true, false, List, length, arith, refl, sym, ◌∙◌, ap, subst, Some, None, Option, codes}
+use Rattle.std.proofs.Common.{◌≡◌, ◌≢◌, ℕ, ◌<◌, ◌≤◌, ◌⊎◌, ◌&&◌, inl, inr, ◌||◌, true, false, List, [], length, arith, refl, sym, ◌∙◌, ap, subst, Some, None, Option, codes}
 use Rattle.std.proofs.lemmas.List.{get_or_past}
 use Rattle.sno_text.specs.declared.bytes.Class.TheVariants.{Blank, NameByte}
 use Rattle.sno_text.specs.declared.node.Node.{Node}
@@ -14,6 +14,8 @@ use Rattle.sno_text.specs.Grammar.{IsGap, IsBlanks}
 use Rattle.sno_text.specs.Outcome.{Extends}
 use Rattle.sno_text.specs.Lines.{part}
 use Rattle.sno_text.specs.Statements.{IsLabel, JumpTree, Fall, Always, Either, HasJump, CoreTree, HasCore, HasLabel, HasEntry, StatementTree, IsPlain, IsEnd, IsStatement, core_option_fits, jump_fits}
+use Rattle.sno_text.specs.Source.{core_option_ids, jump_ids}
+use Rattle.sno_text.proofs.Tables.{grown_of, uses_none, uses_both}
 use Rattle.sno_text.specs.Pieces.{MeetsEnd, MeetsColon, Gives, Lacks, StandsCores, StandsJump}
 use Rattle.sno_text.specs.Phrases.{IsRest, IsEndRest, FindsEntry, PhraseOutcome, GivesPhrase}
 use Rattle.sno_text.proofs.Runs.{run_end_unique}
@@ -75,8 +77,8 @@ some_read : (one two : List Node) (c : Option Core) (t : Option CoreTree) (g : J
 some_read one two c t g u a b some e f = some (none_stands one c t a e) (fall_stands two g u b f)
 
 pub gives_rest : {n : ℕ} (s : List ℕ) (label : Option Span) (i at : ℕ) (old mid new : List Node) (f : Read (Option Core)) (g : Read Jump) →
-    (a : Gives (Option CoreTree) (Option Core) (HasCore s i) (MeetsColon s) StandsCores core_option_fits (length s) i old mid f) →
-    (b : Gives JumpTree Jump (HasJump s f.end) (MeetsEnd s) StandsJump jump_fits (length s) f.end mid new g) → Extends n mid new → IsWholeRun Blank s g.end at → at ≡ length s →
+    (a : Gives (Option CoreTree) (Option Core) (HasCore s i) (MeetsColon s) StandsCores core_option_ids core_option_fits (length s) i old mid f) →
+    (b : Gives JumpTree Jump (HasJump s f.end) (MeetsEnd s) StandsJump jump_ids jump_fits (length s) f.end mid new g) → Extends n mid new → IsWholeRun Blank s g.end at → at ≡ length s →
     (label ≡ None → f.what ≡ None → g.what ≢ jumps.Fall) →
     GivesPhrase (IsRest s label i) (length s) i old new (record { label = label; core = f.what; jump = g.what; entry = None; fits = f.fits && g.fits })
 gives_rest s label i at old mid new f g a b x h e some = record {
@@ -98,21 +100,22 @@ gives_rest s label i at old mid new f g a b x h e some = record {
   stands = (refl, stands_cores_more f.what a.tree x a.stands, b.stands, refl);
   fits = fits_both f.fits g.fits (core_option_fits a.tree) (jump_fits b.tree) a.fits b.fits;
   room = let v = a.room in let w = b.room in let y = b.within in omega arith;
+  used = uses_both (length old) mid new (core_option_ids f.what) (jump_ids g.what) a.used b.used (grown_of x);
 }
 
 pub lacks_rest_core : (s : List ℕ) (label : Option Span) (i : ℕ) → Lacks (Option CoreTree) (HasCore s i) (MeetsColon s) → (u : StatementTree) → IsRest s label i u → ⊥
 lacks_rest_core s label i f u r = f.none r.after_core u.core r.core (rest_core s label i u r)
 
 pub lacks_rest_jump : (s : List ℕ) (label : Option Span) (i : ℕ) (old mid : List Node) (f : Read (Option Core)) →
-    Gives (Option CoreTree) (Option Core) (HasCore s i) (MeetsColon s) StandsCores core_option_fits (length s) i old mid f →
+    Gives (Option CoreTree) (Option Core) (HasCore s i) (MeetsColon s) StandsCores core_option_ids core_option_fits (length s) i old mid f →
     Lacks JumpTree (HasJump s f.end) (MeetsEnd s) → (u : StatementTree) → IsRest s label i u → ⊥
 lacks_rest_jump s label i old mid f a b u r =
     let p = a.only r.after_core u.core r.core (rest_core s label i u r) in
     b.none r.after_jump u.jump (rest_jump s label i f.end u r p.0) (rest_meets s label i u r)
 
 pub lacks_rest_end : (s : List ℕ) (label : Option Span) (i at : ℕ) (old mid new : List Node) (f : Read (Option Core)) (g : Read Jump) →
-    Gives (Option CoreTree) (Option Core) (HasCore s i) (MeetsColon s) StandsCores core_option_fits (length s) i old mid f →
-    Gives JumpTree Jump (HasJump s f.end) (MeetsEnd s) StandsJump jump_fits (length s) f.end mid new g → IsWholeRun Blank s g.end at → at ≢ length s → (u : StatementTree) → IsRest s label i u → ⊥
+    Gives (Option CoreTree) (Option Core) (HasCore s i) (MeetsColon s) StandsCores core_option_ids core_option_fits (length s) i old mid f →
+    Gives JumpTree Jump (HasJump s f.end) (MeetsEnd s) StandsJump jump_ids jump_fits (length s) f.end mid new g → IsWholeRun Blank s g.end at → at ≢ length s → (u : StatementTree) → IsRest s label i u → ⊥
 lacks_rest_end s label i at old mid new f g a b h never u r =
     let p = a.only r.after_core u.core r.core (rest_core s label i u r) in
     let m = rest_meets s label i u r in
@@ -121,8 +124,8 @@ lacks_rest_end s label i at old mid new f g a b h never u r =
     never (run_end_unique Blank s g.end at (length s) h whole)
 
 pub lacks_rest_some : (s : List ℕ) (label : Option Span) (i : ℕ) (old mid new : List Node) (f : Read (Option Core)) (g : Read Jump) →
-    Gives (Option CoreTree) (Option Core) (HasCore s i) (MeetsColon s) StandsCores core_option_fits (length s) i old mid f →
-    Gives JumpTree Jump (HasJump s f.end) (MeetsEnd s) StandsJump jump_fits (length s) f.end mid new g → label ≡ None → f.what ≡ None → g.what ≡ jumps.Fall → (u : StatementTree) → IsRest s label i u → ⊥
+    Gives (Option CoreTree) (Option Core) (HasCore s i) (MeetsColon s) StandsCores core_option_ids core_option_fits (length s) i old mid f →
+    Gives JumpTree Jump (HasJump s f.end) (MeetsEnd s) StandsJump jump_ids jump_fits (length s) f.end mid new g → label ≡ None → f.what ≡ None → g.what ≡ jumps.Fall → (u : StatementTree) → IsRest s label i u → ⊥
 lacks_rest_some s label i old mid new f g a b l c j u r =
     let p = a.only r.after_core u.core r.core (rest_core s label i u r) in
     let q = b.only r.after_jump u.jump (rest_jump s label i f.end u r p.0) (rest_meets s label i u r) in
@@ -180,6 +183,7 @@ gives_end s label at table f a g e = record {
   stands = (refl, tt, tt, refl);
   fits = refl;
   room = let o = a.order in let w = a.within in omega arith;
+  used = uses_none table [];
 }
 
 pub lacks_end : (s : List ℕ) (label : Span) (at : ℕ) (f : Read (Option Span)) → FindsEntry s label.end f → IsWholeRun Blank s f.end at → at ≢ length s → (u : StatementTree) → IsEndRest s label u → ⊥
@@ -293,6 +297,7 @@ statement_unlabelled s i old new (Some p) n a = record {
   stands = a.stands;
   fits = a.fits;
   room = a.room;
+  used = a.used;
 }
 
 -- any other label
@@ -319,6 +324,7 @@ statement_labelled s i e old new (Some p) l lt x y z a = record {
   stands = a.stands;
   fits = a.fits;
   room = let o = a.room in omega arith;
+  used = a.used;
 }
 
 -- END
@@ -343,6 +349,7 @@ statement_end s i e table (Some p) l lt x a = record {
   stands = a.stands;
   fits = a.fits;
   room = let o = a.room in omega arith;
+  used = a.used;
 }
 
 -- RETURN or FRETURN

@@ -1,6 +1,7 @@
 -- The statements of a program are read in their order.
 use Rattle.std.proofs.Common.{◌≡◌, ◌≢◌, ℕ, zero, suc, ◌+◌, ◌<◌, ◌≤◌, ◌⊎◌, ◌==◌, inl, inr, true, List, [], ◌∷◌, ◌++◌, length, take, drop, arith, refl, sym, ◌∙◌, ap, subst, Some, None, Option, slice_get, codes, is_some}
 use Rattle.std.proofs.Common.{Result, Ok, Err, IsErrAnd, IfErr, IfSome, IfNone, ◌^◌}
+use Rattle.std.proofs.lemmas.List.{append-nil, append_assoc}
 use Rattle.std.proofs.lemmas.Option.{slice_get_within}
 use Rattle.std.specs.declared.vec.Vec.{Vec}
 use Rattle.std.specs.declared.alloc.Global.{Global}
@@ -12,13 +13,13 @@ use Rattle.sno_text.specs.declared.phrase.Phrase.{Phrase}
 use Rattle.sno_text.specs.declared.statement.Statement.{Statement}
 use Rattle.sno_text.specs.Lines.{joined, extents, part, line_of}
 use Rattle.sno_text.specs.Layouts.{InOrder}
-use Rattle.sno_text.specs.Source.{Source, IsWithin, number_of, IsLabelled, IsIndex, IsStatementOf, IsWhole}
+use Rattle.sno_text.specs.Source.{program_ids, statement_ids, Source, IsWithin, number_of, IsLabelled, IsIndex, IsStatementOf, IsWhole}
 use Rattle.sno_text.specs.Outcome.{Extends}
 use Rattle.sno_text.specs.Statements.{StatementTree}
-use Rattle.sno_text.specs.Phrases.{StandsStatement, StandsProgram}
+use Rattle.sno_text.specs.Phrases.{phrase_ids, StandsStatement, StandsProgram}
 use Rattle.sno_text.specs.Programs.{HasLabelled, IsRefusedAt, none, one_more, IsProgram, IsRefusedProgram, statement, no_end}
 use Rattle.sno_text.specs.Judging.{Knows, Accepts, statement_of, IsTabled, IsReading}
-use Rattle.sno_text.proofs.Tables.{extends_none, extends_trans, length_grown, grown_of}
+use Rattle.sno_text.proofs.Tables.{uses_none, uses_both, extends_none, extends_trans, length_grown, grown_of}
 use Rattle.sno_text.proofs.Standing.{stands_cores_more, stands_jump_more}
 use Rattle.sno_text.proofs.Expressions.{whole_table}
 use Rattle.sno_text.proofs.Indexes.{place_cases, length_more}
@@ -52,6 +53,7 @@ tabled_first s at = record {
   sound = λ j st a. absurd (get_none j st a);
   labels = λ j st t a b. absurd (get_none j st a);
   index = record { sound = λ name n e. absurd (cc); complete = λ name n l. absurd (get_none l.0 l.1 l.4) };
+  used = uses_none [] [];
 }
 
 pub reading_first : (s : List ℕ) (at : ℕ) → IsReading s 0 at [] [] []
@@ -92,7 +94,7 @@ stands_grown s n old new st span t x a = record {
   entry = a.entry;
 }
 
-next_stands : (s : List ℕ) (ts : List StatementTree) (at line : ℕ) (span : Span) (old new : List Node) (sts : List Statement) (es : Entries) (p : Phrase) → IsTabled s ts at old sts es → (a : Accepts s ts span new p) →
+next_stands : (s : List ℕ) (ts : List StatementTree) (at line : ℕ) (span : Span) (old new : List Node) (sts : List Statement) (es : Entries) (p : Phrase) → IsTabled s ts at old sts es → (a : Accepts s ts span old new p) →
     slice_get (extents s) (length ts) ≡ Some span → Extends (length s) old new → line ≡ line_of s span → (j : ℕ) (st : Statement) (other : Span) (t : StatementTree) → slice_get (sts ++ statement_of p line ∷ []) j ≡ Some st →
     slice_get (extents s) j ≡ Some other → slice_get (ts ++ a.tree ∷ []) j ≡ Some t → StandsStatement s new st other t
 next_stands s ts at line span old new sts es p x a place grown is j st other t b c d = elim (place_cases sts (statement_of p line) st j b) [
@@ -109,7 +111,7 @@ next_stands s ts at line span old new sts es p x a place grown is j st other t b
   ]
 ]
 
-next_sound : (s : List ℕ) (ts : List StatementTree) (at line : ℕ) (span : Span) (old new : List Node) (sts : List Statement) (es : Entries) (p : Phrase) → IsTabled s ts at old sts es → (a : Accepts s ts span new p) →
+next_sound : (s : List ℕ) (ts : List StatementTree) (at line : ℕ) (span : Span) (old new : List Node) (sts : List Statement) (es : Entries) (p : Phrase) → IsTabled s ts at old sts es → (a : Accepts s ts span old new p) →
     Extends (length s) old new → (j : ℕ) (st : Statement) → slice_get (sts ++ statement_of p line ∷ []) j ≡ Some st → IsStatementOf (length s) (length new) st
 next_sound s ts at line span old new sts es p x a grown j st b = elim (place_cases sts (statement_of p line) st j b) [
   | inl early ↦ sound_wider (length s) (length old) (length new) st (length_grown old new (grown_of grown)) (x.sound j st early.1)
@@ -119,7 +121,7 @@ next_sound s ts at line span old new sts es p x a grown j st b = elim (place_cas
       subst (λ y. IsStatementOf (length s) (length new) y) last.1 (sound_statement (take span.end (joined s)) (length s) span.start new a.tree p line (omega arith) a.accepted.reads a.stands)
 ]
 
-next_label : (s : List ℕ) (ts : List StatementTree) (at line : ℕ) (span : Span) (old new : List Node) (sts : List Statement) (es : Entries) (p : Phrase) → IsTabled s ts at old sts es → (a : Accepts s ts span new p) →
+next_label : (s : List ℕ) (ts : List StatementTree) (at line : ℕ) (span : Span) (old new : List Node) (sts : List Statement) (es : Entries) (p : Phrase) → IsTabled s ts at old sts es → (a : Accepts s ts span old new p) →
     (j : ℕ) (st : Statement) (t : StatementTree) → slice_get (sts ++ statement_of p line ∷ []) j ≡ Some st → slice_get (ts ++ a.tree ∷ []) j ≡ Some t → st.label ≡ t.label
 next_label s ts at line span old new sts es p x a j st t b d = elim (place_cases sts (statement_of p line) st j b) [
   | inl early ↦ elim (place_cases ts a.tree t j d) [
@@ -132,7 +134,11 @@ next_label s ts at line span old new sts es p x a j st t b d = elim (place_cases
   ]
 ]
 
-tabled_next : (s : List ℕ) (ts : List StatementTree) (at line : ℕ) (span : Span) (old new : List Node) (sts more : List Statement) (es fs : Entries) (p : Phrase) → IsTabled s ts at old sts es → (a : Accepts s ts span new p) →
+ids_pushed : (sts : List Statement) (st : Statement) → program_ids (sts ++ st ∷ []) ≡ program_ids sts ++ statement_ids st
+ids_pushed [] st = append-nil (statement_ids st)
+ids_pushed (x ∷ sts) st = ap (λ ids. statement_ids x ++ ids) (ids_pushed sts st) ∙ sym (append_assoc (statement_ids x) (program_ids sts) (statement_ids st))
+
+tabled_next : (s : List ℕ) (ts : List StatementTree) (at line : ℕ) (span : Span) (old new : List Node) (sts more : List Statement) (es fs : Entries) (p : Phrase) → IsTabled s ts at old sts es → (a : Accepts s ts span old new p) →
     slice_get (extents s) (length ts) ≡ Some span → length new ≤ span.end → Extends (length s) old new → line ≡ line_of s span → more ≡ sts ++ statement_of p line ∷ [] → (IsIndex s sts es → IsIndex s more fs) →
     IsTabled s (ts ++ a.tree ∷ []) span.end new more fs
 tabled_next s ts at line span old new sts more es fs p x a place room grown is pushed index =
@@ -146,9 +152,10 @@ tabled_next s ts at line span old new sts more es fs p x a place room grown is p
       sound = λ j st b. next_sound s ts at line span old new sts es p x a grown j st (rw pushed at b);
       labels = λ j st t b d. next_label s ts at line span old new sts es p x a j st t (rw pushed at b) d;
       index = index x.index;
+      used = rw pushed (rw (ids_pushed sts (statement_of p line)) (uses_both 0 old new (program_ids sts) (phrase_ids p) x.used a.used (grown_of grown)));
     }
 
-pub reading_next : (s : List ℕ) (k at line : ℕ) (span : Span) (old new : List Node) (sts more : List Statement) (es fs : Entries) (p : Phrase) → (r : IsReading s k at old sts es) → Accepts s r.before span new p →
+pub reading_next : (s : List ℕ) (k at line : ℕ) (span : Span) (old new : List Node) (sts more : List Statement) (es fs : Entries) (p : Phrase) → (r : IsReading s k at old sts es) → Accepts s r.before span old new p →
     slice_get (extents s) k ≡ Some span → length new ≤ span.end → Extends (length s) old new → line ≡ line_of s span → more ≡ sts ++ statement_of p line ∷ [] → (IsIndex s sts es → IsIndex s more fs) →
     ((x : Span) → p.label ≡ Some x → part s x ≢ codes "END") → IsReading s (k + 1) span.end new more fs
 reading_next s k at line span old new sts more es fs p r a place room grown is pushed index other =
@@ -161,7 +168,7 @@ reading_next s k at line span old new sts more es fs p r a place room grown is p
     }
 
 -- END
-pub reading_ends : (s : List ℕ) (k at line : ℕ) (span : Span) (old new : List Node) (sts more : List Statement) (es fs : Entries) (p : Phrase) → (r : IsReading s k at old sts es) → Accepts s r.before span new p →
+pub reading_ends : (s : List ℕ) (k at line : ℕ) (span : Span) (old new : List Node) (sts more : List Statement) (es fs : Entries) (p : Phrase) → (r : IsReading s k at old sts es) → Accepts s r.before span old new p →
     slice_get (extents s) k ≡ Some span → length new ≤ span.end → Extends (length s) old new → line ≡ line_of s span → more ≡ sts ++ statement_of p line ∷ [] → (IsIndex s sts es → IsIndex s more fs) → length s ≤ 4000000 →
     (x : Span) × (p.label ≡ Some x) × (part s x ≡ codes "END") → (ts : List StatementTree) × IsProgram s ts × IsTabled s ts span.end new more fs
 reading_ends s k at line span old new sts more es fs p r a place room grown is pushed index small end =
@@ -185,6 +192,7 @@ pub tabled_program : (s : List ℕ) (ts : List StatementTree) (at : ℕ) (nodes 
 tabled_program s ts at nodes sts es p x e f = record {
   count = ap length f ∙ x.count;
   each = λ k st span t a b c. rw e (x.stands k st span t (rw f at a) b c);
+  used = rw (e, f) x.used;
 }
 
 pub tabled_whole : (s text : List ℕ) (ts : List StatementTree) (at : ℕ) (nodes : List Node) (sts : List Statement) (es : Entries) → IsProgram s ts → IsTabled s ts at nodes sts es → text ≡ s → at ≤ 4000000 → IsWhole text nodes sts es

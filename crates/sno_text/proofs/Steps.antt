@@ -15,7 +15,7 @@ use Rattle.sno_value.specs.declared.ids.ExprId.{ExprId}
 use Rattle.sno_text.specs.declared.table.Found.{Found}
 use Rattle.sno_text.specs.declared.table.FoundList.{FoundList}
 use Rattle.sno_text.specs.Bytes.{byte, is_unary, is_letter, is_opening, is_closing, IsWholeRun}
-use Rattle.sno_text.specs.Trees.{unary_operator, Tree, Literal, Unary, Binary, Item, One, And, fits, StandsFor}
+use Rattle.sno_text.specs.Trees.{unary_operator, Tree, Literal, Unary, Binary, Item, One, And, fits, StandsFor, operands}
 use Rattle.sno_text.specs.Grammar.{level_of, applied, IsPair, IsName, Part, Level, Element, Primary, Argument, Arguments}
 use Rattle.std.specs.List.{AllByRecursion}
 use Rattle.sno_text.specs.Source.{IsWithin}
@@ -28,7 +28,7 @@ use Rattle.sno_text.proofs.Runs.{in_text}
 use Rattle.sno_text.proofs.Joints.{link_unique}
 use Rattle.sno_text.proofs.Lists.{finds_empty, finds_given, refuses_given, lists_first, refuses_lists, lists_next, refuses_next, finds_lists}
 use Rattle.sno_text.proofs.Primaries.{finds_apply, refuses_apply, refuses_unpaired}
-use Rattle.sno_text.proofs.Tables.{grown_push, grown_of, extends_none, extends_push, extends_trans, holds_pushed, stands_more, stands_below, stands_id_below, length_pushed, length_grown, letter_is_name_byte, run_some}
+use Rattle.sno_text.proofs.Tables.{grown_push, grown_of, extends_none, extends_push, extends_trans, holds_pushed, stands_more, stands_below, stands_id_below, length_pushed, length_grown, letter_is_name_byte, run_some, uses_none, uses_both, uses_pushed}
 
 -- level 7 is an element
 pub level_from_element : (s : List ℕ) (l i : ℕ) (old new : List Node) (o : Option Found) → l ≡ 7 → Outcome s Element (Stops s 7) i old new o → Outcome s (Level l) (Stops s l) i old new o
@@ -41,6 +41,7 @@ level_from_element s l i old new (Some x) e f = record {
   some = f.some;
   within = f.within;
   room = f.room;
+  used = f.used;
 }
 
 pub growing_first : (s : List ℕ) (l i : ℕ) (old new : List Node) (f : Found) → l ≢ 7 → l ≤ 7 → Outcome s (Level (l + 1)) (Stops s (l + 1)) i old new (Some f) → Growing s l i old new f
@@ -52,6 +53,7 @@ growing_first s l i old new f h b g = record {
   some = g.some;
   within = g.within;
   room = g.room;
+  used = g.used;
 }
 
 pub refused_first : (s : List ℕ) (l i : ℕ) → l ≢ 7 → l ≤ 7 → Refuses s (Level (l + 1)) (Stops s (l + 1)) i → Refuses s (Level l) (Stops s l) i
@@ -95,6 +97,7 @@ growing_left s l i k old mid last new o f g r h e a link order b x p q m n = rec
   some = let v = a.some in let w = b.some in omega arith;
   within = let v = b.within in omega arith;
   room = let v = a.room in let w = b.room in omega (arith, length_pushed last new _ p);
+  used = uses_pushed (length old) last new _ r.id (uses_both (length old) mid last (f.id ∷ []) (g.id ∷ []) a.used b.used (grown_of x)) p q;
 }
 
 pub refused_left : (s : List ℕ) (l i k : ℕ) (old mid : List Node) (o : Operator) (f : Found) → l ≢ 5 → level_of o ≡ l → Growing s l i old mid f → Links s o f.end k →
@@ -116,6 +119,7 @@ gives_right s l i k old mid last new o f g r h e a link order b x p q m n =
       some = let v = a.some in let w = b.some in omega arith;
       within = let v = b.within in omega arith;
       room = let v = a.room in let w = b.room in omega (arith, length_pushed last new _ p);
+      used = uses_pushed (length old) last new _ r.id (uses_both (length old) mid last (f.id ∷ []) (g.id ∷ []) a.used b.used (grown_of x)) p q;
     }
 
 pub refused_right : (s : List ℕ) (l i k : ℕ) (old mid : List Node) (o : Operator) (f : Found) → l ≡ 5 → level_of o ≡ l → Growing s l i old mid f → Links s o f.end k →
@@ -134,6 +138,7 @@ gives_done s l i old new f h a = record {
   some = a.some;
   within = a.within;
   room = a.room;
+  used = a.used;
 }
 
 pub gives_over : (s : List ℕ) (l i : ℕ) (old new : List Node) (f : Found) → NoLink s f.end → Growing s l i old new f → Outcome s (Level l) (Stops s l) i old new (Some f)
@@ -151,6 +156,7 @@ gives_plain s i k old new f h a = record {
   some = a.some;
   within = a.within;
   room = a.room;
+  used = a.used;
 }
 
 -- one more sign before an element
@@ -164,6 +170,7 @@ gives_signed s i o old mid new f r h d a p q m n = record {
   some = let v = a.some in omega arith;
   within = let v = a.within in omega arith;
   room = let v = a.room in omega (arith, length_pushed mid new _ p);
+  used = uses_pushed (length old) mid new _ r.id a.used p q;
 }
 
 -- arguments
@@ -177,6 +184,7 @@ gives_empty s i k old new id r h w p q = record {
   order = r.run.order;
   within = w;
   room = let o = r.run.order in omega (arith, length_pushed old new _ p);
+  used = uses_pushed (length old) old new _ id (uses_none old []) p q;
 }
 
 no_closing : (s : List ℕ) (k : ℕ) → byte s k ≢ 44 → is_closing (byte s k) ≡ false → Closes s k → ⊥
@@ -193,6 +201,7 @@ gives_given s i k l old new f r h e a t w = record {
   order = let x = r.run.order in let y = a.some in let z = t.run.order in omega arith;
   within = w;
   room = let x = r.run.order in let y = a.room in let z = t.run.order in omega arith;
+  used = a.used;
 }
 
 pub refused_given : (s : List ℕ) (i k : ℕ) → IsWholeRun Blank s i k → byte s k ≢ 44 → is_closing (byte s k) ≡ false → Refuses s (Level 0) (Stops s 0) k → Refuses s Argument (Closes s) i
@@ -207,6 +216,7 @@ listing_first s i old new ids f a e = record {
   order = a.order;
   within = a.within;
   room = a.room;
+  used = rw e a.used;
 }
 
 pub listing_next : {n : ℕ} (s : List ℕ) (i e : ℕ) (old mid new : List Node) (ids more : List ExprId) (b c : Bool) (f : Found) → Listing s i old mid ids e b → byte s e ≡ 44 → ArgumentOutcome s (e + 1) mid new (Some f) → Extends n mid new →
@@ -219,6 +229,7 @@ listing_next s i e old mid new ids more b c f a h g x p q = record {
   order = let u = a.order in let v = g.order in omega arith;
   within = g.within;
   room = let u = a.room in let v = g.room in omega arith;
+  used = rw p (uses_both (length old) mid new ids (f.id ∷ []) a.used g.used (grown_of x));
 }
 
 pub refused_next : (s : List ℕ) (i e : ℕ) (old mid : List Node) (ids : List ExprId) (b : Bool) → Listing s i old mid ids e b → byte s e ≡ 44 → Refuses s Argument (Closes s) (e + 1) → Refuses s Arguments (Shuts s) i
@@ -233,6 +244,7 @@ gives_list s i e old new ids b a h = record {
   order = a.order;
   within = a.within;
   room = a.room;
+  used = a.used;
 }
 
 applied_fits : (b i k : ℕ) (t : Tree) → fits (applied b i k t) ≡ fits t
@@ -252,9 +264,9 @@ stands_item last new b i k t ids id e st p q =
     rw (not_call b i k t e) (id, ids, refl, holds_pushed last new _ id p q, rw q (stands_below last t ids.items st), stands_more last new t ids.items (grown_push last new _ p) st)
 
 gives_applied : (s : List ℕ) (i k : ℕ) (old last new : List Node) (node : Node) (id : ExprId) (e : ℕ) (b : Bool) (ids : List ExprId) → is_letter (byte s i) ≡ true → IsWholeRun NameByte s i k → IsPair (byte s k) (byte s e) → e < length s →
-    (a : GivesList s (k + 1) old last ids e b) → StandsFor new (applied (byte s k) i k a.tree) (id ∷ []) → new ≡ last ++ node ∷ [] →
+    (a : GivesList s (k + 1) old last ids e b) → StandsFor new (applied (byte s k) i k a.tree) (id ∷ []) → new ≡ last ++ node ∷ [] → id.0 ≡ length last → operands node ≡ ids →
     Outcome s Primary (Stops s 7) i old new (Some (record { id = id; end = e + 1; fits = b }))
-gives_applied s i k old last new node id e b ids h r pair w a st p =
+gives_applied s i k old last new node id e b ids h r pair w a st p q o =
     let name : IsName s i k = record { letter = h; rest = r } in
     record {
       tree = applied (byte s k) i k a.tree;
@@ -264,6 +276,7 @@ gives_applied s i k old last new node id e b ids h r pair w a st p =
       some = let u = run_some NameByte s i k r (letter_is_name_byte _ h) in let v = a.order in omega arith;
       within = omega arith;
       room = let u = run_some NameByte s i k r (letter_is_name_byte _ h) in let v = a.room in omega (arith, length_pushed last new _ p);
+      used = uses_pushed (length old) last new node id (rw o a.used) p q;
     }
 
 is_call : (b : ℕ) (span : Span) (ids : Vec ExprId Global) → b ≡ 40 → applied_node b span ids ≡ nodes.Call span ids
@@ -283,11 +296,17 @@ stands_applied last new b c i k t ids id g st p q =
       | inr h ↦ stands_item last new b i k t ids id h st (p ∙ ap (λ x. last ++ x ∷ []) (is_item c _ ids (λ e. h (sym g ∙ e)))) q
     ]
 
+operands_applied : (b : ℕ) (span : Span) (ids : Vec ExprId Global) → operands (applied_node b span ids) ≡ ids.items
+operands_applied b span ids = elim (cases_40 b) [
+  | inl e ↦ ap operands (is_call b span ids e)
+  | inr h ↦ ap operands (is_item b span ids h)
+]
+
 pub gives_call : (s : List ℕ) (i k c : ℕ) (old last new : List Node) (id : ExprId) (f : FoundList) → is_letter (byte s i) ≡ true → IsWholeRun NameByte s i k → c ≡ byte s k → IsPair (byte s k) (byte s f.end) → f.end < length s →
     ListOutcome s (k + 1) old last (Some f) → new ≡ last ++ applied_node c (record { start = i; end = k }) f.ids ∷ [] → id.0 ≡ length last →
     Outcome s Primary (Stops s 7) i old new (Some (record { id = id; end = f.end + 1; fits = f.fits }))
 gives_call s i k c old last new id f h r g pair w a p q =
-    gives_applied s i k old last new _ id f.end f.fits f.ids.items h r pair w a (stands_applied last new (byte s k) c i k a.tree f.ids id g a.stands p q) p
+    gives_applied s i k old last new _ id f.end f.fits f.ids.items h r pair w a (stands_applied last new (byte s k) c i k a.tree f.ids id g a.stands p q) p q (operands_applied c _ f.ids)
 
 pub opening_within : (s : List ℕ) (k : ℕ) → is_opening (byte s k) ≡ true → k < length s
 opening_within s k h = in_text Opening s k h

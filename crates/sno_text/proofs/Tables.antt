@@ -11,7 +11,7 @@ use Rattle.sno_text.specs.declared.node.Node.TheVariants as nodes
 use Rattle.sno_value.specs.declared.ids.ExprId.{ExprId}
 use Rattle.sno_text.specs.declared.table.Found.{Found}
 use Rattle.sno_text.specs.Bytes.{byte, in_class, is_letter, is_digit, is_name_byte, is_opening, IsWholeRun, IsLiteralEnd, NoLiteralEnd}
-use Rattle.sno_text.specs.Trees.{Tree, Variable, Integer, Literal, Keyword, Unary, Binary, Call, Item, One, And, fits, Holds, StandsFor}
+use Rattle.sno_text.specs.Trees.{Tree, Variable, Integer, Literal, Keyword, Unary, Binary, Call, Item, One, And, fits, Holds, StandsFor, operands, IsOneOf, IsPart, whole, operand, Uses}
 use Rattle.sno_text.specs.Grammar.{decimal, IsLiteral, Level, Primary}
 use Rattle.sno_text.specs.Links.{Stops, Finds, Refuses}
 use Rattle.sno_text.specs.Outcome.{IsSound, Grown, Extends, extended, Outcome}
@@ -128,10 +128,63 @@ stands_below table (And t u) ids (before, id, e, f, g) = rw e (append_below tabl
 pub stands_id_below : (table : List Node) (t : Tree) (id : ExprId) → StandsFor table t (id ∷ []) → id.0 < length table
 stands_id_below table t id h = (stands_below table t (id ∷ []) h).0
 
+-- a part stays one as the table grows
+part_more : (old new : List Node) (k : ℕ) (ids : List ExprId) → Grown old new → IsPart old k ids → IsPart new k ids
+part_more old new k ids x (whole id i e) = whole id i e
+part_more old new k ids x (operand id node i h p) = operand id node i (holds_more old new id node x h) (part_more old new k (operands node) x p)
+
+-- and among more numbers
+one_before : (id : ExprId) (xs ys : List ExprId) → IsOneOf id xs → IsOneOf id (xs ++ ys)
+one_before id [] ys h = absurd h
+one_before id (x ∷ xs) ys (inl e) = inl e
+one_before id (x ∷ xs) ys (inr h) = inr (one_before id xs ys h)
+
+one_behind : (id : ExprId) (xs ys : List ExprId) → IsOneOf id ys → IsOneOf id (xs ++ ys)
+one_behind id [] ys h = h
+one_behind id (x ∷ xs) ys h = inr (one_behind id xs ys h)
+
+part_of : (table : List Node) (k : ℕ) (xs ys : List ExprId) → ((id : ExprId) → IsOneOf id xs → IsOneOf id ys) → IsPart table k xs → IsPart table k ys
+part_of table k xs ys f (whole id i e) = whole id (f id i) e
+part_of table k xs ys f (operand id node i h p) = operand id node (f id i) h p
+
+-- no node more
+pub uses_none : (table : List Node) (ids : List ExprId) → Uses table (length table) ids
+uses_none table ids = record { each = λ k low high. absurd (omega arith) }
+
+-- the nodes of one part, and behind them those of another
+pub uses_both : (n : ℕ) (mid new : List Node) (xs ys : List ExprId) → Uses mid n xs → Uses new (length mid) ys → Grown mid new → Uses new n (xs ++ ys)
+uses_both n mid new xs ys a b x = record {
+  each = λ k low high. elim (cases_lt k (length mid)) [
+    | inl lt ↦ part_of new k xs (xs ++ ys) (λ id i. one_before id xs ys i) (part_more mid new k xs x (a.each k low lt))
+    | inr ge ↦ part_of new k ys (xs ++ ys) (λ id i. one_behind id xs ys i) (b.each k ge high)
+  ];
+}
+
+-- the same numbers in another order
+one_split : (id : ExprId) (xs ys : List ExprId) → IsOneOf id (xs ++ ys) → IsOneOf id xs ⊎ IsOneOf id ys
+one_split id [] ys h = inr h
+one_split id (x ∷ xs) ys (inl e) = inl (inl e)
+one_split id (x ∷ xs) ys (inr h) = elim (one_split id xs ys h) [ inl i ↦ inl (inr i) | inr i ↦ inr i ]
+
+one_swapped : (id : ExprId) (xs ys : List ExprId) → IsOneOf id (xs ++ ys) → IsOneOf id (ys ++ xs)
+one_swapped id xs ys h = elim (one_split id xs ys h) [ inl i ↦ one_behind id ys xs i | inr i ↦ one_before id ys xs i ]
+
+pub uses_swapped : (n : ℕ) (table : List Node) (xs ys : List ExprId) → Uses table n (xs ++ ys) → Uses table n (ys ++ xs)
+uses_swapped n table xs ys a = record { each = λ k low high. part_of table k (xs ++ ys) (ys ++ xs) (λ id i. one_swapped id xs ys i) (a.each k low high) }
+
+-- the node of operands whose nodes were used
+pub uses_pushed : (n : ℕ) (last new : List Node) (node : Node) (id : ExprId) → Uses last n (operands node) → new ≡ last ++ node ∷ [] → id.0 ≡ length last → Uses new n (id ∷ [])
+uses_pushed n last new node id a p q = record {
+  each = λ k low high. elim (cases_lt k (length last)) [
+    | inl lt ↦ operand id node (inl refl) (holds_pushed last new node id p q) (part_more last new k (operands node) (grown_push last new node p) (a.each k low lt))
+    | inr ge ↦ whole id (inl refl) (let l = length_pushed last new node p in omega arith)
+  ];
+}
+
 -- a token
 gives_token : (s : List ℕ) (i e : ℕ) (old new : List Node) (id : ExprId) (node : Node) (t : Tree) (f : Bool) → Finds s Primary (Stops s 7) i e t → StandsFor new t (id ∷ []) → f ≡ fits t →
-    i < e → e ≤ length s → new ≡ old ++ node ∷ [] → Outcome s Primary (Stops s 7) i old new (Some (record { id = id; end = e; fits = f }))
-gives_token s i e old new id node t f d st g o w p = record {
+    i < e → e ≤ length s → new ≡ old ++ node ∷ [] → id.0 ≡ length old → Outcome s Primary (Stops s 7) i old new (Some (record { id = id; end = e; fits = f }))
+gives_token s i e old new id node t f d st g o w p q = record {
   tree = t;
   finds = d;
   stands = st;
@@ -139,13 +192,14 @@ gives_token s i e old new id node t f d st g o w p = record {
   some = o;
   within = w;
   room = omega (arith, length_pushed old new node p);
+  used = uses_pushed (length old) old new node id (uses_none old (operands node)) p q;
 }
 
 pub gives_keyword : (s : List ℕ) (i e : ℕ) (old new : List Node) (id : ExprId) → byte s i ≡ 38 → is_letter (byte s (i + 1)) ≡ true → IsWholeRun NameByte s (i + 1) e → e ≤ length s →
     new ≡ old ++ nodes.Keyword (record { start = i + 1; end = e }) ∷ [] → id.0 ≡ length old → Outcome s Primary (Stops s 7) i old new (Some (record { id = id; end = e; fits = true }))
 gives_keyword s i e old new id h l r w p q =
     gives_token s i e old new id _ (Keyword (i + 1) e) true (finds_keyword s i e h (record { letter = l; rest = r })) (id, refl, holds_pushed old new _ id p q) refl
-    (let o = r.run.order in omega arith) w p
+    (let o = r.run.order in omega arith) w p q
 
 pub letter_is_name_byte : (b : ℕ) → is_letter b ≡ true → is_name_byte b ≡ true
 unfolding is_name_byte
@@ -162,7 +216,7 @@ pub gives_variable : (s : List ℕ) (i e : ℕ) (old new : List Node) (id : Expr
     new ≡ old ++ nodes.Variable (record { start = i; end = e }) ∷ [] → id.0 ≡ length old → Outcome s Primary (Stops s 7) i old new (Some (record { id = id; end = e; fits = true }))
 gives_variable s i e old new id l r h w p q =
     gives_token s i e old new id _ (Variable i e) true (finds_variable s i e (record { letter = l; rest = r }) h) (id, refl, holds_pushed old new _ id p q) refl
-    (run_some NameByte s i e r (letter_is_name_byte _ l)) w p
+    (run_some NameByte s i e r (letter_is_name_byte _ l)) w p q
 
 quote_not_zero : (b : ℕ) → (b ≡ 39) ⊎ (b ≡ 34) → b ≡ 0 → ⊥
 quote_not_zero b (inl e) z = omega arith
@@ -184,7 +238,7 @@ gives_literal s i at b old new id h f n p q =
     let l = next_literal s i at (at + 1) b h f n refl in
     let d : Finds s Primary (Stops s 7) i (at + 1) (Literal (i + 1) at) = subst (λ x. Finds s Primary (Stops s 7) i (at + 1) (Literal (i + 1) x)) e (finds_literal s i (at + 1) l) in
     gives_token s i (at + 1) old new id _ (Literal (i + 1) at) true d (id, refl, holds_pushed old new _ id p q) refl
-    (let o = l.room in omega arith) (let w = n.within in omega arith) p
+    (let o = l.room in omega arith) (let w = n.within in omega arith) p q
 
 literal_ends : (s : List ℕ) (i e b : ℕ) → b ≡ byte s i → IsLiteral s i e → e - 1 < length s → IsLiteralEnd s b (i + 1) (e - 1)
 literal_ends s i e b f l lt = let o = l.room in record {
@@ -208,7 +262,7 @@ pub gives_integer : (s : List ℕ) (i e n : ℕ) (f : Bool) (old new : List Node
 gives_integer s i e n f old new id h r w d g p q =
     let some = run_some Digit s i e r h in
     gives_token s i e old new id _ (Integer n) f (rw d (finds_integer s i e (record { some = some; digits = r }))) (id, refl, holds_pushed old new _ id p q) g
-    some w p
+    some w p q
 
 pub gives_group : (s : List ℕ) (i k l : ℕ) (old new : List Node) (f : Found) → byte s i ≡ 40 → IsWholeRun Blank s (i + 1) k → Outcome s (Level 0) (Stops s 0) k old new (Some f) →
     IsWholeRun Blank s f.end l → byte s l ≡ 41 → l < length s → Outcome s Primary (Stops s 7) i old new (Some (record { id = f.id; end = l + 1; fits = f.fits }))
@@ -220,6 +274,7 @@ gives_group s i k l old new f h g d r c w = record {
   some = let a = g.run.order in let b = d.some in let o = r.run.order in omega arith;
   within = omega arith;
   room = let a = g.run.order in let b = d.room in let o = r.run.order in omega arith;
+  used = d.used;
 }
 
 pub refused_unclosed : (s : List ℕ) (i k l : ℕ) (old new : List Node) (f : Found) → byte s i ≡ 40 → IsWholeRun Blank s (i + 1) k → Outcome s (Level 0) (Stops s 0) k old new (Some f) →

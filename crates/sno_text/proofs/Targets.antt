@@ -1,5 +1,5 @@
 -- Gotos and their targets are found exactly.
-use Rattle.std.proofs.Common.{◌≡◌, ◌≢◌, ℕ, ◌+◌, ◌<◌, ◌≤◌, ◌⊎◌, ◌||◌, inl, inr, true, false, List, length, arith, refl, sym, ◌∙◌, ap, subst, Some, None, Option}
+use Rattle.std.proofs.Common.{◌≡◌, ◌≢◌, ℕ, ◌+◌, ◌<◌, ◌≤◌, ◌⊎◌, ◌||◌, inl, inr, true, false, List, [], length, arith, refl, sym, ◌∙◌, ap, subst, Some, None, Option}
 use Rattle.std.proofs.lemmas.Bool.Decides.{nat_tests}
 use Rattle.std.proofs.lemmas.List.{get_or_past}
 use Rattle.sno_text.specs.declared.bytes.Class.TheVariants.{Blank, NameByte}
@@ -15,10 +15,11 @@ use Rattle.sno_text.specs.Grammar.{IsGap, Element, Reads}
 use Rattle.sno_text.specs.Links.{Stops, Refuses}
 use Rattle.sno_text.specs.Outcome.{Outcome as Found_outcome}
 use Rattle.sno_text.specs.Statements.{TargetTree, Label, Computed, IsLabel, IsPlace, label, computed, IsTarget, HasOther, target_fits, target_option_fits}
+use Rattle.sno_text.specs.Source.{target_ids, target_option_ids}
 use Rattle.sno_text.specs.Pieces.{MeetsEnd, Anywhere, Gives, Lacks, StandsTarget, StandsTargets}
 use Rattle.sno_text.proofs.Runs.{run_end_unique}
 use Rattle.sno_text.proofs.Primaries.{gap_stops, end_byte_bracket}
-use Rattle.sno_text.proofs.Tables.{run_some, grown_of, extends_same, extends_trans, stands_more}
+use Rattle.sno_text.proofs.Tables.{run_some, grown_of, extends_same, extends_trans, stands_more, uses_none}
 use Rattle.sno_text.proofs.Stops.{gap_whole}
 
 label_dollar : (b : ℕ) → (is_letter b || is_digit b) ≡ true → b ≡ 36 → ⊥
@@ -39,7 +40,7 @@ label_only s i e k u l (label m f) = let g : k ≡ e = run_end_unique NameByte s
 label_only s i e k u l (computed h r f) = absurd (label_dollar _ l.first h)
 
 pub gives_label : (s : List ℕ) (i e : ℕ) (old : List Node) (span : Span) → IsLabel s i e → span.start ≡ i → span.end ≡ e → i < e → e ≤ length s →
-    Gives TargetTree Target (IsPlace s i) (Stops s 7) StandsTarget target_fits (length s) i old old (record { what = targets.Label span; end = e; fits = true })
+    Gives TargetTree Target (IsPlace s i) (Stops s 7) StandsTarget target_ids target_fits (length s) i old old (record { what = targets.Label span; end = e; fits = true })
 gives_label s i e old span l from to some within = record {
   tree = Label (record { start = i; end = e });
   reads = label l refl;
@@ -49,6 +50,7 @@ gives_label s i e old span l from to some within = record {
   order = omega arith;
   within = within;
   room = omega arith;
+  used = uses_none old [];
 }
 
 place_computed : (s : List ℕ) (i k e : ℕ) (u : TargetTree) (t : Tree) → byte s i ≡ 36 → ((k : ℕ) (u : Tree) → Reads s Element (i + 1) k u → Stops s 7 k → (k ≡ e) × (u ≡ t)) → IsPlace s i k u → Stops s 7 k → (k ≡ e) × (u ≡ Computed t)
@@ -56,7 +58,7 @@ place_computed s i k e u t h only (label l f) stops = absurd (label_dollar _ l.f
 place_computed s i k e u t h only (computed {u = v} g r f) stops = let q = only k v r stops in (q.0, f ∙ ap Computed q.1)
 
 pub gives_computed : (s : List ℕ) (i : ℕ) (old new : List Node) (f : Found) → byte s i ≡ 36 → Found_outcome s Element (Stops s 7) (i + 1) old new (Some f) →
-    Gives TargetTree Target (IsPlace s i) (Stops s 7) StandsTarget target_fits (length s) i old new (record { what = targets.Computed f.id; end = f.end; fits = f.fits })
+    Gives TargetTree Target (IsPlace s i) (Stops s 7) StandsTarget target_ids target_fits (length s) i old new (record { what = targets.Computed f.id; end = f.end; fits = f.fits })
 gives_computed s i old new f h a = record {
   tree = Computed a.tree;
   reads = computed h a.finds.reads refl;
@@ -66,6 +68,7 @@ gives_computed s i old new f h a = record {
   order = let v = a.some in omega arith;
   within = a.within;
   room = let v = a.room in omega arith;
+  used = a.used;
 }
 
 computed_none : (s : List ℕ) (i k : ℕ) (u : TargetTree) → byte s i ≡ 36 → Refuses s Element (Stops s 7) (i + 1) → IsPlace s i k u → Stops s 7 k → ⊥
@@ -100,14 +103,14 @@ target_last : (s : List ℕ) (i j m l : ℕ) (u : TargetTree) (t : IsTarget s i 
 target_last s i j m l u t e g = run_end_unique Blank s m t.last l (subst (λ x. IsWholeRun Blank s x t.last) e (gap_whole s t.to t.last t.after (end_byte_bracket _ t.closing).no_blank)) g
 
 target_only : (s : List ℕ) (i k l : ℕ) (old new : List Node) (f : Read Target) → IsWholeRun Blank s (i + 1) k →
-    (a : Gives TargetTree Target (IsPlace s k) (Stops s 7) StandsTarget target_fits (length s) k old new f) → IsWholeRun Blank s f.end l → (j : ℕ) (u : TargetTree) → IsTarget s i j u → (j ≡ l + 1) × (u ≡ a.tree)
+    (a : Gives TargetTree Target (IsPlace s k) (Stops s 7) StandsTarget target_ids target_fits (length s) k old new f) → IsWholeRun Blank s f.end l → (j : ℕ) (u : TargetTree) → IsTarget s i j u → (j ≡ l + 1) × (u ≡ a.tree)
 target_only s i k l old new f g a h j u t =
     let q = a.only t.to u (target_place s i j k u t g) (target_stops t) in
     (t.end ∙ ap (λ x. x + 1) (target_last s i j f.end l u t q.0 h), q.1)
 
 pub gives_target : (s : List ℕ) (i k l : ℕ) (old new : List Node) (f : Read Target) → byte s i ≡ 40 → IsWholeRun Blank s (i + 1) k →
-    Gives TargetTree Target (IsPlace s k) (Stops s 7) StandsTarget target_fits (length s) k old new f → IsWholeRun Blank s f.end l → byte s l ≡ 41 → l < length s →
-    Gives TargetTree Target (IsTarget s i) Anywhere StandsTarget target_fits (length s) i old new (record { what = f.what; end = l + 1; fits = f.fits })
+    Gives TargetTree Target (IsPlace s k) (Stops s 7) StandsTarget target_ids target_fits (length s) k old new f → IsWholeRun Blank s f.end l → byte s l ≡ 41 → l < length s →
+    Gives TargetTree Target (IsTarget s i) Anywhere StandsTarget target_ids target_fits (length s) i old new (record { what = f.what; end = l + 1; fits = f.fits })
 gives_target s i k l old new f o g a h c w = record {
   tree = a.tree;
   reads = record { from = k; to = f.end; last = l; opening = o; before = g.run; place = a.reads; after = h.run; closing = c; end = refl };
@@ -117,6 +120,7 @@ gives_target s i k l old new f o g a h c w = record {
   order = let v = g.run.order in let x = a.order in let y = h.run.order in omega arith;
   within = omega arith;
   room = let v = g.run.order in let x = a.room in let y = h.run.order in omega arith;
+  used = a.used;
 }
 
 pub lacks_opening : (s : List ℕ) (i : ℕ) → byte s i ≢ 40 → Lacks TargetTree (IsTarget s i) Anywhere
@@ -126,7 +130,7 @@ pub lacks_place : (s : List ℕ) (i k : ℕ) → IsWholeRun Blank s (i + 1) k �
 lacks_place s i k g f = record { none = λ j u t stops. f.none t.to u (target_place s i j k u t g) (target_stops t) }
 
 pub lacks_closing : (s : List ℕ) (i k l : ℕ) (old new : List Node) (f : Read Target) → IsWholeRun Blank s (i + 1) k →
-    Gives TargetTree Target (IsPlace s k) (Stops s 7) StandsTarget target_fits (length s) k old new f → IsWholeRun Blank s f.end l → byte s l ≢ 41 → Lacks TargetTree (IsTarget s i) Anywhere
+    Gives TargetTree Target (IsPlace s k) (Stops s 7) StandsTarget target_ids target_fits (length s) k old new f → IsWholeRun Blank s f.end l → byte s l ≢ 41 → Lacks TargetTree (IsTarget s i) Anywhere
 lacks_closing s i k l old new f g a h never = record {
   none = λ j u t stops.
       let q = a.only t.to u (target_place s i j k u t g) (target_stops t) in
@@ -152,7 +156,7 @@ no_other s letter i at k None h g n e = (e, refl)
 no_other s letter i at k (Some t) h g n (m, b, e, r) = absurd (n (subst (λ x. byte s x ≡ letter) (other_at s letter i at m h g b e) e))
 
 pub gives_no_other : (s : List ℕ) (letter i at : ℕ) (old : List Node) → (letter ≡ 70) ⊎ (letter ≡ 83) → IsWholeRun Blank s i at → byte s at ≢ letter → i ≤ length s →
-    Gives (Option TargetTree) (Option Target) (HasOther s letter i) (MeetsEnd s) StandsTargets target_option_fits (length s) i old old (record { what = None; end = i; fits = true })
+    Gives (Option TargetTree) (Option Target) (HasOther s letter i) (MeetsEnd s) StandsTargets target_option_ids target_option_fits (length s) i old old (record { what = None; end = i; fits = true })
 gives_no_other s letter i at old h g n w = record {
   tree = None;
   reads = refl;
@@ -162,6 +166,7 @@ gives_no_other s letter i at old h g n w = record {
   order = omega arith;
   within = w;
   room = omega arith;
+  used = uses_none old [];
 }
 
 end_not_letter : (s : List ℕ) (letter i at : ℕ) → (letter ≡ 70) ⊎ (letter ≡ 83) → IsWholeRun Blank s i at → byte s at ≡ letter → MeetsEnd s i → ⊥
@@ -177,8 +182,8 @@ some_other s letter i at k e (Some v) t h g b only (m, d, c, r) stops =
     let q = only k v (subst (λ x. IsTarget s (x + 1) k v) (other_at s letter i at m h g d c) r) in (q.0, ap Some q.1)
 
 pub gives_other : (s : List ℕ) (letter i at : ℕ) (old new : List Node) (f : Read Target) → (letter ≡ 70) ⊎ (letter ≡ 83) → IsWholeRun Blank s i at → byte s at ≡ letter →
-    Gives TargetTree Target (IsTarget s (at + 1)) Anywhere StandsTarget target_fits (length s) (at + 1) old new f →
-    Gives (Option TargetTree) (Option Target) (HasOther s letter i) (MeetsEnd s) StandsTargets target_option_fits (length s) i old new (record { what = Some f.what; end = f.end; fits = f.fits })
+    Gives TargetTree Target (IsTarget s (at + 1)) Anywhere StandsTarget target_ids target_fits (length s) (at + 1) old new f →
+    Gives (Option TargetTree) (Option Target) (HasOther s letter i) (MeetsEnd s) StandsTargets target_option_ids target_option_fits (length s) i old new (record { what = Some f.what; end = f.end; fits = f.fits })
 gives_other s letter i at old new f h g b a = record {
   tree = Some a.tree;
   reads = (at, g.run, b, a.reads);
@@ -188,6 +193,7 @@ gives_other s letter i at old new f h g b a = record {
   order = let v = g.run.order in let x = a.order in omega arith;
   within = a.within;
   room = let v = g.run.order in let x = a.room in omega arith;
+  used = a.used;
 }
 
 other_none : (s : List ℕ) (letter i at k : ℕ) (u : Option TargetTree) → (letter ≡ 70) ⊎ (letter ≡ 83) → IsWholeRun Blank s i at → byte s at ≡ letter →

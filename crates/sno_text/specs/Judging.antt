@@ -11,9 +11,10 @@ use Rattle.sno_text.specs.declared.statement.Statement.{Statement}
 use Rattle.sno_text.specs.Refusals.{HasOpenLiteral}
 use Rattle.sno_text.specs.Outcome.{Extends}
 use Rattle.sno_text.specs.Lines.{extents, part}
-use Rattle.sno_text.specs.Source.{number_of, IsIndex, IsStatementOf}
+use Rattle.sno_text.specs.Trees.{Uses}
+use Rattle.sno_text.specs.Source.{program_ids, number_of, IsIndex, IsStatementOf}
 use Rattle.sno_text.specs.Statements.{StatementTree}
-use Rattle.sno_text.specs.Phrases.{StandsPhrase, StandsStatement}
+use Rattle.sno_text.specs.Phrases.{phrase_ids, StandsPhrase, StandsStatement}
 use Rattle.sno_text.specs.Programs.{Row, HasLabelled, IsAcceptedAt, Begins, IsTooLargeBytes}
 
 -- What is known of the statements before one: how many there are, and their labels.
@@ -36,11 +37,12 @@ IsLabelRefused s entries p line x =
     ⊎ (((span : Span) → p.label ≡ Some span → number_of entries (part s span) ≡ None)
     × (span : Span) × (p.entry ≡ Some span) × (part s span ≢ codes "END") × (number_of entries (part s span) ≡ None) × (x ≡ Syntax line 4))
 
--- It is accepted, and was read.
-pub record Accepts (s : List ℕ) (before : List StatementTree) (span : Span) (nodes : List Node) (p : Phrase) : Type 0 where
+-- It is accepted, and was read; the nodes that joined the table are parts of it.
+pub record Accepts (s : List ℕ) (before : List StatementTree) (span : Span) (old nodes : List Node) (p : Phrase) : Type 0 where
   pub tree : StatementTree
   pub accepted : IsAcceptedAt s before span tree
   pub stands : StandsPhrase nodes p tree
+  pub used : Uses nodes (length old) (phrase_ids p)
 
 abbrev pub statement_of : Phrase → ℕ → Statement
 statement_of p line = record { line = line; label = p.label; core = p.core; jump = p.jump; entry = p.entry }
@@ -54,6 +56,7 @@ pub record IsTabled (s : List ℕ) (ts : List StatementTree) (at : ℕ) (nodes :
   pub sound : (j : ℕ) (st : Statement) → slice_get statements j ≡ Some st → IsStatementOf (length s) (length nodes) st
   pub labels : (j : ℕ) (st : Statement) (t : StatementTree) → slice_get statements j ≡ Some st → slice_get ts j ≡ Some t → st.label ≡ t.label
   pub index : IsIndex s statements entries
+  pub used : Uses nodes 0 (program_ids statements)
 
 -- The first k statements of the text were read, none of them END.
 pub record IsReading (s : List ℕ) (k at : ℕ) (nodes : List Node) (statements : List Statement) (entries : List (Vec ℕ Global × ℕ)) : Type 0 where

@@ -8,7 +8,7 @@ use Rattle.sno_text.specs.declared.node.Node.TheVariants as nodes
 use Rattle.sno_text.specs.declared.node.Span.{Span}
 use Rattle.std.specs.declared.vec.Vec.{Vec}
 use Rattle.std.specs.declared.alloc.Global.{Global}
-use Rattle.sno_text.specs.Trees.{Tree, fits, StandsFor}
+use Rattle.sno_text.specs.Trees.{Tree, fits, StandsFor, Uses}
 use Rattle.sno_text.specs.Grammar.{Part, Argument, Arguments}
 use Rattle.sno_text.specs.Source.{OperandsBelow, SpansWithin}
 use Rattle.sno_text.specs.Links.{Finds, Refuses, Grows, Lists, Shuts, Closes}
@@ -31,7 +31,8 @@ pub record Grown (old new : List Node) : Type 0 where
 pub data Extends (n : ℕ) (old new : List Node) : Type 0 where
   extended : Grown old new → ((id : ℕ) (node : Node) → length old ≤ id → slice_get new id ≡ Some node → IsSound n id node) → Extends n old new
 
--- What was found has a tree; its number stands for the tree; it lies in the text; each byte of it gave one node at most.
+-- What was found has a tree; its number stands for the tree; it lies in the text; each byte of it gave one node at most,
+-- and each of these nodes is a part of the tree.
 pub record Gives (s : List ℕ) (p : Part) (stops : ℕ → Type 0) (i : ℕ) (old new : List Node) (f : Found) : Type 0 where
   pub tree : Tree
   pub finds : Finds s p stops i f.end tree
@@ -40,6 +41,7 @@ pub record Gives (s : List ℕ) (p : Part) (stops : ℕ → Type 0) (i : ℕ) (o
   pub some : i < f.end
   pub within : f.end ≤ length s
   pub room : length new + i ≤ length old + f.end
+  pub used : Uses new (length old) (f.id ∷ [])
 
 abbrev pub Outcome : List ℕ → Part → (ℕ → Type 0) → ℕ → List Node → List Node → Option Found → Type 0
 Outcome s p stops i old new None = Refuses s p stops i
@@ -54,6 +56,7 @@ pub record Growing (s : List ℕ) (level i : ℕ) (old new : List Node) (f : Fou
   pub some : i < f.end
   pub within : f.end ≤ length s
   pub room : length new + i ≤ length old + f.end
+  pub used : Uses new (length old) (f.id ∷ [])
 
 -- An argument may be empty; it gave one node more than bytes at most.
 pub record GivesArgument (s : List ℕ) (i : ℕ) (old new : List Node) (f : Found) : Type 0 where
@@ -64,6 +67,7 @@ pub record GivesArgument (s : List ℕ) (i : ℕ) (old new : List Node) (f : Fou
   pub order : i ≤ f.end
   pub within : f.end ≤ length s
   pub room : length new + i ≤ length old + f.end + 1
+  pub used : Uses new (length old) (f.id ∷ [])
 
 abbrev pub ArgumentOutcome : List ℕ → ℕ → List Node → List Node → Option Found → Type 0
 ArgumentOutcome s i old new None = Refuses s Argument (Closes s) i
@@ -77,6 +81,7 @@ pub record GivesList (s : List ℕ) (i : ℕ) (old new : List Node) (ids : List 
   pub order : i ≤ end
   pub within : end ≤ length s
   pub room : length new + i ≤ length old + end + 1
+  pub used : Uses new (length old) ids
 
 -- The arguments so far.
 pub record Listing (s : List ℕ) (i : ℕ) (old new : List Node) (ids : List ExprId) (end : ℕ) (ok : Bool) : Type 0 where
@@ -87,6 +92,7 @@ pub record Listing (s : List ℕ) (i : ℕ) (old new : List Node) (ids : List Ex
   pub order : i ≤ end
   pub within : end ≤ length s
   pub room : length new + i ≤ length old + end + 1
+  pub used : Uses new (length old) ids
 
 abbrev pub ListOutcome : List ℕ → ℕ → List Node → List Node → Option FoundList → Type 0
 ListOutcome s i old new None = Refuses s Arguments (Shuts s) i

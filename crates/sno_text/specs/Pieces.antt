@@ -1,5 +1,5 @@
 -- What the readers of the parts of a statement give: words of private clauses only.
-use Rattle.std.specs.Prelude.{◌≡◌, ℕ, ◌+◌, ◌≤◌, ◌⊎◌, Bool, ◌&&◌, List, length, Option, Some, None}
+use Rattle.std.specs.Prelude.{◌≡◌, ℕ, ◌+◌, ◌≤◌, ◌⊎◌, Bool, ◌&&◌, List, ◌++◌, length, Option, Some, None}
 use Rattle.sno_text.specs.declared.bytes.Class.TheVariants.{Blank}
 use Rattle.sno_text.specs.declared.node.Node.{Node}
 use Rattle.sno_text.specs.declared.table.Read.{Read}
@@ -10,7 +10,8 @@ use Rattle.sno_text.specs.declared.statement.Jump.TheVariants as jumps
 use Rattle.sno_text.specs.declared.statement.Core.{Core}
 use Rattle.sno_value.specs.declared.ids.ExprId.{ExprId}
 use Rattle.sno_text.specs.Bytes.{byte, IsWholeRun}
-use Rattle.sno_text.specs.Trees.{Tree, Stands}
+use Rattle.sno_text.specs.Source.{option_ids, target_ids, target_option_ids}
+use Rattle.sno_text.specs.Trees.{Tree, Stands, Uses}
 use Rattle.sno_text.specs.Statements.{TargetTree, Label, Computed, JumpTree, Fall, Always, Either, CoreTree, HasObject, HasTargets, option_fits, target_fits, target_option_fits}
 use Rattle.sno_text.specs.declared.goto.Targets.{Targets}
 use Rattle.sno_text.specs.declared.body.Object.{Object}
@@ -34,8 +35,9 @@ pub record MeetsEquals (s : List ℕ) (j : ℕ) : Type 0 where
 abbrev pub Anywhere : ℕ → Type 0
 Anywhere j = Unit {0}
 
--- What was read stands for a tree of its kind, of which the text has no other that ends where it may.
-pub record Gives (V C : Type 0) (P : ℕ → V → Type 0) (stops : ℕ → Type 0) (standing : List Node → C → V → Type 0) (fitting : V → Bool) (n i : ℕ) (old new : List Node) (f : Read C) : Type 0 where
+-- What was read stands for a tree of its kind, of which the text has no other that ends where it may. `held` tells the
+-- expressions that it holds; each node that joined the table is a part of one.
+pub record Gives (V C : Type 0) (P : ℕ → V → Type 0) (stops : ℕ → Type 0) (standing : List Node → C → V → Type 0) (held : C → List ExprId) (fitting : V → Bool) (n i : ℕ) (old new : List Node) (f : Read C) : Type 0 where
   pub tree : V
   pub reads : P f.end tree
   pub only : (k : ℕ) (u : V) → P k u → stops k → (k ≡ f.end) × (u ≡ tree)
@@ -44,14 +46,15 @@ pub record Gives (V C : Type 0) (P : ℕ → V → Type 0) (stops : ℕ → Type
   pub order : i ≤ f.end
   pub within : f.end ≤ n
   pub room : length new + i ≤ length old + f.end
+  pub used : Uses new (length old) (held f.what)
 
 -- The text has none.
 pub record Lacks (V : Type 0) (P : ℕ → V → Type 0) (stops : ℕ → Type 0) : Type 0 where
   pub none : (k : ℕ) (u : V) → P k u → stops k → ⊥
 
-abbrev pub Outcome : (V C : Type 0) → (ℕ → V → Type 0) → (ℕ → Type 0) → (List Node → C → V → Type 0) → (V → Bool) → ℕ → ℕ → List Node → List Node → Option (Read C) → Type 0
-Outcome V C P stops stands fit n i old new None = Lacks V P stops
-Outcome V C P stops stands fit n i old new (Some f) = Gives V C P stops stands fit n i old new f
+abbrev pub Outcome : (V C : Type 0) → (ℕ → V → Type 0) → (ℕ → Type 0) → (List Node → C → V → Type 0) → (C → List ExprId) → (V → Bool) → ℕ → ℕ → List Node → List Node → Option (Read C) → Type 0
+Outcome V C P stops stands held fit n i old new None = Lacks V P stops
+Outcome V C P stops stands held fit n i old new (Some f) = Gives V C P stops stands held fit n i old new f
 
 abbrev pub StandsTarget : List Node → Target → TargetTree → Type 0
 StandsTarget table (targets.Label span) (Label place) = span ≡ place
@@ -94,6 +97,9 @@ HasObjectPair s i j pair = HasObject s i j pair.0 pair.1
 abbrev pub StandsObject : List Node → Object → Bool × Option Tree → Type 0
 StandsObject table o pair = (o.equals ≡ pair.0) × StandsExpression table o.object pair.1
 
+abbrev pub object_ids : Object → List ExprId
+object_ids o = option_ids o.object
+
 abbrev pub object_fits : Bool × Option Tree → Bool
 object_fits pair = option_fits pair.1
 
@@ -102,6 +108,9 @@ HasTargetPair s letter i j pair = HasTargets s letter i j pair.0 pair.1
 
 abbrev pub StandsTargetPair : List Node → Targets → TargetTree × Option TargetTree → Type 0
 StandsTargetPair table p pair = StandsTarget table p.first pair.0 × StandsTargets table p.second pair.1
+
+abbrev pub pair_ids : Targets → List ExprId
+pair_ids p = target_ids p.first ++ target_option_ids p.second
 
 abbrev pub pair_fits : TargetTree × Option TargetTree → Bool
 pair_fits pair = target_fits pair.0 && target_option_fits pair.1

@@ -1,5 +1,5 @@
 -- What contracts see of a program: its text, its table of nodes and its statements.
-use Rattle.std.specs.Prelude.{◌≡◌, ◌<◌, ◌≤◌, ◌+◌, ◌^◌, ℕ, List, length, Option, Some, None, slice_get, slice_range}
+use Rattle.std.specs.Prelude.{◌≡◌, ◌<◌, ◌≤◌, ◌+◌, ◌^◌, ℕ, List, [], ◌∷◌, ◌++◌, length, Option, Some, None, slice_get, slice_range}
 use Rattle.std.specs.Map.{lookup}
 use Rattle.std.specs.Ordering.{is_eq, nat_cmp}
 use Rattle.std.specs.Cmp.Lexicographic.{slice_cmp}
@@ -86,6 +86,39 @@ pub record IsStatementOf (n m : ℕ) (st : Statement) : Type 0 where
   pub core : IsCoreOf m st.core
   pub jump : IsJumpOf n m st.jump
   pub entry : IsOptionWithin st.entry n
+
+-- the numbers of the expressions that a part of a statement holds
+abbrev pub option_ids : Option ExprId → List ExprId
+option_ids None = []
+option_ids (Some id) = id ∷ []
+
+abbrev pub target_ids : Target → List ExprId
+target_ids (targets.Label span) = []
+target_ids (targets.Computed id) = id ∷ []
+
+abbrev pub target_option_ids : Option Target → List ExprId
+target_option_ids None = []
+target_option_ids (Some t) = target_ids t
+
+abbrev pub jump_ids : Jump → List ExprId
+jump_ids Fall = []
+jump_ids (Always t) = target_ids t
+jump_ids (Either t u) = target_option_ids t ++ target_option_ids u
+
+abbrev pub core_ids : Core → List ExprId
+core_ids c = c.subject ∷ (option_ids c.pattern ++ option_ids c.object)
+
+abbrev pub core_option_ids : Option Core → List ExprId
+core_option_ids None = []
+core_option_ids (Some c) = core_ids c
+
+abbrev pub statement_ids : Statement → List ExprId
+statement_ids st = core_option_ids st.core ++ jump_ids st.jump
+
+-- and those that statements hold
+abbrev pub program_ids : List Statement → List ExprId
+program_ids [] = []
+program_ids (st ∷ sts) = statement_ids st ++ program_ids sts
 
 -- Statement n, counted from 1, has this label.
 abbrev pub IsLabelled : List ℕ → List Statement → List ℕ → ℕ → Type 0

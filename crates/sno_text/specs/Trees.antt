@@ -1,5 +1,5 @@
 -- Syntax trees, and what it means that a number of the flat table stands for one.
-use Rattle.std.specs.Prelude.{◌≡◌, ℕ, ◌<◌, ◌^◌, List, [], ◌∷◌, ◌++◌, Bool, true, ◌&&◌, nat_lt, Some, slice_get, min, pos, ◌-◌, ◌==◌, if◌then◌else◌}
+use Rattle.std.specs.Prelude.{◌≡◌, ℕ, ◌<◌, ◌≤◌, ◌⊎◌, ◌^◌, List, length, [], ◌∷◌, ◌++◌, Bool, true, ◌&&◌, nat_lt, Some, slice_get, min, pos, ◌-◌, ◌==◌, if◌then◌else◌}
 use Rattle.std.specs.List.{AllByRecursion}
 use Rattle.std.specs.declared.vec.Vec.{Vec}
 use Rattle.std.specs.declared.alloc.Global.{Global}
@@ -73,3 +73,27 @@ StandsFor table (And t u) ids = (before : List ExprId) × (last : ExprId) × (id
 
 abbrev pub Stands : List Node → ExprId → Tree → Type 0
 Stands table id t = StandsFor table t (id ∷ [])
+
+-- the numbers of a node's operands
+abbrev pub operands : Node → List ExprId
+operands (nodes.Variable span) = []
+operands (nodes.Integer value) = []
+operands (nodes.Literal span) = []
+operands (nodes.Keyword span) = []
+operands (nodes.Unary o a) = a ∷ []
+operands (nodes.Binary o a b) = a ∷ b ∷ []
+operands (nodes.Call span arguments) = arguments.items
+operands (nodes.Item span arguments) = arguments.items
+
+abbrev pub IsOneOf : ExprId → List ExprId → Type 0
+IsOneOf id [] = ⊥
+IsOneOf id (a ∷ ids) = (id ≡ a) ⊎ IsOneOf id ids
+
+-- Number k is a part of the trees that these numbers stand for: it is one of them, or a part of the operands of one.
+pub data IsPart (table : List Node) (k : ℕ) : List ExprId → Type 0 where
+  whole : {ids : List ExprId} (id : ExprId) → IsOneOf id ids → id.0 ≡ k → IsPart table k ids
+  operand : {ids : List ExprId} (id : ExprId) (node : Node) → IsOneOf id ids → Holds table id node → IsPart table k (operands node) → IsPart table k ids
+
+-- Each node of the table from a number on is a part of these trees: none is left behind.
+pub record Uses (table : List Node) (from : ℕ) (ids : List ExprId) : Type 0 where
+  pub each : (k : ℕ) → from ≤ k → k < length table → IsPart table k ids

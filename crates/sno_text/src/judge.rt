@@ -109,7 +109,7 @@ pub fn judge(
     requires extent { IsWithin extent (length text.now) }
     requires room { length nodes.old.items ≤ extent.start }
     requires line { line ≡ lines.line_of text.now extent }
-    ensures accepted { IfOk result (λ p. (before : List StatementTree) → Knows text.now before count labels.now.entries → Accepts text.now before extent nodes.new.items p) }
+    ensures accepted { IfOk result (λ p. (before : List StatementTree) → Knows text.now before count labels.now.entries → Accepts text.now before extent nodes.old.items nodes.new.items p) }
     ensures few { OnOk result (count < 100000) }
     ensures label { IfOk result (λ p. IsOptionWithin p.label (length text.now)) }
     ensures fresh { IfOk result (λ p. (span : Span) → p.label ≡ Some span → number_of labels.now.entries (part text.now span) ≡ None) }

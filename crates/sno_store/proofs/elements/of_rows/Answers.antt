@@ -1,6 +1,6 @@
 use Rattle.std.proofs.Common.{◌≡◌, length, ap, sym, ◌∙◌, ◌*◌, ◌∷◌, [], arith, rules}
 use Rattle.sno_store.specs.Stored.{stored_notions}
-use Rattle.sno_store.specs.Tables.{filled, rows, up_to}
+use Rattle.sno_store.specs.Tables.{filled, up_to}
 use Rattle.sno_store.specs.Arrays.{element_count}
 use Rattle.sno_store.proofs.Prototypes.{rows_count}
 use Rattle.sno_store.proofs.EntryLaws.{length-rows}

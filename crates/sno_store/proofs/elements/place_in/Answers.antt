@@ -1,4 +1,4 @@
-use Rattle.std.proofs.Common.{◌≡◌, ◌+◌, ◌*◌, ◌-◌, ◌<◌, ◌^◌, Some, pos, rules, arith, sym, ap, ◌∙◌, get_or, FitsSigned, w64}
+use Rattle.std.proofs.Common.{◌≡◌, ◌+◌, ◌*◌, ◌-◌, ◌<◌, Some, pos, rules, arith, sym, ap, ◌∙◌, get_or, FitsSigned, w64}
 use Rattle.std.proofs.lemmas.Int.{to_z-of_z}
 use Rattle.std.proofs.Math.Nat.{mul_comm, min-eq_left}
 use Rattle.sno_store.proofs.Places.{block_before, block_few, size_few, place_inside, place_is, out_of_range}

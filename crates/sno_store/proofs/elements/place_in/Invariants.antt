@@ -1,4 +1,4 @@
-use Rattle.std.proofs.Common.{◌≡◌, ◌<◌, ◌≤◌, Some, drop, length}
+use Rattle.std.proofs.Common.{◌≡◌, ◌<◌, ◌≤◌, Some, drop}
 use Rattle.sno_store.specs.Arrays.{element_count, element_place}
 use Rattle.sno_store.proofs.elements.place_in.Given as goal
 

@@ -1,4 +1,4 @@
-use Rattle.std.proofs.Common.{◌≡◌, length, ap, sym, ◌∙◌, Some}
+use Rattle.std.proofs.Common.{length, ap, sym, ◌∙◌, Some}
 use Rattle.std.proofs.lemmas.List.{length-replicate}
 use Rattle.std.specs.List.{slice_split}
 use Rattle.sno_value.specs.declared.value.Value.{Value}

@@ -33,7 +33,7 @@ returns-clause-accepted c =
     let found : Outcome c.args.text.now (Level 0) (Stops c.args.text.now 0) c.run_end-start.result c.new-nodes.result.items c.read_level.new.nodes.items (Some c.in-Some.found) = rw c.in-Some.is at c.in_ok-found.ensures.read in
     let fits : c.in-Some.found.fits ≡ true = search rules in
     rw c.new-program.ensures.nodes (accepted _ _ _ _ _ c.in-Some.found (not_open c.args.text.now _ c.has_open_literal.ensures c.if-has_open_literal.false)
-    (not_large _ (omega arith) (sym c.nests_deep.ensures ∙ c.if-nests_deep.false)) c.run_end-start.ensures.run found c.run_end-end.ensures.run c.if-end-text.false (c.has_line_end.ensures.none c.if-has_line_end.false) fits)
+    (not_large _ (omega arith) (sym c.nests_deep.ensures ∙ c.if-nests_deep.false)) c.run_end-start.ensures.run found c.run_end-end.ensures.run c.if-end-text.false (c.has_line_end.ensures.none c.if-has_line_end.false) fits c.new-nodes.ensures.items)
 
 pub returns-clause-number : goal.returns-clause-number
 returns-clause-number c =
