@@ -59,9 +59,11 @@ prove() {
 
 # Tells how far the kit is while it runs: on a terminal in one line that is written over, else by a line a crate.
 follow() {
-    crates=$(program_crates | tr '\n' ' ') told=beginning
+    crates=$(program_crates | tr '\n' ' ') told=beginning looks=0
     while kill -0 "$kit" 2>/dev/null; do
-        sleep 1
+        # (where little has changed it ends soon)
+        if [ "$looks" -lt 25 ]; then sleep 0.2; else sleep 1; fi
+        looks=$((looks + 1))
         now=$(awk -v crates="$crates" -v seconds="$(($(date +%s) - began))" -f "$top/tools/progress.awk" "$log")
         if on_terminal; then
             printf '\r\033[Ksnobol4: %s' "$now" >&2
