@@ -44,7 +44,7 @@ prove() {
     trap 'stop TERM' TERM
     (cd "$top/crates/snobol4" && exec setsid rt run -- --help) </dev/null >"$log" 2>&1 &
     kit=$!
-    follow
+    follow 9>&-
     status=0
     wait "$kit" || status=$?
     trap - HUP INT TERM
@@ -59,9 +59,11 @@ prove() {
 
 # Tells how far the kit is while it runs: on a terminal in one line that is written over, else by a line a crate.
 follow() {
-    crates=$(program_crates | tr '\n' ' ') told=beginning
+    crates=$(program_crates | tr '\n' ' ') told=beginning looks=0
     while kill -0 "$kit" 2>/dev/null; do
-        sleep 1
+        # (where little has changed it ends soon)
+        if [ "$looks" -lt 25 ]; then sleep 0.2; else sleep 1; fi
+        looks=$((looks + 1))
         now=$(awk -v crates="$crates" -v seconds="$(($(date +%s) - began))" -f "$top/tools/progress.awk" "$log")
         if on_terminal; then
             printf '\r\033[Ksnobol4: %s' "$now" >&2
@@ -88,12 +90,9 @@ stop() {
     # The kit may not be the leader of its group yet.
     kill -s TERM -- "-$kit" 2>/dev/null || :
     kill -s TERM "$kit" 2>/dev/null || :
-    seconds=0
-    while kill -0 -- "-$kit" 2>/dev/null && [ "$seconds" -lt 5 ]; do
-        sleep 1
-        seconds=$((seconds + 1))
-    done
+    sleep 1
     kill -s KILL -- "-$kit" 2>/dev/null || :
+    wait "$kit" 2>/dev/null || :
     say "the build was interrupted; the crates that were proved are kept for the next one"
     trap - HUP INT TERM
     kill -s "$1" "$$"
