@@ -28,7 +28,7 @@ begin() {
     work=$(mktemp -d)
     trap 'rm -rf "$work"' EXIT
     trap 'exit 1' HUP INT PIPE TERM
-    cd "$top"
+    cd "$top" || exit 1
 }
 
 # passed NAME; failed NAME WHY, with the lines of standard input behind it
