@@ -1,0 +1,98 @@
+# Proves and builds the program with the kit.
+# Read behind program.sh.
+
+# What it takes from nothing, as README.md has it.
+takes='up to half an hour on 4 processors, and 5 GB of disk'
+
+log=$top/crates/snobol4/out/build.log
+
+# Proves and builds the program, and sets `program` to it. `why` says why, where there is a reason to tell.
+# Another call that is building it is waited for, and then what it built is taken, where that is what is wanted.
+build_program() {
+    if ! command -v rt >/dev/null; then
+        say "${why:+$why, and }to prove and build the program needs the Rattle kit, whose command rt is not on PATH;" \
+            "what is needed is told in README.md, below its first two commands"
+        exit 70
+    fi
+    if ! { mkdir -p "$cache" "${log%/*}" && touch "$cache/lock" "$log"; } 2>/dev/null; then
+        say "${why:+$why, and }the program cannot be built here, since $top cannot be written"
+        exit 70
+    fi
+    # The lock is the open file: it goes when the last that holds it ends, however it ends. Without flock the kit's own locks
+    # still keep two builds from meeting in a crate.
+    exec 9>>"$cache/lock"
+    if command -v flock >/dev/null && ! flock -n 9; then
+        say "another call is building the program, which this one waits for; its log is $log"
+        flock 9
+        if find_program; then
+            exec 9>&-
+            return
+        fi
+    fi
+    say "${why:+$why; }the program is proved and built first: $takes; the log is $log"
+    prove
+    exec 9>&-
+    program=$built
+}
+
+# Runs the kit and tells how far it is. All that it starts is a group of its own, which ends where this call is ended.
+prove() {
+    began=$(date +%s)
+    : >"$cache/began"
+    trap 'stop HUP' HUP
+    trap 'stop INT' INT
+    trap 'stop TERM' TERM
+    (cd "$top/crates/snobol4" && exec setsid rt run -- --help) </dev/null >"$log" 2>&1 &
+    kit=$!
+    follow 9>&-
+    status=0
+    wait "$kit" || status=$?
+    trap - HUP INT TERM
+    if [ "$status" -ne 0 ] || ! [ -x "$built" ]; then
+        say "the build failed; the last lines of $log:"
+        tail -n 12 "$log" | sed 's/^/    /' >&2
+        exit 70
+    fi
+    # Sources that changed while it was proved are newer than this, and so are seen by the next call.
+    touch -r "$cache/began" "$built"
+}
+
+# Tells how far the kit is while it runs: on a terminal in one line that is written over, else by a line a crate.
+follow() {
+    crates=$(program_crates | tr '\n' ' ') told=beginning
+    while kill -0 "$kit" 2>/dev/null; do
+        sleep 1
+        now=$(awk -v crates="$crates" -v seconds="$(($(date +%s) - began))" -f "$top/tools/progress.awk" "$log")
+        if on_terminal; then
+            printf '\r\033[Ksnobol4: %s' "$now" >&2
+        elif [ "${now%%,*}" != "$told" ]; then
+            say "$now"
+        fi
+        told=${now%%,*}
+    done
+    clear_line
+}
+
+on_terminal() {
+    [ -t 2 ] && [ "${TERM:-dumb}" != dumb ]
+}
+
+clear_line() {
+    if on_terminal; then printf '\r\033[K' >&2; fi
+}
+
+# Ends the kit's whole group, and then this call by the signal $1 that it was sent.
+stop() {
+    trap '' HUP INT TERM
+    clear_line
+    # The kit may not be the leader of its group yet.
+    kill -s TERM -- "-$kit" 2>/dev/null || :
+    kill -s TERM "$kit" 2>/dev/null || :
+    sleep 1
+    kill -s KILL -- "-$kit" 2>/dev/null || :
+    wait "$kit" 2>/dev/null || :
+    say "the build was interrupted; the crates that were proved are kept for the next one"
+    trap - HUP INT TERM
+    kill -s "$1" "$$"
+    exit 70
+}

@@ -1,0 +1,111 @@
+# Finds the program: the one built here, the one that ships, or none.
+# Read by scripts that have set top to the repository's root.
+
+built=$top/crates/snobol4/out/snobol4
+shipped=$top/bin/snobol4-x86_64-linux
+cache=$top/.cache
+answers=$cache/answers
+
+say() {
+    printf 'snobol4: %s\n' "$*" >&2
+}
+
+# The crates that the program stands on, by crates.txt: the lowest first, the program last.
+program_crates() {
+    awk '
+    { sub(/#.*/, "") }
+    /:/ {
+        split(substr($0, 1, index($0, ":") - 1), head)
+        below[head[1]] = substr($0, index($0, ":") + 1)
+    }
+    function reach(name,   count, names, i) {
+        if (name in reached || !(name in below)) { return }
+        reached[name] = 1
+        count = split(below[name], names)
+        for (i = 1; i <= count; i++) { reach(names[i]) }
+        print name
+    }
+    END { reach("snobol4") }' "$top/crates.txt"
+}
+
+# Where the sources of the program stand, as paths from the root.
+source_places() {
+    echo crates.txt
+    for crate in $(program_crates); do
+        for part in src specs proofs; do
+            if [ -d "$top/crates/$crate/$part" ]; then echo "crates/$crate/$part"; fi
+        done
+    done
+}
+
+# The digest of the sources: of their paths and of what they hold, and of nothing else. What an editor leaves beside them
+# isn't read by the kit, and so doesn't count.
+sources_digest() (
+    LC_ALL=C
+    export LC_ALL
+    cd "$top"
+    find $(source_places) -type f \( -name '*.rt' -o -name '*.antt' -o -name crates.txt \) -print0 |
+        sort -z | xargs -0 sha256sum | sha256sum | cut -d ' ' -f 1
+)
+
+# Whether the file $1 is older than a source. A folder's time counts too: it tells that a file went or was moved in.
+is_older() {
+    [ -n "$(cd "$top" && find $(source_places) \
+        \( -type d -o -name '*.rt' -o -name '*.antt' -o -name crates.txt \) -newer "$1" -print)" ]
+}
+
+# What bin/BUILD tells of $1: program, sha256, sources or kit.
+told_of_shipped() {
+    sed -n "s/^$1: *//p" "$top/bin/BUILD"
+}
+
+# Why the shipped program is not the one of these sources; `fits` where it is.
+judge_shipped() {
+    if [ "$(told_of_shipped sources)" != "$(sources_digest)" ]; then
+        echo "the sources are not those that the program in bin/ was built from"
+    elif [ "$(told_of_shipped sha256)" != "$(sha256sum <"$shipped" | cut -d ' ' -f 1)" ]; then
+        echo "the program in bin/ is not the one that bin/BUILD tells of"
+    else
+        echo fits
+    fi
+}
+
+# Whether the shipped program is that of these sources and runs on this machine; else `why` tells why not.
+# To judge it takes longer than to run it, so the answer is kept under a digest of what all the files looked like: their
+# sizes and the times at which they were written or moved. Where it can't be kept, it is found anew by each call.
+shipped_fits() {
+    if ! [ -x "$shipped" ] || ! [ -r "$top/bin/BUILD" ]; then
+        why="no built program comes with these sources"
+        return 1
+    fi
+    if [ "$(uname -sm)" != "Linux x86_64" ] || ! [ -e /lib64/ld-linux-x86-64.so.2 ]; then
+        why="the program in bin/ runs on x86-64 Linux with the GNU C library alone"
+        return 1
+    fi
+    looks=$(cd "$top" && find $(source_places) bin -printf '%p %s %T@ %C@\n' 2>/dev/null) || looks=
+    answer=$answers/$(printf '%s' "$looks" | sha256sum | cut -d ' ' -f 1)
+    why=
+    if [ -n "$looks" ]; then { read -r why <"$answer"; } 2>/dev/null || :; fi
+    if [ -z "$why" ]; then
+        why=$(judge_shipped)
+        if [ -n "$looks" ]; then keep_answer 2>/dev/null || :; fi
+    fi
+    [ "$why" = fits ]
+}
+
+# Keeps the newest answer alone. It is written beside its place, so that no other call reads a half of it.
+keep_answer() {
+    mkdir -p "$answers" && rm -f "$answers"/* && printf '%s\n' "$why" >"$answer.$$" && mv "$answer.$$" "$answer"
+}
+
+# Sets `program` to the one built here, where it isn't older than the sources, or to the shipped one, where it fits.
+# Where there is neither, `why` tells why the shipped one isn't it.
+find_program() {
+    if [ -x "$built" ] && ! is_older "$built"; then
+        program=$built
+    elif shipped_fits; then
+        program=$shipped
+    else
+        return 1
+    fi
+}
