@@ -14,9 +14,9 @@
 # - `E` is error N                 the error of OUTPUT = E, or of the statement E where it has a =
 # - `E` is refused                 the statement E is refused
 
-failures=0
+. "$top/tests/results.sh"
 
-# begin [PROGRAM]: what stands in for snobol4, ./snobol4 at the top where none is given; and a folder for this script.
+# begin [PROGRAM]: what stands in for snobol4, ./snobol4 at the top where none is given; and the folder to work in.
 begin() {
     program=${1:-$top/snobol4}
     case $program in
@@ -25,18 +25,7 @@ begin() {
     esac
     # The first call may build the program and say so, which must not get into a comparison.
     "$program" --help >/dev/null || { echo "not ok $0: cannot run $program"; exit 1; }
-    work=$(mktemp -d)
-    trap 'rm -rf "$work"' EXIT
-    trap 'exit 1' HUP INT PIPE TERM
-    cd "$top"
-}
-
-# passed NAME; failed NAME WHY, with the lines of standard input behind it
-passed() { printf 'ok %s\n' "$1"; }
-failed() {
-    printf 'not ok %s: %s\n' "$1" "$2"
-    sed 's/^/    /'
-    failures=$((failures + 1))
+    cd "$top" || exit 1
 }
 
 # What is expected begins with -, what came with +.
@@ -100,7 +89,7 @@ check_blocks() {
     cut_blocks "$1"
     while IFS='|' read -r number place; do
         if [ "$number" = 0 ]; then
-            failed "$place" "the block has no \$ and no word behind its \`\`\`, or no end" </dev/null
+            not_ok "$place" "the block has no \$ and no word behind its \`\`\`, or no end"
             continue
         fi
         command=$(cat "$work/$number.command")
@@ -114,7 +103,7 @@ check_blocks() {
 # check_command NUMBER NAME [faults]
 check_command() {
     if ! allowed "$work/$1.command"; then
-        failed "$2" "isn't a command for a document" </dev/null
+        not_ok "$2" "isn't a command for a document"
         return
     fi
     line=$(sed 's#\./snobol4#snobol4#' "$work/$1.command")
@@ -128,11 +117,11 @@ check_command() {
     told=$(cat "$work/$1.status")
     if ! cmp -s "$work/$1.shown" "$work/out"; then
         { changes "$work/$1.shown" "$work/out"; cat "$work/err"; } >"$work/changes"
-        failed "$2" "writes something else" <"$work/changes"
+        not_ok "$2" "writes something else" "$work/changes"
     elif [ "$status" != "$told" ]; then
-        failed "$2" "ends with status $status and not $told" <"$work/err"
+        not_ok "$2" "ends with status $status and not $told" "$work/err"
     else
-        passed "$2"
+        ok "$2"
     fi
 }
 
@@ -213,18 +202,18 @@ check_example() {
     value | error) "$program" run "$work/example.sno" </dev/null >"$work/out" 2>&1 || status=$? ;;
     refused)
         "$program" check "$work/example.sno" </dev/null >"$work/out" 2>&1 || status=$?
-        if [ "$status" = 2 ]; then passed "$4"; else failed "$4" "isn't refused" <"$work/out"; fi
+        if [ "$status" = 2 ]; then ok "$4"; else not_ok "$4" "isn't refused" "$work/out"; fi
         return
         ;;
     *)
-        failed "$4" "isn't an example" </dev/null
+        not_ok "$4" "isn't an example"
         return
         ;;
     esac
     if cmp -s "$work/expected" "$work/out"; then
-        passed "$4"
+        ok "$4"
     else
         changes "$work/expected" "$work/out" >"$work/changes"
-        failed "$4" "gives something else" <"$work/changes"
+        not_ok "$4" "gives something else" "$work/changes"
     fi
 }

@@ -2,12 +2,12 @@
 failed=0
 
 ok() {
-    echo "ok $1"
+    printf 'ok %s\n' "$1"
 }
 
 # Tells that $1 failed, why, and below it the files behind these two words.
 not_ok() {
-    echo "not ok $1: $2"
+    printf 'not ok %s: %s\n' "$1" "$2"
     shift 2
     for file do sed 's/^/    /' "$file"; done
     failed=$((failed + 1))
