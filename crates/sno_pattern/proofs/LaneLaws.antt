@@ -47,8 +47,16 @@ joined : (a b c d e f g h : Bool) →
     bit_or (bit_or (bit_or (bit_or (bit_or (bit_or (bit_or (cond a 255 0) (cond b 255 0)) (cond c 255 0)) (cond d 255 0)) (cond e 255 0)) (cond f 255 0)) (cond g 255 0)) (cond h 255 0)
     ≡ cond (a || (b || (c || (d || (e || (f || (g || (h || false)))))))) 255 0
 joined a b c d e f g h =
-    rw (or_hits a b, or_hits (a || b) c, or_hits ((a || b) || c) d, or_hits (((a || b) || c) || d) e, or_hits ((((a || b) || c) || d) || e) f,
-      or_hits (((((a || b) || c) || d) || e) || f) g, or_hits ((((((a || b) || c) || d) || e) || f) || g) h, any_of_eight a b c d e f g h)
+    rw (
+      or_hits a b,
+      or_hits (a || b) c,
+      or_hits ((a || b) || c) d,
+      or_hits (((a || b) || c) || d) e,
+      or_hits ((((a || b) || c) || d) || e) f,
+      or_hits (((((a || b) || c) || d) || e) || f) g,
+      or_hits ((((((a || b) || c) || d) || e) || f) || g) h,
+      any_of_eight a b c d e f g h,
+    )
     refl
 
 pub turned : (x y : ℕ) → eqb x y ≡ eqb y x

@@ -8,7 +8,7 @@ use crate::lanes;
 use std::marker::Model;
 
 /// How many bytes are looked up one by one before lanes are made ready.
-const NEAR: usize = 16;
+const NEAR: usize = 8;
 
 /// Fewer bytes than this are looked up one by one.
 pub(crate) const FEW: usize = 32;

@@ -10,3 +10,4 @@ mod patterns;
 mod reference;
 mod refusals;
 mod rows;
+mod runs;

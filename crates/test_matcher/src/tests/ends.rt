@@ -60,6 +60,19 @@ fn is_among(prim: Prim, set: &[u8], part: &[u8], behind: Option<u8>) -> bool {
     }
 }
 
+/// The first end of a primitive with a set: each place up to the end of the subject is looked at.
+pub fn first_set_end(prim: Prim, set: &[u8], subject: &[u8], at: usize) -> Option<usize> {
+    for end in at..=subject.len() {
+        if at <= end && end <= subject.len() {
+            let behind = subject.get(end).copied();
+            if is_among(prim, set, &subject[at..end], behind) {
+                return Some(end);
+            }
+        }
+    }
+    None
+}
+
 /// How many bytes of a part the set has.
 fn count_of(set: &[u8], part: &[u8]) -> usize {
     let mut count = 0usize;

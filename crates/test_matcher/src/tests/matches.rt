@@ -9,7 +9,7 @@ use super::rows::{Question, check_rows, parts};
 use sno_match::{CopiedGoals, Event, Matcher, Points, SharedGoals};
 use sno_pattern::Patterns;
 use sno_value::{ExprId, PatId};
-use std::alloc::Global;
+use std::alloc::{AllocError, Global};
 use std::process::Abort;
 use std::test::Fail;
 
@@ -83,6 +83,7 @@ fn alternatives_in_order(rt: HostRuntime) -> Result<(), Fail> {
 
 const REPETITION: &str = r"
 anchored 48 AAA: TEXT:A TEXT:AA |:0,1 ARBNO:2 => way 0 0 at 1; way 0 1 at 6; way 0 2 at 11; way 0 3 at 16; way 0 3 at 27; way 0 2 at 36; way 0 3 at 41; exhausted at 48;
+anchored 1000 A: TEXT: ARBNO:0 => way 0 0 at 1; exhausted at 4;
 anchored 47 AAA: TEXT:A TEXT:AA |:0,1 ARBNO:2 => way 0 0 at 1; way 0 1 at 6; way 0 2 at 11; way 0 3 at 16; way 0 3 at 27; way 0 2 at 36; way 0 3 at 41; limit at 47;
 ";
 
@@ -116,6 +117,7 @@ floating 2 BBA: TEXT:A => limit at 2;
 anchored 1000 BBA: TEXT:A => exhausted at 1;
 floating 1000 BAAB: SPAN:A => way 1 3 at 3; way 2 3 at 5; exhausted at 9;
 floating 12 BAB: TEXT:A TEXT:B &:0,1 => way 1 3 at 6; exhausted at 12;
+floating 1000 ACAB: TEXT:A TEXT:B &:0,1 => way 2 4 at 10; exhausted at 16;
 floating 11 BAB: TEXT:A TEXT:B &:0,1 => way 1 3 at 6; limit at 11;
 floating 10 BAB: TEXT:A TEXT:B &:0,1 => way 1 3 at 6; limit at 10;
 floating 9 BAB: TEXT:A TEXT:B &:0,1 => way 1 3 at 6; limit at 9;
@@ -146,6 +148,11 @@ floating 1000 AB: ARB => way 0 0 at 1; way 0 1 at 2; way 0 2 at 3; way 1 1 at 5;
 anchored 1000 (A)B: BAL => way 0 3 at 1; way 0 4 at 2; exhausted at 2;
 anchored 1000 ()): BAL => way 0 2 at 1; exhausted at 1;
 anchored 1000 ): BAL => exhausted at 1;
+anchored 1000 )(: BAL => exhausted at 1;
+floating 1000 ABC: POS:1 REM &:0,1 => way 1 3 at 6; exhausted at 12;
+floating 1000 ABC: BREAK:, => exhausted at 7;
+anchored 1000 12: TEXT:12 => way 0 2 at 1; exhausted at 1;
+floating 1000 A: TEXT: => way 0 0 at 1; way 1 1 at 3; exhausted at 3;
 anchored 1000 ABC: RTAB:1 ANY:BC &:0,1 => way 0 3 at 3; exhausted at 3;
 anchored 1000 ABAC: SPAN:AB LEN:1 &:0,1 => way 0 4 at 3; exhausted at 3;
 anchored 1000 ABA: SPAN:AB LEN:1 &:0,1 => exhausted at 3;
@@ -174,6 +181,7 @@ fn search_is_stopped(rt: HostRuntime) -> Result<(), Fail> {
 }
 
 const ASSIGNMENTS: &str = r"
+anchored 1000 AB: LEN:1 $:0,7 &:1,0 => assign 7 0 1 at 4; way 0 2 at 5; exhausted at 5;
 floating 1000 AB: LEN:1 $:0,7 FAIL &:1,2 => assign 7 0 1 at 4; assign 7 1 2 at 10; exhausted at 15;
 floating 1000 AB: @:7 TEXT:B &:0,1 => cursor 7 0 at 2; cursor 7 1 at 6; way 1 2 at 7; cursor 7 2 at 10; exhausted at 11;
 ";
@@ -183,13 +191,14 @@ fn assignments_on_the_way(rt: HostRuntime) -> Result<(), Fail> {
     check_rows::<Matches, _>(&rt, ASSIGNMENTS)
 }
 
-/// They are (LEN(1) . A LEN(1)) . B; ('A' . X 'C' | 'A' . Y) 'B'; LEN(1) . X | LEN(2) . Y; and LEN(1) $ X . Y.
+/// They are (LEN(1) . A LEN(1)) . B; ('A' . X 'C' | 'A' . Y) 'B'; LEN(1) . X | LEN(2) . Y; LEN(1) $ X . Y; and LEN(1) . Z.
 const PENDING: &str = r"
 anchored 1000 XY: LEN:1 .:0,1 &:1,0 .:2,2 => way 0 2 at 7 with 1 0 1 with 2 0 2; exhausted at 7 with 1 0 1 with 2 0 2;
 anchored 1000 AB: TEXT:A .:0,1 TEXT:C &:1,2 .:0,2 |:3,4 TEXT:B &:5,6 => way 0 2 at 12 with 2 0 1; exhausted at 12 with 2 0 1;
 anchored 1000 AB: LEN:1 .:0,1 LEN:2 .:2,2 |:1,3 => way 0 1 at 4 with 1 0 1; way 0 2 at 8 with 2 0 2; exhausted at 8 with 2 0 2;
 anchored 1000 AB: LEN:1 $:0,1 .:1,2 => assign 1 0 1 at 4; way 0 1 at 5 with 2 0 1; exhausted at 5 with 2 0 1;
 anchored 4 AB: LEN:1 $:0,1 .:1,2 => assign 1 0 1 at 4; limit at 4;
+anchored 1000 A: LEN:1 .:0,7 => way 0 1 at 3 with 7 0 1; exhausted at 3 with 7 0 1;
 ";
 
 #[test]
@@ -197,8 +206,8 @@ fn assignments_that_wait(rt: HostRuntime) -> Result<(), Fail> {
     check_rows::<Matches, _>(&rt, PENDING)
 }
 
-/// The first event, the steps up to it, how many events were told, and the length of the subject, which the match takes
-/// over.
+/// The first event, and where it is a value also the event behind the answer, which is the first form: each with the steps
+/// up to it, how many events were told, and the length of the subject, which the match takes over.
 #[derive(Drop)]
 struct FirstEvents;
 
@@ -211,16 +220,30 @@ impl Question for FirstEvents {
         let mut m = Matcher::over(alloc, &table, pattern, subject, s.anchored, s.limit)?;
         let event = m.next(&table)?;
         let mut text = drawn_event(alloc, event)?;
-        push_number(alloc, &mut text, Some(m.steps() as usize))?;
-        push_number(alloc, &mut text, Some(m.told() as usize))?;
-        push_number(alloc, &mut text, Some(m.subject().len()))?;
+        push_state(alloc, &mut text, &m)?;
+        if m.is_waiting() {
+            m.answer(&table, Some(PatId(0)))?;
+            let event = m.next(&table)?;
+            text.push_str("; ")?;
+            text.push_str(drawn_event(alloc, event)?.as_str())?;
+            push_state(alloc, &mut text, &m)?;
+        }
         Ok(text)
     }
 }
 
-/// SUCCEED has ways without end.
+/// Adds the steps, how many events were told, and the length of the subject.
+fn push_state(alloc: Global, text: &mut String, m: &Matcher) -> Result<(), AllocError> {
+    push_number(alloc, text, Some(m.steps() as usize))?;
+    push_number(alloc, text, Some(m.told() as usize))?;
+    push_number(alloc, text, Some(m.subject().len()))?;
+    Ok(())
+}
+
+/// SUCCEED has ways without end, also behind *E, which is answered by the empty text.
 const FIRST_EVENTS: &str = r"
 anchored 1000000000 : SUCCEED => way 0 0 1 1 0
+anchored 1000000000 : TEXT: *:4 SUCCEED &:1,2 => value 4 2 1 0; way 0 0 4 2 0
 floating 10 BA: TEXT:A => way 1 2 3 1 2
 ";
 
@@ -229,8 +252,14 @@ fn one_event_is_searched_for_at_a_time(rt: HostRuntime) -> Result<(), Fail> {
     check_rows::<FirstEvents, _>(&rt, FIRST_EVENTS)
 }
 
+/// They are *E; LEN(1) $ X *X, where X has been set to 'A'; and LEN(1) $ N LEN(*N), where N has been set to 2 and to 0.
 const VALUES: &str = r"
 anchored 10 AB: TEXT:A *:4 => value 4 at 1; way 0 1 at 2; exhausted at 2;
+anchored 1000 AA: TEXT:A LEN:1 $:1,7 *:4 &:2,3 => assign 7 0 1 at 4; value 4 at 5; way 0 2 at 6; exhausted at 6;
+anchored 1000 AB: TEXT:A LEN:1 $:1,7 *:4 &:2,3 => assign 7 0 1 at 4; value 4 at 5; exhausted at 6;
+anchored 1000 2ABC: LEN:2 LEN:1 $:1,7 *LEN:4 &:2,3 => assign 7 0 1 at 4; value 4 at 5; way 0 3 at 6; exhausted at 6;
+anchored 1000 0A: LEN:0 LEN:1 $:1,7 *LEN:4 &:2,3 => assign 7 0 1 at 4; value 4 at 5; way 0 1 at 6; exhausted at 6;
+anchored 5 2ABC: LEN:2 LEN:1 $:1,7 *LEN:4 &:2,3 => assign 7 0 1 at 4; value 4 at 5; limit at 5;
 ";
 
 #[test]

@@ -50,6 +50,7 @@ fn numbered(name: &'static str, argument: &'static str) -> Result<Form, Fail> {
         "$" => Ok(Form::Imm(PatId(first), second)),
         "@" => Ok(Form::Cursor(first)),
         "*" => Ok(Form::Defer(None, ExprId(first))),
+        "*LEN" => Ok(Form::Defer(Some(Prim::Len), ExprId(first))),
         "*SPAN" => Ok(Form::Defer(Some(Prim::Span), ExprId(first))),
         _ => Err(Fail::from("no such form")),
     }
