@@ -67,6 +67,7 @@ pub whole_table : (n : ℕ) (new : List Node) → Extends n [] new → IsTable n
 whole_table n new x = record {
   operands = λ id node h. (sound_of x id node (omega arith) h).operands;
   spans = λ id node h. (sound_of x id node (omega arith) h).spans;
+  named = λ id node h. (sound_of x id node (omega arith) h).named;
 }
 
 pub ruleset expression_facts = (no_expression, no_end, too_big, accepted, two_lines, whole_table)

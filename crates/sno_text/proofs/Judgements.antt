@@ -131,7 +131,7 @@ spans_wider n m (nodes.Call span ids) h (a, b) = (a, omega arith)
 spans_wider n m (nodes.Item span ids) h (a, b) = (a, omega arith)
 
 sound_wider : (n m id : ℕ) (node : Node) → n ≤ m → IsSound n id node → IsSound m id node
-sound_wider n m id node h a = record { operands = a.operands; spans = spans_wider n m node h a.spans }
+sound_wider n m id node h a = record { operands = a.operands; spans = spans_wider n m node h a.spans; named = a.named }
 
 pub extends_wider : (n m : ℕ) (old new : List Node) → n ≤ m → Extends n old new → Extends m old new
 extends_wider n m old new h (extended g f) = extended g (λ id node low at. sound_wider n m id node h (f id node low at))

@@ -340,22 +340,23 @@ extends_binary {n} s l i k old mid last new o f g a x b y e =
     (extends_push n last new _ e (record {
       operands = (let below = stands_id_below mid a.tree f.id a.stands in let grown = length_grown mid last (grown_of y) in omega arith, stands_id_below last b.tree g.id b.stands);
       spans = tt;
+      named = tt;
     }))
 
 pub extends_unary : {n : ℕ} {p : Part} {stops : ℕ → Type 0} (s : List ℕ) (i : ℕ) (old mid new : List Node) (o : UnaryOperator) (f : Found) → Outcome s p stops i old mid (Some f) → Extends n old mid →
     new ≡ mid ++ nodes.Unary o f.id ∷ [] → Extends n old new
 extends_unary {n} s i old mid new o f a x e =
-    extends_trans n old mid new x (extends_push n mid new _ e (record { operands = stands_id_below mid a.tree f.id a.stands; spans = tt }))
+    extends_trans n old mid new x (extends_push n mid new _ e (record { operands = stands_id_below mid a.tree f.id a.stands; spans = tt; named = tt }))
 
-sound_applied : (n id b : ℕ) (span : Span) (ids : Vec ExprId Global) → AllByRecursion (λ a. a.0 < id) ids.items → IsWithin span n → IsSound n id (applied_node b span ids)
-sound_applied n id b span ids f g = elim (cases_40 b) [
-  | inl e ↦ rw (is_call b span ids e) (record { operands = f; spans = g })
-  | inr h ↦ rw (is_item b span ids h) (record { operands = f; spans = g })
+sound_applied : (n id b : ℕ) (span : Span) (ids : Vec ExprId Global) → AllByRecursion (λ a. a.0 < id) ids.items → IsWithin span n → span.start < span.end → IsSound n id (applied_node b span ids)
+sound_applied n id b span ids f g h = elim (cases_40 b) [
+  | inl e ↦ rw (is_call b span ids e) (record { operands = f; spans = g; named = h })
+  | inr n ↦ rw (is_item b span ids n) (record { operands = f; spans = g; named = h })
 ]
 
 pub extends_applied : {n : ℕ} (s : List ℕ) (i c : ℕ) (old last new : List Node) (span : Span) (f : FoundList) → ListOutcome s i old last (Some f) → Extends n old last →
-    IsWithin span n → new ≡ last ++ applied_node c span f.ids ∷ [] → Extends n old new
-extends_applied {n} s i c old last new span f a x w e =
-    extends_trans n old last new x (extends_push n last new _ e (sound_applied n (length last) c span f.ids (stands_below last a.tree f.ids.items a.stands) w))
+    IsWithin span n → span.start < span.end → new ≡ last ++ applied_node c span f.ids ∷ [] → Extends n old new
+extends_applied {n} s i c old last new span f a x w h e =
+    extends_trans n old last new x (extends_push n last new _ e (sound_applied n (length last) c span f.ids (stands_below last a.tree f.ids.items a.stands) w h))
 
 pub ruleset step_facts = (level_from_element, growing_first, refused_first, growing_left, refused_left, gives_right, refused_right, gives_over, gives_other, gives_plain, gives_signed, refuses_element, gives_empty, gives_given, refused_given, listing_first, listing_next, refused_next, gives_list, refuses_lists, gives_call, opening_within, pair_within, refused_apply, refused_unpaired, extends_none)

@@ -10,7 +10,7 @@ use Rattle.std.specs.declared.vec.Vec.{Vec}
 use Rattle.std.specs.declared.alloc.Global.{Global}
 use Rattle.sno_text.specs.Trees.{Tree, fits, StandsFor, Uses}
 use Rattle.sno_text.specs.Grammar.{Part, Argument, Arguments}
-use Rattle.sno_text.specs.Source.{OperandsBelow, SpansWithin}
+use Rattle.sno_text.specs.Source.{OperandsBelow, SpansWithin, IsNamed}
 use Rattle.sno_text.specs.Links.{Finds, Refuses, Grows, Lists, Shuts, Closes}
 
 -- the node of a name with arguments in brackets
@@ -21,6 +21,7 @@ applied_node opening span ids = if opening == 40 then nodes.Call span ids else n
 pub record IsSound (n id : ℕ) (node : Node) : Type 0 where
   pub operands : OperandsBelow node id
   pub spans : SpansWithin node n
+  pub named : IsNamed node
 
 -- The table has grown, or is as it was.
 pub record Grown (old new : List Node) : Type 0 where

@@ -48,10 +48,23 @@ SpansWithin (Binary o a b) n = Unit {0}
 SpansWithin (Call span arguments) n = IsWithin span n
 SpansWithin (Item span arguments) n = IsWithin span n
 
--- Each node of the table has operands with smaller numbers than its own, and spans in a text of length n.
+-- The name of a node, where it has one, is not null.
+abbrev pub IsNamed : Node → Type 0
+IsNamed (Variable span) = span.start < span.end
+IsNamed (Integer value) = Unit {0}
+IsNamed (Literal span) = Unit {0}
+IsNamed (Keyword span) = Unit {0}
+IsNamed (Unary o a) = Unit {0}
+IsNamed (Binary o a b) = Unit {0}
+IsNamed (Call span arguments) = span.start < span.end
+IsNamed (Item span arguments) = span.start < span.end
+
+-- Each node of the table has operands with smaller numbers than its own, spans in a text of length n, and a name that is
+-- not null where it has one.
 pub record IsTable (n : ℕ) (nodes : List Node) : Type 0 where
   pub operands : (id : ℕ) (node : Node) → slice_get nodes id ≡ Some node → OperandsBelow node id
   pub spans : (id : ℕ) (node : Node) → slice_get nodes id ≡ Some node → SpansWithin node n
+  pub named : (id : ℕ) (node : Node) → slice_get nodes id ≡ Some node → IsNamed node
 
 -- Where it is there, a span lies in a text of length n.
 abbrev pub IsOptionWithin : Option Span → ℕ → Type 0

@@ -1,5 +1,5 @@
 -- A machine that performs single expressions and matches for its caller, call after call.
-use Rattle.std.specs.Prelude.{◌≡◌, ℕ, false, List, [], Option, None, Some, Result, Ok, Err}
+use Rattle.std.specs.Prelude.{◌≡◌, ◌⊎◌, ℕ, false, List, [], Option, None, Some, Result, Ok, Err}
 use Rattle.sno_pattern.specs.Table.{Node}
 use Rattle.sno_text.specs.Source.{Source}
 use Rattle.sno_io.specs.declared.jobs.Limits.{Limits}
@@ -48,10 +48,15 @@ pub record IsNew (source : Source) (limits : Limits) (m : Asked) : Type 0 where
   pub unread : m.state.reading ≡ record { held = []; told_end = false; stopped = None }
   pub names : (input : List ℕ) → joined source limits input ≡ record { ending = Got tt; world = world m.state input; wrote = [] }
 
+-- the names are too many for a store, or one is too long for a string
+abbrev pub IsTooMuch : ℕ → Type 0
+IsTooMuch code = (code ≡ 9) ⊎ (code ≡ 8)
+
 -- why there is no machine
 abbrev pub IsRefusal : Source → Limits → RunOutcome → Type 0
 IsRefusal source limits ran.Ended = ⊥
-IsRefusal source limits (ran.Error code statement) = (statement ≡ 0) × ((input : List ℕ) → (joined source limits input).ending ≡ Stops (Error code))
+IsRefusal source limits (ran.Error code statement) =
+    (statement ≡ 0) × IsTooMuch code × ((input : List ℕ) → (joined source limits input).ending ≡ Stops (Error code))
 IsRefusal source limits ran.NoMemory = Unit {0}
 IsRefusal source limits ran.ReadFault = ⊥
 IsRefusal source limits ran.WriteFault = ⊥

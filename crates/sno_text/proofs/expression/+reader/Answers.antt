@@ -1,10 +1,11 @@
 use Rattle.std.proofs.Common.{◌≡◌, ◌≢◌, ◌+◌, ◌-◌, ◌∙◌, Some, sym, arith, rules, refl, true, false}
+use Rattle.sno_text.specs.declared.bytes.Class.TheVariants.{NameByte}
 use Rattle.sno_text.specs.Bytes.{byte, is_unary, is_closing, is_letter, is_opening}
 use Rattle.sno_text.specs.Grammar.{IsPair, Element}
 use Rattle.sno_text.specs.Links.{Stops}
 use Rattle.sno_text.specs.Outcome.{Outcome}
 use Rattle.sno_text.proofs.Primaries.{refuses_group}
-use Rattle.sno_text.proofs.Tables.{extends_none, gives_variable, gives_group, refused_unclosed, extends_trans, extends_push}
+use Rattle.sno_text.proofs.Tables.{extends_none, gives_variable, gives_group, refused_unclosed, extends_trans, extends_push, letter_is_name_byte, run_some}
 use Rattle.sno_text.proofs.Steps.{extends_binary, extends_unary, extends_applied, gives_signed, listing_next, growing_left, gives_right, refused_left, refused_right, gives_other, gives_plain, gives_given, refused_next, gives_call, opening_within, byte_within, pair_within}
 use Rattle.sno_text.proofs.expression.+reader.Goals as goal
 
@@ -134,12 +135,12 @@ read_name-returns-in_err-id-clause-extends t c = extends_none _ _ _ c.in_err-id.
 
 pub read_name-returns-then-not-is_in-clause-extends : goal.read_name-returns-then-not-is_in-clause-extends
 read_name-returns-then-not-is_in-clause-extends t c =
-    extends_push _ _ _ _ c.in_ok-id.ensures.pushed.1 (record { operands = tt; spans = (c.run_end-end.ensures.order, c.run_end-end.ensures.within) })
+    extends_push _ _ _ _ c.in_ok-id.ensures.pushed.1 (record { operands = tt; spans = (c.run_end-end.ensures.order, c.run_end-end.ensures.within); named = run_some NameByte _ _ _ c.run_end-end.ensures.run (letter_is_name_byte _ c.requires.letter) })
 
 pub read_name-returns-clause-extends : goal.read_name-returns-clause-extends
 read_name-returns-clause-extends t c =
     extends_applied _ _ _ _ _ _ _ c.in-Some.arguments (rw c.in-Some.is at c.in_ok-arguments.ensures.read) c.in_ok-arguments.ensures.extends
-    (c.run_end-end.ensures.order, c.run_end-end.ensures.within) c.in_ok-id-2.ensures.pushed
+    (c.run_end-end.ensures.order, c.run_end-end.ensures.within) (run_some NameByte _ _ _ c.run_end-end.ensures.run (letter_is_name_byte _ c.requires.letter)) c.in_ok-id-2.ensures.pushed
 
 pub read_arguments-returns-in_err-next-clause-extends : goal.read_arguments-returns-in_err-next-clause-extends
 read_arguments-returns-in_err-next-clause-extends t c = extends_trans _ _ _ _ c.arguments.invariant.1 c.in_err-next.ensures.extends
@@ -169,4 +170,4 @@ read_argument-returns-in_err-id-clause-extends t c = extends_none _ _ _ c.in_err
 
 pub read_argument-returns-then-first-eq44-clause-extends : goal.read_argument-returns-then-first-eq44-clause-extends
 read_argument-returns-then-first-eq44-clause-extends t c =
-    extends_push _ _ _ _ c.in_ok-id.ensures.pushed.1 (record { operands = tt; spans = (omega arith, c.run_end-start.ensures.within) })
+    extends_push _ _ _ _ c.in_ok-id.ensures.pushed.1 (record { operands = tt; spans = (omega arith, c.run_end-start.ensures.within); named = tt })

@@ -5,4 +5,4 @@ pub returns-in_err-id-clause-extends : goal.returns-in_err-id-clause-extends
 returns-in_err-id-clause-extends c = extends_none _ _ _ c.in_err-id.ensures.err
 
 pub returns-clause-extends : goal.returns-clause-extends
-returns-clause-extends c = extends_push _ _ _ _ c.in_ok-id.ensures.pushed.1 (record { operands = tt; spans = tt })
+returns-clause-extends c = extends_push _ _ _ _ c.in_ok-id.ensures.pushed.1 (record { operands = tt; spans = tt; named = tt })
