@@ -12,7 +12,7 @@ use sno_pattern::{Patterns, Shape};
 use sno_value::{ExprId, Name, PatId, Prim};
 
 /// At most two goals.
-#[derive(Clone, Copy, Debug, Drop)]
+#[derive(Clone, Copy, Drop)]
 pub(crate) enum Front {
     Nothing,
     One(Goal),
@@ -20,7 +20,7 @@ pub(crate) enum Front {
 }
 
 /// What is to be done at a point. All but `Cut` is one step.
-#[derive(Clone, Copy, Debug, Drop)]
+#[derive(Clone, Copy, Drop)]
 pub(crate) enum Plan {
     /// The first goal gives way to these, from this cursor.
     Replace(Front, usize),

@@ -8,14 +8,14 @@ use sno_pattern::{Patterns, Shape};
 use sno_value::PatId;
 
 /// A start whose search is exhausted, and how many steps lead there.
-#[derive(Clone, Copy, Debug, Drop)]
+#[derive(Clone, Copy, Drop)]
 pub(crate) struct Passed {
     pub start: usize,
     pub steps: u32,
 }
 
 /// The primitive that a pattern begins with, and how many concatenations stand above it.
-#[derive(Clone, Copy, Debug, Drop)]
+#[derive(Clone, Copy, Drop)]
 struct Head {
     id: PatId,
     above: u32,

@@ -5,7 +5,7 @@ ghost use Rattle.sno_store.specs.Arrays.{bound_of, range, dimension_of, is_colon
 use sno_value::to_int;
 
 /// The subscripts of a dimension, from the lowest to the highest.
-#[derive(Clone, Copy, Debug)]
+#[derive(Clone, Copy)]
 pub(crate) struct Dimension {
     pub(crate) low: i64,
     pub(crate) high: i64,

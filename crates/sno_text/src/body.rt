@@ -15,7 +15,7 @@ use sno_value::ExprId;
 use std::alloc::{AllocError, Global};
 
 /// Whether `=` stands, and what stands behind it.
-#[derive(Clone, Copy, Debug)]
+#[derive(Clone, Copy)]
 pub struct Object {
     pub equals: bool,
     pub object: Option<ExprId>,

@@ -4,7 +4,7 @@ ghost use Rattle.sno_text.specs.Bytes.{byte, in_class, IsWholeRun, IsLiteralEnd,
 ghost use Rattle.sno_text.specs.Bytes as spec;
 
 /// A class of bytes.
-#[derive(Clone, Copy, Debug)]
+#[derive(Clone, Copy)]
 pub enum Class {
     /// A space, a tab, or the joint of a line and its continuation.
     Blank,

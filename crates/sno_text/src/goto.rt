@@ -127,7 +127,7 @@ fn read_other(
 }
 
 /// A target, and the other one behind it.
-#[derive(Clone, Copy, Debug)]
+#[derive(Clone, Copy)]
 pub struct Targets {
     pub first: Target,
     pub second: Option<Target>,

@@ -14,14 +14,14 @@ use bstr::ByteSlice;
 use std::alloc::{AllocError, Global};
 
 /// A text with its lines joined, and where its statements stand in it.
-#[derive(Debug, Drop)]
+#[derive(Drop)]
 pub struct Layout {
     pub joined: Vec<u8>,
     pub extents: Vec<Span>,
 }
 
 /// What a line is.
-#[derive(Clone, Copy, Debug)]
+#[derive(Clone, Copy)]
 pub enum LineKind {
     /// A comment, a control line or a line of blanks.
     Skipped,

@@ -13,7 +13,7 @@ use crate::table::{Read, both};
 use std::alloc::{AllocError, Global};
 
 /// What a statement was read as.
-#[derive(Clone, Copy, Debug)]
+#[derive(Clone, Copy)]
 pub struct Phrase {
     pub label: Option<Span>,
     pub core: Option<Core>,

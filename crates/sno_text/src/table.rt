@@ -7,7 +7,7 @@ use sno_value::ExprId;
 use std::alloc::AllocError;
 
 /// What a part of the text was read as.
-#[derive(Clone, Copy, Debug)]
+#[derive(Clone, Copy)]
 pub struct Found {
     /// The expression.
     pub id: ExprId,
@@ -18,7 +18,7 @@ pub struct Found {
 }
 
 /// What a list of arguments was read as.
-#[derive(Debug, Drop)]
+#[derive(Drop)]
 pub struct FoundList {
     /// The arguments.
     pub ids: Vec<ExprId>,
@@ -29,7 +29,7 @@ pub struct FoundList {
 }
 
 /// What a part of a statement was read as.
-#[derive(Clone, Copy, Debug)]
+#[derive(Clone, Copy)]
 pub struct Read<T> {
     pub what: T,
     /// Where it ends.

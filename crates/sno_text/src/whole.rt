@@ -20,7 +20,7 @@ use std::collections::BTreeMap;
 const LONGEST_TEXT: usize = 4_000_000;
 
 /// A place of a text, and the line in which it lies.
-#[derive(Clone, Copy, Debug)]
+#[derive(Clone, Copy)]
 pub struct Place {
     pub at: usize,
     pub line: u32,
