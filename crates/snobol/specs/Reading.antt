@@ -1,5 +1,5 @@
 -- A pattern's text, and the table of nodes that it is read into.
-use Rattle.std.specs.Prelude.{◌≡◌, ◌<◌, List, ℕ, length}
+use Rattle.std.specs.Prelude.{◌≡◌, ◌<◌, List, [], ℕ, length}
 use Rattle.sno_value.specs.declared.ids.ExprId.{ExprId}
 use Rattle.sno_text.specs.Source.{Source, IsTable}
 use Rattle.sno_text.specs.Trees.{Tree, Stands}
@@ -7,7 +7,7 @@ use Rattle.sno_text.specs.Refusals.{IsAccepted, IsRefused}
 use Rattle.sno_text.specs.declared.error.ReadError.{ReadError}
 use Rattle.sno_text.specs.declared.error.ReadError.TheVariants.{NoMemory}
 
--- the text is accepted, and the number of the table stands for its tree
+-- the text is accepted, and the number of the table stands for its tree; there are no statements, and so no label
 pub record IsRead (text : List ℕ) (source : Source) (e : ExprId) : Type 0 where
   pub tree : Tree
   pub accepted : IsAccepted text tree
@@ -15,6 +15,7 @@ pub record IsRead (text : List ℕ) (source : Source) (e : ExprId) : Type 0 wher
   pub source_text : source.text ≡ text
   pub number : e.0 < length source.nodes
   pub table : IsTable (length source.text) source.nodes
+  pub statements : source.statements ≡ []
 
 -- Why a pattern's text is refused; want of memory is no refusal.
 abbrev pub IsRefusal : List ℕ → ReadError → Type 0
