@@ -229,9 +229,9 @@ is_listing pattern subject anchored limit source e outcome (Err (Halt HasEnded))
     rw is (record { source = source; number = e; read = read; ends = rw told.0 refl; written = told.1 })
 
 -- an expression that the reader accepts is read
-pub is_read : (text : List ℕ) (source : Source) (e : ExprId) → ((t : Tree) × IsAccepted text t × Stands source.nodes e t × Uses source.nodes 0 (e ∷ [])) → source.text ≡ text → e.0 < length source.nodes → IsTable (length source.text) source.nodes → IsRead text source e
-is_read text source e accepted same number table =
-    record { tree = accepted.0; accepted = accepted.1; stands = accepted.2; used = accepted.3; source_text = same; number = number; table = table }
+pub is_read : (text : List ℕ) (source : Source) (e : ExprId) → ((t : Tree) × IsAccepted text t × Stands source.nodes e t × Uses source.nodes 0 (e ∷ [])) → source.text ≡ text → e.0 < length source.nodes → IsTable (length source.text) source.nodes → source.statements ≡ [] → IsRead text source e
+is_read text source e accepted same number table none =
+    record { tree = accepted.0; accepted = accepted.1; stands = accepted.2; used = accepted.3; source_text = same; number = number; table = table; statements = none }
 
 -- a subject that is too long
 pub too_long : (pattern subject : List ℕ) (anchored : Bool) (limit : ℕ) (source : Source) (e : ExprId) → IsRead pattern source e → 1_000_000 < length subject → IsListed pattern subject anchored limit (ways.Error 8) []

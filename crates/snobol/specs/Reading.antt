@@ -7,7 +7,8 @@ use Rattle.sno_text.specs.Refusals.{IsAccepted, IsRefused}
 use Rattle.sno_text.specs.declared.error.ReadError.{ReadError}
 use Rattle.sno_text.specs.declared.error.ReadError.TheVariants.{NoMemory}
 
--- the text is accepted, and the number of the table stands for its tree, of which each node is a part
+-- the text is accepted, and the number of the table stands for its tree, of which each node is a part; there are no
+-- statements, and so no label
 pub record IsRead (text : List ℕ) (source : Source) (e : ExprId) : Type 0 where
   pub tree : Tree
   pub accepted : IsAccepted text tree
@@ -16,6 +17,7 @@ pub record IsRead (text : List ℕ) (source : Source) (e : ExprId) : Type 0 wher
   pub source_text : source.text ≡ text
   pub number : e.0 < length source.nodes
   pub table : IsTable (length source.text) source.nodes
+  pub statements : source.statements ≡ []
 
 -- Why a pattern's text is refused; want of memory is no refusal.
 abbrev pub IsRefusal : List ℕ → ReadError → Type 0

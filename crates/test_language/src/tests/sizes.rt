@@ -1,5 +1,5 @@
-//! Long expressions and long subjects.
-use super::asking::Ways;
+//! Long expressions and long subjects, and as many symbols as there may be.
+use super::asking::{Programs, Ways};
 use super::rows::check_rows;
 use std::test::Fail;
 
@@ -47,4 +47,16 @@ const LONG_NEGATIONS: &str = r"
 #[test]
 fn long_negations(rt: HostRuntime) -> Result<(), Fail> {
     check_rows::<Ways, _>(&rt, LONG_NEGATIONS)
+}
+
+/// The names of a program, that of its item among them, are symbols before its first statement: with N, LT and A there
+/// are 12, so that 999,988 more have room, and not one behind these.
+const NAMES_OF_A_PROGRAM: &str = r"
+--statements 3000000 ; L N = LT(N,999988) N + 1 :F(E)\n $('Q' N) = :(L)\nE A<1>\nEND\n => status 1: snobol4: error 1 in statement 3\n
+--statements 3000000 ; L N = LT(N,999989) N + 1 :F(E)\n $('Q' N) = :(L)\nE A<1>\nEND\n => status 1: snobol4: error 9 in statement 2\n
+";
+
+#[test]
+fn names_of_a_program(rt: HostRuntime) -> Result<(), Fail> {
+    check_rows::<Programs, _>(&rt, NAMES_OF_A_PROGRAM)
 }
