@@ -4,7 +4,7 @@ ghost use Rattle.sno_match.specs.Point.{rest_of};
 
 use crate::event::Pending;
 use crate::goal::{Goal, Mark, Top};
-use crate::points::Points;
+use crate::points::{Points, keep_oldest};
 use std::alloc::{AllocError, Global};
 use std::mem::swap;
 
@@ -110,6 +110,14 @@ impl Points for CopiedGoals {
             point.mark = Mark::Enter;
         }
         Ok(())
+    }
+
+    fn cut(&mut self, depth: usize) {
+        if let Some(point) = &mut self.top {
+            put_front(&mut point.goals, &[]);
+            point.mark = Mark::Enter;
+            keep_oldest(&mut self.below, depth);
+        }
     }
 
     fn pop(&mut self) {

@@ -1,11 +1,11 @@
 //! Resumption points whose goal lists are numbered records, shared between them.
-ghost use Rattle.std.specs.Prelude.{◌≡◌, ℕ, ◌+◌, ◌≤◌, [], ◌∷◌, ◌++◌, length, reverse, take, vec_len, vec_capacity, IfOk, IfNone, IfSome, OnOk, OnErr};
+ghost use Rattle.std.specs.Prelude.{◌≡◌, ℕ, ◌+◌, ◌-◌, ◌≤◌, [], ◌∷◌, ◌++◌, drop, length, reverse, take, vec_len, vec_capacity, IfOk, IfNone, IfSome, OnOk, OnErr};
 ghost use Rattle.sno_match.specs.Point.{rest_of};
-ghost use Rattle.sno_match.specs.Shared.{Falls, Extends, goals_of};
+ghost use Rattle.sno_match.specs.Shared.{Falls, Fits, Extends, goals_of};
 
 use crate::event::Pending;
 use crate::goal::{Goal, Mark, Top};
-use crate::points::Points;
+use crate::points::{Points, keep_oldest};
 use std::alloc::{AllocError, Global};
 use std::marker::Model;
 
@@ -156,6 +156,20 @@ impl Points for SharedGoals {
         Ok(())
     }
 
+    fn cut(&mut self, depth: usize) {
+        if let Some(point) = self.top {
+            let goals = behind_first(&self.records, point.goals);
+            let floor = drop_newer(&mut self.below, depth, point.floor);
+            self.top = Some(Held {
+                goals,
+                cursor: point.cursor,
+                mark: Mark::Enter,
+                floor,
+                assigned: point.assigned,
+            });
+        }
+    }
+
     fn pop(&mut self) {
         if let Some(point) = self.top {
             self.top = self.below.pop();
@@ -246,6 +260,20 @@ fn behind_first(records: &[GoalRecord], goals: usize) -> usize
         return 0;
     }
     records[goals - 1].behind
+}
+
+/// Keeps the oldest points, so many: past which record those need none.
+fn drop_newer(below: &mut Vec<Held>, count: usize, floor: usize) -> usize
+    ensures points { reverse below.new.items ≡ drop (length below.old.items - count) (reverse below.old.items) }
+    ensures floor { (assigned : ℕ) → Fits floor assigned (reverse below.old.items) → (result ≤ floor) × Fits result assigned (reverse below.new.items) }
+{
+    if count >= below.len() {
+        keep_oldest(below, count);
+        return floor;
+    }
+    let least = below[count].floor;
+    keep_oldest(below, count);
+    least
 }
 
 fn larger(first: usize, second: usize) -> usize
