@@ -50,7 +50,7 @@ floor-at xs count floor assigned dropped d inside is h = floor-some xs count flo
 -- the newest point closes a cut
 module _ (records : List GoalRecord) (pending : List Pending) (top : Option Held) (below kept : List Held) (point : Held) (is : top ≡ Some point) (holds : Holds records pending top below)
     (goals floor depth : ℕ) (rest : goals_of records goals ≡ rest_of (goals_of records point.goals)) (near : goals ≤ point.goals)
-    (keeps : reverse kept ≡ drop (length below - depth) (reverse below)) (low : floor ≤ point.floor) (fit : Fits floor point.assigned (reverse kept)) where
+    (keeps : kept ≡ take depth below) (low : floor ≤ point.floor) (fit : Fits floor point.assigned (reverse kept)) where
   all : Fits (length records) (length pending) (point ∷ reverse below)
   all = fits records pending top below point is holds
 
@@ -62,15 +62,15 @@ module _ (records : List GoalRecord) (pending : List Pending) (top : Option Held
       let size : length (map (point_of records pending) (reverse below)) - depth ≡ length below - depth = omega (arith, map-length (point_of records pending) (reverse below), length-reverse below) in
       ap (λ (gs : List Goal). let p : Point = record { goals = gs; cursor = point.cursor; pending = take point.assigned pending; mark = Enter } in p ∷ map (point_of records pending) (reverse kept)) rest ∙
       ap (λ (ps : List Point). record { goals = rest_of (goals_of records point.goals); cursor = point.cursor; pending = take point.assigned pending; mark = Enter } ∷ ps)
-      (ap (map (point_of records pending)) keeps ∙ sym (drop-map (point_of records pending) (length below - depth) (reverse below)) ∙ ap (λ (n : ℕ). drop n (map (point_of records pending) (reverse below))) (sym size)) ∙
+      (ap (map (point_of records pending)) (ap reverse keeps ∙ oldest below depth) ∙ sym (drop-map (point_of records pending) (length below - depth) (reverse below)) ∙ ap (λ (n : ℕ). drop n (map (point_of records pending) (reverse below))) (sym size)) ∙
       ap (λ t. cut_back depth (points_of records pending t below)) (sym is)
 
 -- the same of points with copied lists
-pub copied_cut : (top : Option Copied) (below kept : List Copied) (point : Copied) (goals : List Goal) (depth : ℕ) → top ≡ Some point → goals ≡ rest_of (reverse point.goals.items) → reverse kept ≡ drop (length below - depth) (reverse below) →
+pub copied_cut : (top : Option Copied) (below kept : List Copied) (point : Copied) (goals : List Goal) (depth : ℕ) → top ≡ Some point → goals ≡ rest_of (reverse point.goals.items) → kept ≡ take depth below →
     record { goals = goals; cursor = point.cursor; pending = point.pending.items; mark = Enter } ∷ map copied_of (reverse kept) ≡ cut_back depth (copied_points top below)
 copied_cut top below kept point goals depth is rest keeps =
     let size : length (map copied_of (reverse below)) - depth ≡ length below - depth = omega (arith, map-length copied_of (reverse below), length-reverse below) in
     ap (λ (gs : List Goal). let p : Point = record { goals = gs; cursor = point.cursor; pending = point.pending.items; mark = Enter } in p ∷ map copied_of (reverse kept)) rest ∙
     ap (λ (ps : List Point). record { goals = rest_of (reverse point.goals.items); cursor = point.cursor; pending = point.pending.items; mark = Enter } ∷ ps)
-    (ap (map copied_of) keeps ∙ sym (drop-map copied_of (length below - depth) (reverse below)) ∙ ap (λ (n : ℕ). drop n (map copied_of (reverse below))) (sym size)) ∙
+    (ap (map copied_of) (ap reverse keeps ∙ oldest below depth) ∙ sym (drop-map copied_of (length below - depth) (reverse below)) ∙ ap (λ (n : ℕ). drop n (map copied_of (reverse below))) (sym size)) ∙
     ap (λ t. cut_back depth (copied_points t below)) (sym is)

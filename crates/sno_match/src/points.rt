@@ -1,5 +1,5 @@
 //! The stack of resumption points.
-ghost use Rattle.std.specs.Prelude.{◌≡◌, ◌≤◌, ◌+◌, ◌-◌, List, ℕ, [], ◌∷◌, drop, length, reverse, OnOk, OnErr};
+ghost use Rattle.std.specs.Prelude.{◌≡◌, ◌≤◌, ◌+◌, List, ℕ, [], ◌∷◌, length, OnOk, OnErr};
 ghost use Rattle.sno_match.specs.Point.{Point, HasFirst, replaced, branched, closed, cut_back, below};
 ghost use Rattle.sno_match.specs.Top.{IsTop, Finishes, first_point};
 
@@ -57,7 +57,7 @@ pub trait Points: Drop + Sized {
         ensures records { records self.new ≤ records self.old }
         ensures err { OnErr result ((points self.new ≡ points self.old) × (records self.new ≡ records self.old)) };
 
-    /// The newest point's first goal is dropped, and of the points below it the oldest stay, so many.
+    /// The newest point's first goal is dropped, and of the points below it only the oldest `depth` stay.
     fn cut(&mut self, depth: usize)
         ensures points { points self.new ≡ cut_back depth (points self.old) }
         ensures records { records self.new ≤ records self.old };
@@ -79,11 +79,4 @@ pub trait Points: Drop + Sized {
         ensures ok { OnOk result (points self.new ≡ first_point goal cursor ∷ []) }
         ensures records { records self.new ≤ records self.old + 1 }
         ensures err { OnErr result ((points self.new ≡ points self.old) × (records self.new ≡ records self.old)) };
-}
-
-/// Keeps the oldest members of a list of points, so many, of which the newest stands last.
-pub(crate) fn keep_oldest<T: Drop>(points: &mut Vec<T>, count: usize)
-    ensures items { reverse points.new.items ≡ drop (length points.old.items - count) (reverse points.old.items) }
-{
-    points.truncate(count);
 }

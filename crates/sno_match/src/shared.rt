@@ -1,11 +1,11 @@
 //! Resumption points whose goal lists are numbered records, shared between them.
-ghost use Rattle.std.specs.Prelude.{◌≡◌, ℕ, ◌+◌, ◌-◌, ◌≤◌, [], ◌∷◌, ◌++◌, drop, length, reverse, take, vec_len, vec_capacity, IfOk, IfNone, IfSome, OnOk, OnErr};
+ghost use Rattle.std.specs.Prelude.{◌≡◌, ℕ, ◌+◌, ◌≤◌, [], ◌∷◌, ◌++◌, length, reverse, take, vec_len, vec_capacity, IfOk, IfNone, IfSome, OnOk, OnErr};
 ghost use Rattle.sno_match.specs.Point.{rest_of};
 ghost use Rattle.sno_match.specs.Shared.{Falls, Fits, Extends, goals_of};
 
 use crate::event::Pending;
 use crate::goal::{Goal, Mark, Top};
-use crate::points::{Points, keep_oldest};
+use crate::points::Points;
 use std::alloc::{AllocError, Global};
 use std::marker::Model;
 
@@ -262,17 +262,17 @@ fn behind_first(records: &[GoalRecord], goals: usize) -> usize
     records[goals - 1].behind
 }
 
-/// Keeps the oldest points, so many: past which record those need none.
+/// Only the oldest points stay, so many. They and a newest point that needed none past `floor` need none past the number
+/// that is given.
 fn drop_newer(below: &mut Vec<Held>, count: usize, floor: usize) -> usize
-    ensures points { reverse below.new.items ≡ drop (length below.old.items - count) (reverse below.old.items) }
+    ensures points { below.new.items ≡ take count below.old.items }
     ensures floor { (assigned : ℕ) → Fits floor assigned (reverse below.old.items) → (result ≤ floor) × Fits result assigned (reverse below.new.items) }
 {
     if count >= below.len() {
-        keep_oldest(below, count);
         return floor;
     }
     let least = below[count].floor;
-    keep_oldest(below, count);
+    below.truncate(count);
     least
 }
 
