@@ -8,12 +8,12 @@ use Rattle.sno_value.specs.declared.kind.PrimitiveKind.{PrimitiveKind}
 use Rattle.sno_value.specs.declared.value.Value.{Value as Stored}
 use Rattle.sno_value.specs.declared.value.Value.TheVariants as stored
 use Rattle.sno_pattern.specs.declared.argument.Arg.TheVariants.{Count}
-use Rattle.sno_pattern.specs.Pattern.{Arbno}
+use Rattle.sno_pattern.specs.Pattern.{Pattern}
 use Rattle.sno_pattern.specs.Table.{Node}
 use Rattle.sno_machine.specs.declared.machine.Exit.{Exit}
-use Rattle.sno_machine.specs.Action.{Action}
+use Rattle.sno_machine.specs.Action.{Action, and_then}
 use Rattle.sno_machine.specs.Values.{Value, shown, IsValueOf}
-use Rattle.sno_machine.specs.Operators.{argument, as_pattern, makes_value, count_primitive, set_primitive, primitive, primitive_value, repetition, rest}
+use Rattle.sno_machine.specs.Operators.{argument, as_pattern, makes_value, count_primitive, set_primitive, primitive, primitive_value, rest}
 use Rattle.sno_machine.specs.Variables.{wrong_type}
 use Rattle.sno_machine.specs.State.{State, Does, tree_of, IsPatternOf}
 use Rattle.sno_machine.specs.Primitives.{with_bytes, makes_primitive}
@@ -44,11 +44,13 @@ primitive_at_once kind nodes (stored.Name target) isnt = refl
 primitive_at_once kind nodes (stored.Array id) isnt = refl
 primitive_at_once kind nodes (stored.Table id) isnt = refl
 
-pub body_refused : (x : Value) (a b : State) (e : Exit) → Does {X = PatId} tree_of IsPatternOf (as_pattern x) a b (Err e) → Does {X = Stored} shown IsValueOf (repetition x) a b (Err e)
-body_refused x a b e h = then_err tree_of IsPatternOf shown IsValueOf (as_pattern x) (λ p. makes_value (Arbno p)) a b e h
+-- a pattern over that of a value
+pub body_refused : (over : Pattern → Pattern) (x : Value) (a b : State) (e : Exit) → Does {X = PatId} tree_of IsPatternOf (as_pattern x) a b (Err e) → Does {X = Stored} shown IsValueOf (and_then (as_pattern x) (λ p. makes_value (over p))) a b (Err e)
+body_refused over x a b e h = then_err tree_of IsPatternOf shown IsValueOf (as_pattern x) (λ p. makes_value (over p)) a b e h
 
-pub body_made : (x : Value) (a b c : State) (id : PatId) (r : Result Stored Exit) → Does tree_of IsPatternOf (as_pattern x) a b (Ok id) → Does shown IsValueOf (makes_value (Arbno (tree_of b.nodes id))) b c r → Does shown IsValueOf (repetition x) a c r
-body_made x a b c id r h k = then_got tree_of IsPatternOf shown IsValueOf (as_pattern x) (λ p. makes_value (Arbno p)) a b c id r h k
+pub body_made : (over : Pattern → Pattern) (x : Value) (a b c : State) (id : PatId) (r : Result Stored Exit) → Does tree_of IsPatternOf (as_pattern x) a b (Ok id) → Does shown IsValueOf (makes_value (over (tree_of b.nodes id))) b c r →
+    Does shown IsValueOf (and_then (as_pattern x) (λ p. makes_value (over p))) a c r
+body_made over x a b c id r h k = then_got tree_of IsPatternOf shown IsValueOf (as_pattern x) (λ p. makes_value (over p)) a b c id r h k
 
 -- the second argument stays where the first is taken out
 pub second_stays : (nodes : List Node) (v : Stored) (xs ys : List Stored) → ys ≡ slice_set xs 0 v → argument (map (shown nodes) ys) 1 ≡ argument (map (shown nodes) xs) 1

@@ -1,9 +1,9 @@
 -- The functions of the language.
 use Rattle.std.specs.Prelude.{ℕ, List, [], ◌∷◌, Option, Some, None, codes, if◌then◌else◌}
 use Rattle.std.specs.Str.{bytes_eq}
-use Rattle.sno_value.specs.declared.kind.PrimitiveKind.TheVariants.{Len, Pos, Rpos, Tab, Rtab, Any, NotAny, Span, Break}
+use Rattle.sno_value.specs.declared.kind.PrimitiveKind.TheVariants.{Len, Pos, Rpos, Tab, Rtab, Any, NotAny, Span, Break, BreakX}
 use Rattle.sno_machine.specs.declared.builtins.Builtin.{Builtin}
-use Rattle.sno_machine.specs.declared.builtins.Builtin.TheVariants.{Primitive, Arbno, Convert, MakeArray, MakeTable, Prototype, Define, Plain}
+use Rattle.sno_machine.specs.declared.builtins.Builtin.TheVariants.{Primitive, Arbno, Cut, Convert, MakeArray, MakeTable, Prototype, Define, Plain}
 use Rattle.sno_machine.specs.declared.builtins.Conversion.{Conversion}
 use Rattle.sno_machine.specs.declared.builtins.Conversion.TheVariants.{ToString, ToInteger, ToPattern, ToArray}
 use Rattle.sno_machine.specs.declared.builtins.Plain.TheVariants.{Compare, Remdr, Ident, Differ, Lgt, Integer, Size, Trim, Dupl, Replace, Datatype}
@@ -19,7 +19,7 @@ abbrev pub pattern_functions : List (List ℕ × Builtin)
 pattern_functions =
     (codes "LEN", Primitive Len) ∷ (codes "POS", Primitive Pos) ∷ (codes "RPOS", Primitive Rpos) ∷ (codes "TAB", Primitive Tab)
     ∷ (codes "RTAB", Primitive Rtab) ∷ (codes "ANY", Primitive Any) ∷ (codes "NOTANY", Primitive NotAny) ∷ (codes "SPAN", Primitive Span)
-    ∷ (codes "BREAK", Primitive Break) ∷ (codes "ARBNO", Arbno) ∷ []
+    ∷ (codes "BREAK", Primitive Break) ∷ (codes "BREAKX", Primitive BreakX) ∷ (codes "ARBNO", Arbno) ∷ (codes "FENCE", Cut) ∷ []
 
 -- the functions of numbers
 abbrev pub number_functions : List (List ℕ × Builtin)

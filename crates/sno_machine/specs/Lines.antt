@@ -1,7 +1,7 @@
 -- The lines that `ways` writes.
 use Rattle.std.specs.Prelude.{ℕ, List, [], ◌∷◌, ◌++◌, codes, decimal}
 use Rattle.sno_match.specs.declared.event.Pending.{Pending}
-use Rattle.sno_match.specs.Search.{Event, Way, Assign, Cursor, Value, Ended, Exhausted, Aborted, Limit, Waiting}
+use Rattle.sno_match.specs.Search.{Event, Way, Assign, Cursor, Value, Ended, Exhausted, Aborted, Limit, Waiting, CutOff}
 use Rattle.sno_machine.specs.Variables.{text_of_name}
 
 -- an assignment that waits for the end of the match
@@ -24,4 +24,5 @@ line_of symbols (Ended Exhausted) = codes "exhausted\n"
 line_of symbols (Ended Aborted) = codes "aborted\n"
 line_of symbols (Ended Limit) = codes "limit\n"
 line_of symbols (Ended Waiting) = []
+line_of symbols (Ended (CutOff mark)) = []
 line_of symbols (Value primitive expression) = []

@@ -4,7 +4,7 @@ ghost use Rattle.std.specs.List.{AllByRecursion};
 ghost use Rattle.sno_value.specs.Kind.{takes_count};
 ghost use Rattle.sno_pattern.specs.Table.{Node};
 ghost use Rattle.sno_machine.specs.Values.{shown, IsValueOf};
-ghost use Rattle.sno_machine.specs.Operators.{answer, argument, called, count_primitive, primitive, primitive_value, repetition, set_primitive};
+ghost use Rattle.sno_machine.specs.Operators.{answer, argument, called, count_primitive, cut, primitive, primitive_value, repetition, set_primitive};
 ghost use Rattle.sno_machine.specs.Calls.{define};
 ghost use Rattle.sno_machine.specs.Numbers.{number_of};
 ghost use Rattle.sno_machine.specs.Functions.{plain};
@@ -40,6 +40,10 @@ pub fn called(
         Some(Builtin::Arbno) => {
             let operand = argument(machine.alloc(), operands, 0);
             repetition(machine, operand)
+        }
+        Some(Builtin::Cut) => {
+            let operand = argument(machine.alloc(), operands, 0);
+            cut(machine, operand)
         }
         Some(Builtin::Convert) => {
             let x = argument(machine.alloc(), operands, 0);
@@ -175,5 +179,15 @@ fn repetition(machine: &mut Machine, operand: Value) -> Result<Value, Exit>
 {
     let body = as_pattern(machine, operand)?;
     let id = machine.arbno(body)?;
+    Ok(Value::Pat(id))
+}
+
+/// FENCE(P).
+fn cut(machine: &mut Machine, operand: Value) -> Result<Value, Exit>
+    requires { IsValueOf machine.old.nodes operand }
+    ensures { Does shown IsValueOf (cut (shown machine.old.nodes operand)) machine.old machine.new result }
+{
+    let body = as_pattern(machine, operand)?;
+    let id = machine.cut(body)?;
     Ok(Value::Pat(id))
 }

@@ -13,12 +13,14 @@ use Rattle.sno_match.specs.declared.engine.State.TheVariants as S
 use Rattle.sno_match.specs.Search.{Answer, emit, further, whole}
 use Rattle.sno_match.specs.Point.{Point, with_front, rest_of, below, HasFirst}
 use Rattle.sno_match.specs.Reading.{AllKnown, AllMarked, Fits, IsStack}
+use Rattle.sno_match.specs.Scopes.{FirstIsPlain, HasCuts}
 use Rattle.sno_match.specs.State.{waits}
 use Rattle.sno_match.specs.Move.{answered}
 use Rattle.sno_match.specs.Session.{Session, answers_of, told_of, IsCounted, Begins}
 use Rattle.sno_match.specs.Running.{to_come, later, seen, IsMatch, AnswersIn}
 use Rattle.sno_match.proofs.ReadingLaws.{resume-exhausted}
 use Rattle.sno_match.proofs.MoveLaws.{below-kept}
+use Rattle.sno_match.proofs.CutMoves.{cuts-below}
 use Rattle.sno_match.proofs.CountLaws.{told_is, match_counted}
 use Rattle.sno_match.proofs.GrowLaws.{grown, grown_trace}
 
@@ -53,6 +55,12 @@ answered-stack nodes s [] given k h st = elim h [ ]
 answered-stack nodes s (point ∷ rest) None k h st = below-kept nodes s (point ∷ rest) st.fit st.marked
 answered-stack nodes s (point ∷ rest) (Some id) k h st = record { fit = (rest-known nodes s id point k st.fit.0, st.fit.1); marked = st.marked }
 
+pub answered-cuts : (nodes : List Node) (left : ℕ) (points : List Point) (given : Option PatId) → FirstIsPlain points → HasCuts nodes left points → HasCuts nodes left (answered given points)
+answered-cuts nodes left points None h k = cuts-below nodes left points k
+answered-cuts nodes left [] (Some id) h k = k
+answered-cuts nodes left (point ∷ rest) (Some id) h k =
+    record { scoped = (h ∙ k.scoped.0, k.scoped.1); rising = (cuts-below nodes left (point ∷ rest) k).rising }
+
 pub answered-few : (points : List Point) (given : Option PatId) → length (answered given points) ≤ length points
 answered-few [] None = omega arith
 answered-few [] (Some id) = omega arith
@@ -69,7 +77,8 @@ module _ (m : Session) (start : ℕ) (points : List Point) (inv : IsMatch m star
     answers_in = AnswersIn-append m.nodes m.answers given inv.answers_in known;
     steps_in = inv.steps_in;
     start_in = inv.start_in;
-    stack = subst (λ (ps : List Point). IsStack m.nodes m.subject ps) (sym is) (answered-stack m.nodes m.subject points given known inv.asked inv.stack);
+    stack = subst (λ (ps : List Point). IsStack m.nodes m.subject ps) (sym is) (answered-stack m.nodes m.subject points given known inv.asked.0 inv.stack);
+    cuts = subst (HasCuts m.nodes (m.limit - m.steps)) (sym is) (answered-cuts m.nodes (m.limit - m.steps) points given inv.asked.1 inv.cuts);
     asked = tt;
     last_in = tt;
     points_in = omega (arith, inv.points_in, answered-few points given, ap length is);
@@ -81,7 +90,7 @@ module _ (m : Session) (start : ℕ) (points : List Point) (inv : IsMatch m star
     story = λ more.
         ap (λ (as' : List Answer). whole (tree m.nodes m.pattern.0) m.subject m.anchored as' m.limit) (answers_of-append m.nodes m.answers given more) ∙
         inv.story (answer_of m.nodes given ∷ more) ∙
-        ap (emit inv.events) (answered_come m start points given inv.asked inv.stack.marked more (m.limit - m.steps) ∙ ap (λ (ps : List Point). to_come S.Going m start ps more (m.limit - m.steps)) (sym is));
+        ap (emit inv.events) (answered_come m start points given inv.asked.0 inv.stack.marked more (m.limit - m.steps) ∙ ap (λ (ps : List Point). to_come S.Going m start ps more (m.limit - m.steps)) (sym is));
   }
 
   -- no event that was told changes
@@ -120,7 +129,7 @@ module _ (o : Session) (nodes : List Node) (pattern : PatId) (s : List ℕ) (anc
   inv_waiting = subst (λ (st : State). IsMatch (over_table lent st) start points st) waiting_state lent_match
 
   pub first_point_waits : HasFirst points
-  first_point_waits = inv_waiting.asked
+  first_point_waits = inv_waiting.asked.0
 
   -- nothing was answered
   pub unanswered : IsMatch (over_table lent state) start points state × (told_of (over_table lent state) ≡ told_of o) × IsCounted (over_table lent state)

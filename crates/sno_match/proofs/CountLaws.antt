@@ -61,7 +61,7 @@ over-few (S.Ended event) = omega arith
 module _ (m : Session) (start : ℕ) (points : List Point) where
   final-events : (state : State) (left : ℕ) → (inv : IsMatch m start points state) → all_events (to_come state m start points [] left) ≡ final state left ++ unfinal m start points state left
   final-events S.Going left inv = refl
-  final-events S.Waiting left inv = ap all_events (waits_here m start points left inv.asked)
+  final-events S.Waiting left inv = ap all_events (waits_here m start points left inv.asked.0)
   final-events (S.Ended (V.Way start' end)) left inv = refl
   final-events (S.Ended (V.Assign target start' end)) left inv = refl
   final-events (S.Ended (V.Cursor target at)) left inv = refl

@@ -14,6 +14,7 @@ use Rattle.sno_match.specs.Reading.{IsStack}
 use Rattle.sno_match.specs.State.{after, after_move, waits, ended, owed}
 use Rattle.sno_match.specs.Move.{Makes}
 use Rattle.sno_match.specs.Session.{Session, IsCounted}
+use Rattle.sno_match.specs.Scopes.{HasCuts}
 use Rattle.sno_match.specs.Starts.{Passes}
 use Rattle.sno_match.specs.Running.{later_starts, seen, IsMatch, Advances}
 use Rattle.sno_match.proofs.SessionLaws.{Leads, led, led_told, led_on, move_leads, exhausted_leads, limit_leads, start_leads}
@@ -78,13 +79,13 @@ module _ (o : Session) (nodes : List Node) (pattern : PatId) (s : List ℕ) (anc
 
   -- a move was made, on the table and the subject as they were lent
   module _ (lent : List Node) (text : List ℕ) (table : o.nodes ≡ lent) (same : text ≡ s) (result : Option Told) (new_steps : ℕ) (new : List Point) (new_way : List Pending) (new_records : ℕ)
-      (stack : IsStack lent text new) (few : new_records + 2 * steps + owed (after_move result) ≤ records + 2 * new_steps) (made : Makes lent text start limit points steps way result new new_steps new_way) where
+      (stack : IsStack lent text new) (cuts : HasCuts lent (limit - new_steps) new) (few : new_records + 2 * steps + owed (after_move result) ≤ records + 2 * new_steps) (made : Makes lent text start limit points steps way result new new_steps new_way) where
     of_match : (P : List Node → List ℕ → Type 0) → P lent text → P nodes s
     of_match P h = subst (λ (n : List Node). P n s) (sym (ap (λ (x : Session). x.nodes) view ∙ table)) (subst (λ (t : List ℕ). P lent t) same h)
 
     pub made_leads : Leads m start points result new_steps start new new_way new_records
     made_leads =
-        move_leads m start points result new_steps new new_way new_records inv.start_in (of_match (λ n t. IsStack n t new) stack) few
+        move_leads m start points result new_steps new new_way new_records inv.start_in (of_match (λ n t. IsStack n t new) stack) (of_match (λ n t. HasCuts n (limit - new_steps) new) cuts) few
         (of_match (λ n t. Makes n t start limit points steps way result new new_steps new_way) made)
 
   -- what is seen of it

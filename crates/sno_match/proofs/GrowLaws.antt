@@ -13,6 +13,7 @@ use Rattle.sno_match.specs.declared.engine.State.TheVariants as S
 use Rattle.sno_match.specs.Search.{Match, CloseRepeat, Answer, Outcome, emit, further, search, with_answer, whole, trace}
 use Rattle.sno_match.specs.Point.{Point, rest_of}
 use Rattle.sno_match.specs.Reading.{body_of, goal_of, goals_of, behind, behind_mark, from_mark, resume, reading, waiting, IsKnown, AllKnown, AllFit, MarkFits, HasNext}
+use Rattle.sno_match.specs.Scopes.{opened_at, opened, opens, AllScoped, RiseFrom, HasCuts}
 use Rattle.sno_match.specs.Session.{Session, answers_of, trace_of, Begins}
 use Rattle.sno_match.specs.Running.{later, later_starts, to_come, AnswersIn, IsMatch}
 
@@ -21,6 +22,7 @@ module _ (nodes more : List Node) where
   goal_of-grow (N.Match id) h = ap Match (tree-append nodes more id.0 h)
   goal_of-grow (N.CloseCond target from) h = refl
   goal_of-grow (N.CloseImm target from) h = refl
+  goal_of-grow (N.CloseCut left depth) h = refl
   goal_of-grow (N.CloseRepeat id from) h = ap (λ t. CloseRepeat (body_of t) from) (tree-append nodes more id.0 h.0)
 
   goals_of-grow : (gs : List Numbered) → AllKnown nodes gs → goals_of (nodes ++ more) gs ≡ goals_of nodes gs
@@ -31,6 +33,7 @@ module _ (nodes more : List Node) where
   known-grow (N.Match id) h = omega (arith, length-append nodes more, h)
   known-grow (N.CloseCond target from) h = tt
   known-grow (N.CloseImm target from) h = tt
+  known-grow (N.CloseCut left depth) h = tt
   known-grow (N.CloseRepeat id from) h = (omega (arith, length-append nodes more, h.0), tree-append nodes more id.0 h.0 ∙ h.1 ∙ ap (λ t. Arbno (body_of t)) (sym (tree-append nodes more id.0 h.0)))
 
   all_known-grow : (gs : List Numbered) → AllKnown nodes gs → AllKnown (nodes ++ more) gs
@@ -43,11 +46,33 @@ module _ (nodes more : List Node) where
   mark-grow s (Next i) (N.Match id ∷ gs) c k h = subst (λ (p : Pattern). HasNext p s c i) (sym (tree-append nodes more id.0 k.0)) h
   mark-grow s (Next i) (N.CloseCond target from ∷ gs) c k h = h
   mark-grow s (Next i) (N.CloseImm target from ∷ gs) c k h = h
+  mark-grow s (Next i) (N.CloseCut left depth ∷ gs) c k h = h
   mark-grow s (Next i) (N.CloseRepeat id from ∷ gs) c k h = h
 
   fit-grow : (s : List ℕ) (points : List Point) → AllFit nodes s points → AllFit (nodes ++ more) s points
   fit-grow s [] h = tt
   fit-grow s (p ∷ ps) h = (record { known = all_known-grow p.goals h.0.known; inside = h.0.inside; next = mark-grow s p.mark p.goals p.cursor h.0.known h.0.next }, fit-grow s ps h.1)
+
+  opened-grow : (gs : List Numbered) (mark : Mark) (depth : ℕ) → AllKnown nodes gs → opened (nodes ++ more) gs mark depth ≡ opened nodes gs mark depth
+  opened-grow gs Enter depth k = refl
+  opened-grow [] (Next left) depth k = refl
+  opened-grow (N.Match id ∷ gs) (Next left) depth k = ap (λ t. opened_at t left depth) (tree-append nodes more id.0 k.0)
+  opened-grow (N.CloseCond target from ∷ gs) (Next left) depth k = refl
+  opened-grow (N.CloseImm target from ∷ gs) (Next left) depth k = refl
+  opened-grow (N.CloseCut m d ∷ gs) (Next left) depth k = refl
+  opened-grow (N.CloseRepeat id from ∷ gs) (Next left) depth k = refl
+
+  opens-grow : (s : List ℕ) (points : List Point) → AllFit nodes s points → opens (nodes ++ more) points ≡ opens nodes points
+  opens-grow s [] h = refl
+  opens-grow s (p ∷ ps) h =
+      ap (λ ss. ss ++ opens (nodes ++ more) ps) (opened-grow p.goals p.mark (length ps) h.0.known) ∙ ap (λ ss. opened nodes p.goals p.mark (length ps) ++ ss) (opens-grow s ps h.1)
+
+  scoped-grow : (s : List ℕ) (points : List Point) → AllFit nodes s points → AllScoped nodes points → AllScoped (nodes ++ more) points
+  scoped-grow s [] h k = tt
+  scoped-grow s (p ∷ ps) h k = (k.0 ∙ sym (opens-grow s ps h.1), scoped-grow s ps h.1 k.1)
+
+  cuts-grow : (s : List ℕ) (left : ℕ) (points : List Point) → AllFit nodes s points → HasCuts nodes left points → HasCuts (nodes ++ more) left points
+  cuts-grow s left points h k = record { scoped = scoped-grow s points h k.scoped; rising = subst (RiseFrom left) (sym (opens-grow s points h)) k.rising }
 
   module _ (s : List ℕ) (start : ℕ) where
     resume-grow : (points : List Point) (outcome : Outcome) → AllFit nodes s points → resume (nodes ++ more) s start points outcome ≡ resume nodes s start points outcome
@@ -122,6 +147,7 @@ module _ (m : Session) (lent : List Node) (b : Begins m.nodes lent) where
         steps_in = inv.steps_in;
         start_in = inv.start_in;
         stack = record { fit = fit-grow m.nodes b.0 m.subject points inv.stack.fit; marked = inv.stack.marked };
+        cuts = cuts-grow m.nodes b.0 m.subject (m.limit - m.steps) points inv.stack.fit inv.cuts;
         asked = inv.asked;
         last_in = inv.last_in;
         points_in = inv.points_in;

@@ -1,6 +1,6 @@
 -- Every event of a search is told with no more steps left than it began with.
 use Rattle.std.proofs.Common.{ℕ, zero, suc, ◌≤◌, ◌==◌, Bool, true, false, List, [], ◌∷◌, ◌++◌, Some, None, map, replicate, arith}
-use Rattle.sno_pattern.specs.Pattern.{Pattern, Leaf, Fence, Abort, Succeed, Arbno, Alt, Cat, Cond, Imm, Place, Defer}
+use Rattle.sno_pattern.specs.Pattern.{Pattern, Leaf, Fence, Cut, Abort, Succeed, Arbno, Alt, Cat, Cond, Imm, Place, Defer}
 use Rattle.sno_pattern.specs.Ends.{ends}
 use Rattle.sno_match.specs.declared.event.Pending.{Pending}
 use Rattle.sno_pattern.specs.Table.{Node, tree}
@@ -11,7 +11,7 @@ use Rattle.sno_match.specs.Point.{Point}
 use Rattle.sno_match.specs.Reading.{left_of, goals_of, ends_from, after_pattern, after_goals, behind_mark, behind, resume, from_mark, reading}
 use Rattle.sno_match.specs.Session.{Session}
 use Rattle.sno_match.specs.Running.{later, later_starts, to_come}
-use Rattle.sno_match.specs.Search.{Goal, Match, CloseCond, CloseImm, CloseRepeat, Exhausted, Aborted, Limit, Waiting, Event, Assign, Cursor, Value, Answer, Outcome, Gives, Search, Finder, emit, or_else, further, tries, abort_if_exhausted, with_answer, if_moved, first_goal, search_within, search, all_events, Ended}
+use Rattle.sno_match.specs.Search.{Goal, Match, CloseCond, CloseImm, CloseRepeat, Exhausted, Aborted, Limit, Waiting, Event, Assign, Cursor, Value, Answer, Outcome, Gives, Search, Finder, emit, or_else, further, tries, abort_if_exhausted, with_answer, if_moved, first_goal, search_within, search, all_events, Ended, CloseCut, CutOff, cut_if_exhausted, exhausted_if_cut}
 
 abbrev pub AllLeft : ℕ → List (Event × ℕ) → Type 0
 AllLeft n [] = Unit {0}
@@ -45,6 +45,7 @@ or_else-within n (Gives es answers (suc left) Exhausted) f k w =
 or_else-within n (Gives es answers left Aborted) f k w = w
 or_else-within n (Gives es answers left Limit) f k w = w
 or_else-within n (Gives es answers left Waiting) f k w = w
+or_else-within n (Gives es answers left (CutOff m)) f k w = w
 
 abbrev AllKeep : List Search → Type 0
 AllKeep [] = Unit {0}
@@ -71,6 +72,21 @@ abort-within n (Gives es answers left Exhausted) w = w
 abort-within n (Gives es answers left Aborted) w = w
 abort-within n (Gives es answers left Limit) w = w
 abort-within n (Gives es answers left Waiting) w = w
+abort-within n (Gives es answers left (CutOff m)) w = w
+
+cut-within : (n m : ℕ) (r : Outcome) → IsWithin n r → IsWithin n (cut_if_exhausted m r)
+cut-within n m (Gives es answers left Exhausted) w = w
+cut-within n m (Gives es answers left Aborted) w = w
+cut-within n m (Gives es answers left Limit) w = w
+cut-within n m (Gives es answers left Waiting) w = w
+cut-within n m (Gives es answers left (CutOff k)) w = w
+
+ended-within : (n m : ℕ) (r : Outcome) → IsWithin n r → IsWithin n (exhausted_if_cut m r)
+ended-within n m (Gives es answers left Exhausted) w = w
+ended-within n m (Gives es answers left Aborted) w = w
+ended-within n m (Gives es answers left Limit) w = w
+ended-within n m (Gives es answers left Waiting) w = w
+ended-within n m (Gives es answers left (CutOff k)) w = w
 
 module _ (s : List ℕ) (find : Finder) (h : (goals : List Goal) (c : ℕ) (pending : List Pending) → KeepsWithin (find goals c pending)) where
   answer-within : (rest : List Goal) (c : ℕ) (pending : List Pending) → KeepsWithin (with_answer find rest c pending)
@@ -97,6 +113,8 @@ module _ (s : List ℕ) (find : Finder) (h : (goals : List Goal) (c : ℕ) (pend
   goal-within (CloseImm target from) rest c pending answers left = emit-within left ((Assign target from c, left) ∷ []) (find rest c pending answers left) (one (Assign target from c) left) (h rest c pending answers left)
   goal-within (Match (Place target)) rest c pending answers left = emit-within left ((Cursor target c, left) ∷ []) (find rest c pending answers left) (one (Cursor target c) left) (h rest c pending answers left)
   goal-within (Match Fence) rest c pending answers left = abort-within left (find rest c pending answers left) (h rest c pending answers left)
+  goal-within (Match (Cut p)) rest c pending answers left = ended-within left left (find (Match p ∷ CloseCut left ∷ rest) c pending answers left) (h (Match p ∷ CloseCut left ∷ rest) c pending answers left)
+  goal-within (CloseCut m) rest c pending answers left = cut-within left m (find rest c pending answers left) (h rest c pending answers left)
   goal-within (Match Abort) rest c pending answers left = (tt, omega arith)
   goal-within (Match Succeed) rest c pending answers left = tries-within (find rest c pending ∷ replicate (suc left) (find rest c pending)) (h rest c pending, keep-replicate (find rest c pending) (suc left) (h rest c pending)) answers left
   goal-within (Match (Defer primitive expression)) rest c pending answers left = emit-within left ((Value primitive expression, left) ∷ []) (with_answer find rest c pending answers left) (one (Value primitive expression) left) (answer-within rest c pending answers left)
@@ -125,6 +143,7 @@ module _ (nodes : List Node) (s : List ℕ) (start n : ℕ) where
   after_pattern-within Succeed rest c pending i r w =
       further-within n r (replicate (suc (left_of r)) (search s start rest c pending)) (keep-replicate (search s start rest c pending) (suc (left_of r)) (search-keeps s start rest c pending)) w
   after_pattern-within Fence rest c pending i r w = abort-within n r w
+  after_pattern-within (Cut p) rest c pending i r w = ended-within n i r w
   after_pattern-within Abort rest c pending i r w = w
   after_pattern-within (Cat p q) rest c pending i r w = w
   after_pattern-within (Cond p target) rest c pending i r w = w
@@ -138,6 +157,7 @@ module _ (nodes : List Node) (s : List ℕ) (start n : ℕ) where
   after_goals-within (CloseCond target from ∷ rest) c pending i r w = w
   after_goals-within (CloseImm target from ∷ rest) c pending i r w = w
   after_goals-within (CloseRepeat p from ∷ rest) c pending i r w = w
+  after_goals-within (CloseCut m ∷ rest) c pending i r w = w
 
   behind_mark-within : (mark : Mark) (goals : List Goal) (c : ℕ) (pending : List Pending) (r : Outcome) → IsWithin n r → IsWithin n (behind_mark s start mark goals c pending r)
   behind_mark-within Enter goals c pending r w = w
@@ -159,6 +179,7 @@ events-within : (n : ℕ) (r : Outcome) → IsWithin n r → AllLeft n (all_even
 events-within n (Gives es answers left Exhausted) w = left-append n es ((Ended Exhausted, left) ∷ []) w.0 (w.1, tt)
 events-within n (Gives es answers left Aborted) w = left-append n es ((Ended Aborted, left) ∷ []) w.0 (w.1, tt)
 events-within n (Gives es answers left Limit) w = left-append n es ((Ended Limit, left) ∷ []) w.0 (w.1, tt)
+events-within n (Gives es answers left (CutOff m)) w = left-append n es ((Ended (CutOff m), left) ∷ []) w.0 (w.1, tt)
 events-within n (Gives es answers left Waiting) w = left-append n es [] w.0 tt
 
 -- no event that is still to come was told with fewer steps than were taken

@@ -20,9 +20,13 @@ pub mod Orders
 pub mod Finds
 pub mod EndsRange
 pub mod Goals
+pub mod Cuts
 pub mod Quiet
 pub mod Unique
 pub mod ToldWays
 pub mod QuietWays
 pub mod SessionWays
 pub mod WithinLaws
+pub mod CutPoints
+pub mod CutLaws
+pub mod CutMoves

@@ -18,7 +18,9 @@ use Rattle.sno_match.specs.declared.goal.Mark.TheVariants.{Enter, Next}
 use Rattle.sno_match.specs.Search.{Match, CloseRepeat, Exhausted, Aborted, Limit, Assign, Cursor, Value, Answer, Outcome, Gives, Search, emit, further, with_answer, if_moved, first_goal, search, assigns}
 use Rattle.sno_match.specs.Point.{Point, with_front, rest_of}
 use Rattle.sno_match.specs.Reading.{ends_from, goals_of, goal_of, body_of, after_pattern, resume, reading, waiting, HasNext}
-use Rattle.sno_match.specs.Plan.{point_at, Goes, IsDue, IsPlan, end_plan}
+use Rattle.sno_match.specs.Plan.{point_at, Goes, IsDue, IsPlan, KeepsScopes, end_plan}
+use Rattle.sno_match.specs.declared.goal.Mark.{Mark}
+use Rattle.sno_match.specs.Scopes.{opened_at, opened}
 use Rattle.sno_pattern.proofs.ShapeLaws.{end_of-range}
 use Rattle.sno_pattern.proofs.NextEndLaws.{Contains-end_of, end_of-Contains}
 use Rattle.sno_match.proofs.EndsRange.{from_end}
@@ -177,10 +179,10 @@ module _ (nodes : List Node) (s : List ℕ) where
         sym (above start rest c pending below answers left id Succeed [] c j t) ∙
         silent start rest c pending below answers left (with_front [] c (point_at (N.Match id) rest c pending Enter) ∷ point_at (N.Match id) rest c pending (Next j) ∷ below)
 
-    pub cut : tree nodes id.0 ≡ Fence →
+    pub back_into_fence : tree nodes id.0 ≡ Fence →
         (start : ℕ) (rest : List Numbered) (pending : List Pending) (below : List Point) (answers : List Answer) (left : ℕ) →
         reading nodes s start (point_at (N.Match id) rest c pending (Next i) ∷ below) answers left ≡ Gives [] answers left Aborted
-    cut t start rest pending below answers left = next_of start rest c pending below answers left id Fence i t left ∙ resume-stop nodes s start below [] answers left Aborted tt
+    back_into_fence t start rest pending below answers left = next_of start rest c pending below answers left id Fence i t left ∙ resume-stop nodes s start below [] answers left Aborted tt
 
   module _ (id : PatId) (c : ℕ) where
     pub arbno : (p : Pattern) → tree nodes id.0 ≡ Arbno p → Goes nodes s (N.Match id) c Enter (λ left. []) (λ point below. with_front [] c point ∷ record point { mark = Next c } ∷ below)
@@ -267,20 +269,30 @@ number_of nodes id s c e h = end_of-Contains (tree nodes id) s c e h
 
 -- a shape without a further alternative
 pub no_next : (nodes : List Node) (id : ℕ) (s : List ℕ) (c i : ℕ) (shape : Shape) → HasShape nodes id shape → HasNext (tree nodes id) s c i →
-    (shape ≡ S.Primitive → ⊥) → ((p q : PatId) → shape ≡ S.Alt p q → ⊥) → ((p : PatId) → shape ≡ S.Arbno p → ⊥) → (shape ≡ S.Succeed → ⊥) → (shape ≡ S.Fence → ⊥) → ⊥
-no_next nodes id s c i S.Primitive h n a b d e f = a refl
-no_next nodes id s c i (S.Alt p q) h n a b d e f = b p q refl
-no_next nodes id s c i (S.Arbno p) h n a b d e f = d p refl
-no_next nodes id s c i S.Succeed h n a b d e f = e refl
-no_next nodes id s c i S.Fence h n a b d e f = f refl
-no_next nodes id s c i (S.Cat p q) h n a b d e f = subst (λ (t : Pattern). HasNext t s c i) h.2 n
-no_next nodes id s c i (S.Cond p target) h n a b d e f = subst (λ (t : Pattern). HasNext t s c i) h.1 n
-no_next nodes id s c i (S.Imm p target) h n a b d e f = subst (λ (t : Pattern). HasNext t s c i) h.1 n
-no_next nodes id s c i (S.Cursor target) h n a b d e f = subst (λ (t : Pattern). HasNext t s c i) h n
-no_next nodes id s c i S.Abort h n a b d e f = subst (λ (t : Pattern). HasNext t s c i) h n
-no_next nodes id s c i (S.Defer expression) h n a b d e f = subst (λ (t : Pattern). HasNext t s c i) h n
-no_next nodes id s c i (S.DeferPrim primitive expression) h n a b d e f = subst (λ (t : Pattern). HasNext t s c i) h n
+    (shape ≡ S.Primitive → ⊥) → ((p q : PatId) → shape ≡ S.Alt p q → ⊥) → ((p : PatId) → shape ≡ S.Arbno p → ⊥) → (shape ≡ S.Succeed → ⊥) → (shape ≡ S.Fence → ⊥) → ((p : PatId) → shape ≡ S.Cut p → ⊥) → ⊥
+no_next nodes id s c i (S.Cut p) h n a b d e f g = g p refl
+no_next nodes id s c i S.Primitive h n a b d e f g = a refl
+no_next nodes id s c i (S.Alt p q) h n a b d e f g = b p q refl
+no_next nodes id s c i (S.Arbno p) h n a b d e f g = d p refl
+no_next nodes id s c i S.Succeed h n a b d e f g = e refl
+no_next nodes id s c i S.Fence h n a b d e f g = f refl
+no_next nodes id s c i (S.Cat p q) h n a b d e f g = subst (λ (t : Pattern). HasNext t s c i) h.2 n
+no_next nodes id s c i (S.Cond p target) h n a b d e f g = subst (λ (t : Pattern). HasNext t s c i) h.1 n
+no_next nodes id s c i (S.Imm p target) h n a b d e f g = subst (λ (t : Pattern). HasNext t s c i) h.1 n
+no_next nodes id s c i (S.Cursor target) h n a b d e f g = subst (λ (t : Pattern). HasNext t s c i) h n
+no_next nodes id s c i S.Abort h n a b d e f g = subst (λ (t : Pattern). HasNext t s c i) h n
+no_next nodes id s c i (S.Defer expression) h n a b d e f g = subst (λ (t : Pattern). HasNext t s c i) h n
+no_next nodes id s c i (S.DeferPrim primitive expression) h n a b d e f g = subst (λ (t : Pattern). HasNext t s c i) h n
 
 -- a pattern with an alternative of its own has it at any number
 pub next_in : (nodes : List Node) (id : ℕ) (q : Pattern) (s : List ℕ) (c i : ℕ) → tree nodes id ≡ q → HasNext q s c i → HasNext (tree nodes id) s c i
 next_in nodes id q s c i e h = subst (λ (t : Pattern). HasNext t s c i) (sym e) h
+
+-- a primitive opens no cut
+leaf_plain : (nodes : List Node) (id : PatId) (a : Primitive) → tree nodes id.0 ≡ Leaf a → (rest : List Numbered) (mark : Mark) (depth : ℕ) → opened nodes (N.Match id ∷ rest) mark depth ≡ []
+leaf_plain nodes id a t rest Enter depth = refl
+leaf_plain nodes id a t rest (Next left) depth = ap (λ p. opened_at p left depth) t
+
+pub leaf_scopes : (nodes : List Node) (id : PatId) (a : Primitive) → tree nodes id.0 ≡ Leaf a → (e : ℕ) (o : Option ℕ) → KeepsScopes nodes (N.Match id) (end_plan e o)
+leaf_scopes nodes id a t e None = (refl, refl)
+leaf_scopes nodes id a t e (Some next) = ((refl, leaf_plain nodes id a t), refl)

@@ -18,16 +18,21 @@ use Rattle.sno_match.specs.Top.{first_point}
 use Rattle.sno_match.specs.Reading.{IsStack}
 use Rattle.sno_match.specs.State.{after, after_move, owed, HasAsked}
 use Rattle.sno_match.specs.Move.{Makes, entries, price, way_after, standing}
+use Rattle.sno_match.specs.Scopes.{HasCuts}
 use Rattle.sno_match.specs.Session.{Session, answers_of, trace_of, IsTold}
 use Rattle.sno_match.specs.Starts.{Passes}
 use Rattle.sno_match.specs.Running.{later, later_starts, to_come, counted, seen, IsMatch, GoesOn}
 use Rattle.sno_match.proofs.EntryLaws.{all_events-emit, length-counted, at_place, last_pending-append, last_count-append, entry-pending, entry-count, after-last, after-ended, after-waits, entries-tell, tells}
 use Rattle.sno_match.proofs.ReadingLaws.{emit-emit, emit-none, further-emit, further-stop, resume-stop}
 use Rattle.sno_match.proofs.StartLaws.{behind_some}
+use Rattle.sno_match.proofs.CutMoves.{cuts-later}
 
 -- the first point of a start
 pub first_stack : (nodes : List Node) (s : List ℕ) (pattern : PatId) (at : ℕ) (new : List Point) → pattern.0 < length nodes → at ≤ length s → new ≡ first_point (N.Match pattern) at ∷ [] → IsStack nodes s new
 first_stack nodes s pattern at new h k e = subst (λ (ps : List Point). IsStack nodes s ps) (sym e) (record { fit = (record { known = (h, tt); inside = k; next = tt }, tt); marked = tt })
+
+pub first_cuts : (nodes : List Node) (left : ℕ) (pattern : PatId) (at : ℕ) (new : List Point) → new ≡ first_point (N.Match pattern) at ∷ [] → HasCuts nodes left new
+first_cuts nodes left pattern at new e = subst (HasCuts nodes left) (sym e) (record { scoped = (refl, tt); rising = tt })
 
 first_story : (m : Session) (more : List Answer) → whole (tree m.nodes m.pattern.0) m.subject m.anchored more m.limit ≡ to_come S.Going m 0 (first_point (N.Match m.pattern) 0 ∷ []) more m.limit
 first_story m more = by_mode m.anchored
@@ -50,6 +55,7 @@ new_match nodes pattern s anchored limit points records h e few = record {
   steps_in = omega arith;
   start_in = omega arith;
   stack = first_stack nodes s pattern 0 points h (omega arith) e;
+  cuts = first_cuts nodes (limit - 0) pattern 0 points e;
   asked = tt;
   last_in = tt;
   points_in = omega (arith, ap length e);
@@ -72,6 +78,7 @@ pub record Leads (m : Session) (start0 : ℕ) (old : List Point) (told : Option 
   pub paid : m.steps + price told ≤ steps
   pub start_in : start ≤ length m.subject
   pub stack : IsStack m.nodes m.subject points
+  pub cuts : HasCuts m.nodes (m.limit - steps) points
   pub asked : HasAsked (after_move told) points
   pub points_in : length points + m.steps ≤ length old + steps
   pub records_in : records + 2 * m.steps + owed (after_move told) ≤ m.records + 2 * steps
@@ -101,6 +108,7 @@ module _ (m : Session) (start0 : ℕ) (old : List Point) (inv : IsMatch m start0
     steps_in = l.steps_in;
     start_in = l.start_in;
     stack = l.stack;
+    cuts = l.cuts;
     asked = l.asked;
     last_in = after-last told;
     points_in = omega (arith, l.points_in, inv.points_in);
@@ -146,7 +154,7 @@ module _ (m : Session) (start : ℕ) (points : List Point) (left : ℕ) where
   behind-stops (V.Way start' end) h k = absurd (cc)
   behind-stops (V.Assign target start' end) h k = absurd (cc)
   behind-stops (V.Cursor target at) h k = absurd (cc)
-  behind-stops (V.Value prim expr) h k = ap all_events (waits_here m start points left k)
+  behind-stops (V.Value prim expr) h k = ap all_events (waits_here m start points left k.0)
   behind-stops V.Exhausted h k = refl
   behind-stops V.Aborted h k = refl
   behind-stops V.Limit h k = refl
@@ -224,14 +232,15 @@ not_exhausted (Some V.Exhausted) h e = h refl
 not_exhausted (Some V.Aborted) h e = cc
 not_exhausted (Some V.Limit) h e = cc
 
-pub move_leads : (m : Session) (start : ℕ) (old : List Point) (told : Option Told) (steps : ℕ) (points : List Point) (way : List Pending) (records : ℕ) → start ≤ length m.subject → IsStack m.nodes m.subject points →
+pub move_leads : (m : Session) (start : ℕ) (old : List Point) (told : Option Told) (steps : ℕ) (points : List Point) (way : List Pending) (records : ℕ) → start ≤ length m.subject → IsStack m.nodes m.subject points → HasCuts m.nodes (m.limit - steps) points →
     records + 2 * m.steps + owed (after_move told) ≤ m.records + 2 * steps → Makes m.nodes m.subject start m.limit old m.steps m.way told points steps way →
     Leads m start old told steps start points way records
-move_leads m start old told steps points way records in_start stack few made = record {
+move_leads m start old told steps points way records in_start stack cuts few made = record {
   steps_in = made.steps_in;
   paid = made.paid;
   start_in = in_start;
   stack = stack;
+  cuts = cuts;
   asked = made.asked;
   points_in = made.grows;
   records_in = few;
@@ -265,6 +274,9 @@ module _ (m : Session) (start : ℕ) (points : List Point) (inv : IsMatch m star
     abbrev steps : ℕ
     steps = m.steps + spent
 
+    fewer : HasCuts m.nodes (m.limit - (m.steps + spent)) points
+    fewer = cuts-later m.nodes (m.limit - (m.steps + spent)) (m.limit - m.steps) points (omega arith) inv.cuts
+
     past : (more : List Answer) → to_come S.Going m start points more (m.limit - m.steps) ≡ to_come S.Going m at [] more (m.limit - steps)
     past more = bare more (m.limit - m.steps) ∙ passed.passes more (m.limit - m.steps) (m.limit - steps) (omega (arith, enough))
 
@@ -275,6 +287,7 @@ module _ (m : Session) (start : ℕ) (points : List Point) (inv : IsMatch m star
       paid = omega arith;
       start_in = in_at;
       stack = inv.stack;
+      cuts = fewer;
       asked = tt;
       points_in = omega arith;
       records_in = omega arith;
@@ -298,6 +311,7 @@ module _ (m : Session) (start : ℕ) (points : List Point) (inv : IsMatch m star
             paid = omega arith;
             start_in = in_at;
             stack = inv.stack;
+            cuts = fewer;
             asked = tt;
             points_in = omega arith;
             records_in = omega arith;
@@ -320,6 +334,7 @@ module _ (m : Session) (start : ℕ) (points : List Point) (inv : IsMatch m star
             paid = omega arith;
             start_in = omega (arith, room);
             stack = first_stack m.nodes m.subject m.pattern (at + 1) new inv.pattern_in (omega (arith, room)) is;
+            cuts = first_cuts m.nodes (m.limit - (m.steps + spent + 1)) m.pattern (at + 1) new is;
             asked = tt;
             points_in = omega (arith, ap length is);
             records_in = omega (arith, few);

@@ -1,9 +1,9 @@
 -- A search tells at most two events a step, and one more.
 use Rattle.std.proofs.Common.{◌≡◌, ℕ, zero, suc, ◌+◌, ◌*◌, ◌≤◌, ◌==◌, Bool, true, false, List, [], ◌∷◌, ◌++◌, Some, None, length, map, replicate, refl, ap, arith, length-append}
-use Rattle.sno_pattern.specs.Pattern.{Pattern, Leaf, Fence, Abort, Succeed, Arbno, Alt, Cat, Cond, Imm, Place, Defer}
+use Rattle.sno_pattern.specs.Pattern.{Pattern, Leaf, Fence, Cut, Abort, Succeed, Arbno, Alt, Cat, Cond, Imm, Place, Defer}
 use Rattle.sno_pattern.specs.Ends.{ends}
 use Rattle.sno_match.specs.declared.event.Pending.{Pending}
-use Rattle.sno_match.specs.Search.{Goal, Match, CloseCond, CloseImm, CloseRepeat, Exhausted, Aborted, Limit, Waiting, Event, Assign, Cursor, Value, Answer, Outcome, Gives, Search, Finder, emit, or_else, further, tries, abort_if_exhausted, with_answer, if_moved, first_goal, search_within, search, whole, starts}
+use Rattle.sno_match.specs.Search.{Goal, Match, CloseCond, CloseImm, CloseRepeat, Exhausted, Aborted, Limit, Waiting, Event, Assign, Cursor, Value, Answer, Outcome, Gives, Search, Finder, emit, or_else, further, tries, abort_if_exhausted, with_answer, if_moved, first_goal, search_within, search, whole, starts, CloseCut, CutOff, cut_if_exhausted, exhausted_if_cut}
 
 -- the events told, and two for each step left
 abbrev pub weight : Outcome → ℕ
@@ -25,6 +25,7 @@ or_else-weight (Gives es answers (suc left) Exhausted) f h = omega (arith, weigh
 or_else-weight (Gives es answers left Aborted) f h = omega arith
 or_else-weight (Gives es answers left Limit) f h = omega arith
 or_else-weight (Gives es answers left Waiting) f h = omega arith
+or_else-weight (Gives es answers left (CutOff m)) f h = omega arith
 
 further-weight : (r : Outcome) (fs : List Search) → AllLight fs → weight (further r fs) ≤ weight r
 further-weight r [] h = omega arith
@@ -47,6 +48,21 @@ weight-abort (Gives es answers left Exhausted) = refl
 weight-abort (Gives es answers left Aborted) = refl
 weight-abort (Gives es answers left Limit) = refl
 weight-abort (Gives es answers left Waiting) = refl
+weight-abort (Gives es answers left (CutOff m)) = refl
+
+weight-cut : (m : ℕ) (r : Outcome) → weight (cut_if_exhausted m r) ≡ weight r
+weight-cut m (Gives es answers left Exhausted) = refl
+weight-cut m (Gives es answers left Aborted) = refl
+weight-cut m (Gives es answers left Limit) = refl
+weight-cut m (Gives es answers left Waiting) = refl
+weight-cut m (Gives es answers left (CutOff k)) = refl
+
+weight-ended : (m : ℕ) (r : Outcome) → weight (exhausted_if_cut m r) ≡ weight r
+weight-ended m (Gives es answers left Exhausted) = refl
+weight-ended m (Gives es answers left Aborted) = refl
+weight-ended m (Gives es answers left Limit) = refl
+weight-ended m (Gives es answers left Waiting) = refl
+weight-ended m (Gives es answers left (CutOff k)) = refl
 
 module _ (s : List ℕ) (find : Finder) (h : (goals : List Goal) (c : ℕ) (pending : List Pending) → IsLight (find goals c pending)) where
   answer-light : (rest : List Goal) (c : ℕ) (pending : List Pending) → IsLight (with_answer find rest c pending)
@@ -70,6 +86,8 @@ module _ (s : List ℕ) (find : Finder) (h : (goals : List Goal) (c : ℕ) (pend
   goal-weight (CloseImm target from) rest c pending answers left = omega (arith, weight-emit ((Assign target from c, left) ∷ []) (find rest c pending answers left), h rest c pending answers left)
   goal-weight (Match (Place target)) rest c pending answers left = omega (arith, weight-emit ((Cursor target c, left) ∷ []) (find rest c pending answers left), h rest c pending answers left)
   goal-weight (Match Fence) rest c pending answers left = omega (arith, weight-abort (find rest c pending answers left), h rest c pending answers left)
+  goal-weight (Match (Cut p)) rest c pending answers left = omega (arith, weight-ended left (find (Match p ∷ CloseCut left ∷ rest) c pending answers left), h (Match p ∷ CloseCut left ∷ rest) c pending answers left)
+  goal-weight (CloseCut m) rest c pending answers left = omega (arith, weight-cut m (find rest c pending answers left), h rest c pending answers left)
   goal-weight (Match Abort) rest c pending answers left = omega arith
   goal-weight (Match Succeed) rest c pending answers left = omega (arith, tries-light (find rest c pending ∷ replicate (suc left) (find rest c pending)) (h rest c pending, light-replicate (find rest c pending) (suc left) (h rest c pending)) answers left)
   goal-weight (Match (Defer primitive expression)) rest c pending answers left = omega (arith, weight-emit ((Value primitive expression, left) ∷ []) (with_answer find rest c pending answers left), answer-light rest c pending answers left)

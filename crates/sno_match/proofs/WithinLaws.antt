@@ -1,13 +1,13 @@
 -- What the events of a match tell lies within the subject.
 use Rattle.std.proofs.Common.{◌≡◌, ℕ, zero, suc, ◌-◌, ◌≤◌, ◌==◌, Bool, true, false, Some, None, List, [], ◌∷◌, ◌++◌, length, map, replicate, slice_get, subst, arith}
 use Rattle.std.specs.List.{AllByRecursion}
-use Rattle.sno_pattern.specs.Pattern.{Pattern, Leaf, Fence, Abort, Succeed, Arbno, Alt, Cat, Cond, Imm, Place, Defer}
+use Rattle.sno_pattern.specs.Pattern.{Pattern, Leaf, Fence, Cut, Abort, Succeed, Arbno, Alt, Cat, Cond, Imm, Place, Defer}
 use Rattle.sno_pattern.specs.Ends.{ends}
 use Rattle.sno_pattern.specs.Table.{tree}
 use Rattle.sno_pattern.proofs.EndsRange.{Within}
 use Rattle.sno_match.specs.declared.event.Event.{Event as Told}
 use Rattle.sno_match.specs.declared.event.Pending.{Pending}
-use Rattle.sno_match.specs.Search.{Goal, Match, CloseCond, CloseImm, CloseRepeat, assigns, Verdict, Exhausted, Aborted, Limit, Waiting, Event, Assign, Cursor, Value, Answer, Outcome, Gives, Search, Finder, emit, or_else, further, tries, abort_if_exhausted, with_answer, if_moved, first_goal, search_within, search, starts, whole, last_event, all_events, trace}
+use Rattle.sno_match.specs.Search.{Goal, Match, CloseCond, CloseImm, CloseRepeat, assigns, Verdict, Exhausted, Aborted, Limit, Waiting, Event, Assign, Cursor, Value, Answer, Outcome, Gives, Search, Finder, emit, or_else, further, tries, abort_if_exhausted, with_answer, if_moved, first_goal, search_within, search, starts, whole, last_event, all_events, trace, CloseCut, CutOff, cut_if_exhausted, exhausted_if_cut}
 use Rattle.sno_match.specs.Events.{in_trace}
 use Rattle.sno_match.specs.Within.{IsPart, IsWithin}
 use Rattle.sno_match.specs.Session.{Session, answers_of, IsTold}
@@ -33,6 +33,7 @@ tells-or n (Gives events answers (suc left) Exhausted) next h k = tells-emit n e
 tells-or n (Gives events answers left Aborted) next h k = h
 tells-or n (Gives events answers left Limit) next h k = h
 tells-or n (Gives events answers left Waiting) next h k = h
+tells-or n (Gives events answers left (CutOff m)) next h k = h
 
 tells-further : (n : ℕ) (outcome : Outcome) (rest : List Search) → Tells n outcome → Each (Always n) rest → Tells n (further outcome rest)
 tells-further n outcome [] h k = h
@@ -47,6 +48,21 @@ tells-abort n (Gives events answers left Exhausted) h = h
 tells-abort n (Gives events answers left Aborted) h = h
 tells-abort n (Gives events answers left Limit) h = h
 tells-abort n (Gives events answers left Waiting) h = h
+tells-abort n (Gives events answers left (CutOff m)) h = h
+
+tells-cut : (n m : ℕ) (outcome : Outcome) → Tells n outcome → Tells n (cut_if_exhausted m outcome)
+tells-cut n m (Gives events answers left Exhausted) h = h
+tells-cut n m (Gives events answers left Aborted) h = h
+tells-cut n m (Gives events answers left Limit) h = h
+tells-cut n m (Gives events answers left Waiting) h = h
+tells-cut n m (Gives events answers left (CutOff k)) h = h
+
+tells-ended : (n m : ℕ) (outcome : Outcome) → Tells n outcome → Tells n (exhausted_if_cut m outcome)
+tells-ended n m (Gives events answers left Exhausted) h = h
+tells-ended n m (Gives events answers left Aborted) h = h
+tells-ended n m (Gives events answers left Limit) h = h
+tells-ended n m (Gives events answers left Waiting) h = h
+tells-ended n m (Gives events answers left (CutOff k)) h = h
 
 tells-moved : (n : ℕ) (stays : Bool) (next : Search) → Always n next → Always n (if_moved stays next)
 tells-moved n true next h answers left = tt
@@ -62,12 +78,14 @@ IsBehind c (Match pattern) = Unit {0}
 IsBehind c (CloseCond target from) = from ≤ c
 IsBehind c (CloseImm target from) = from ≤ c
 IsBehind c (CloseRepeat body from) = Unit {0}
+IsBehind c (CloseCut m) = Unit {0}
 
 behind-later : (c e : ℕ) → c ≤ e → (goal : Goal) → IsBehind c goal → IsBehind e goal
 behind-later c e l (Match pattern) h = tt
 behind-later c e l (CloseCond target from) h = omega (arith, l, h)
 behind-later c e l (CloseImm target from) h = omega (arith, l, h)
 behind-later c e l (CloseRepeat body from) h = tt
+behind-later c e l (CloseCut m) h = tt
 
 one-more : (n : ℕ) (pending : List Pending) (p : Pending) → AllByRecursion (IsPart n) pending → IsPart n p → AllByRecursion (IsPart n) (pending ++ p ∷ [])
 one-more n [] p h k = (k, tt)
@@ -106,6 +124,9 @@ first_goal-tells s start find h (CloseImm target from) rest c pending g b l k ps
 first_goal-tells s start find h (Match (Place target)) rest c pending g b l k ps answers left =
     tells-emit (length s) ((Cursor target c, left) ∷ []) (find rest c pending answers left) (k, tt) (h rest c pending b l k ps answers left)
 first_goal-tells s start find h (Match Fence) rest c pending g b l k ps answers left = tells-abort (length s) (find rest c pending answers left) (h rest c pending b l k ps answers left)
+first_goal-tells s start find h (Match (Cut p)) rest c pending g b l k ps answers left =
+    tells-ended (length s) left (find (Match p ∷ CloseCut left ∷ rest) c pending answers left) (h (Match p ∷ CloseCut left ∷ rest) c pending (tt, (tt, b)) l k ps answers left)
+first_goal-tells s start find h (CloseCut m) rest c pending g b l k ps answers left = tells-cut (length s) m (find rest c pending answers left) (h rest c pending b l k ps answers left)
 first_goal-tells s start find h (Match Abort) rest c pending g b l k ps answers left = tt
 first_goal-tells s start find h (Match Succeed) rest c pending g b l k ps answers left =
     tells-tries (length s) (find rest c pending ∷ replicate (suc left) (find rest c pending))
@@ -131,6 +152,7 @@ last-within n Exhausted left = (tt, tt)
 last-within n Aborted left = (tt, tt)
 last-within n Limit left = (tt, tt)
 last-within n Waiting left = tt
+last-within n (CutOff m) left = (tt, tt)
 
 all-within : (n : ℕ) (outcome : Outcome) → Tells n outcome → Each (IsInside n) (all_events outcome)
 all-within n (Gives events answers left verdict) h = Each-append (IsInside n) events (last_event verdict left) h (last-within n verdict left)

@@ -11,6 +11,7 @@ pub mod Shared
 pub mod Point
 pub mod Top
 pub mod Reading
+pub mod Scopes
 pub mod Plan
 pub mod State
 pub mod Move

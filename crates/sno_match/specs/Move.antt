@@ -2,7 +2,7 @@
 use Rattle.std.specs.Prelude.{ℕ, ◌≡◌, ◌<◌, ◌≤◌, ◌+◌, ◌-◌, ◌*◌, List, [], ◌∷◌, Option, None, Some, length}
 use Rattle.sno_value.specs.declared.ids.PatId.{PatId}
 use Rattle.sno_pattern.specs.Table.{Node}
-use Rattle.sno_match.specs.declared.goal.Goal.TheVariants.{Match}
+use Rattle.sno_match.specs.declared.goal.Goal.TheVariants.{Match, CloseCut}
 use Rattle.sno_match.specs.declared.event.Event.{Event as Told}
 use Rattle.sno_match.specs.declared.event.Event.TheVariants as V
 use Rattle.sno_match.specs.declared.event.Pending.{Pending}
@@ -12,7 +12,7 @@ use Rattle.sno_match.specs.declared.plan.Plan.{Plan}
 use Rattle.sno_match.specs.declared.plan.Plan.TheVariants as P
 use Rattle.sno_match.specs.Search.{Event, Answer, Gives, Search, emit}
 use Rattle.sno_match.specs.Events.{in_trace, cost, pending_after}
-use Rattle.sno_match.specs.Point.{Point, with_front, replaced, branched, closed, below}
+use Rattle.sno_match.specs.Point.{Point, with_front, replaced, branched, closed, cut_back, below}
 use Rattle.sno_match.specs.State.{verdict_of, after_move, HasAsked}
 use Rattle.sno_match.specs.Plan.{goals_in}
 use Rattle.sno_match.specs.Reading.{reading, waiting}
@@ -52,20 +52,24 @@ pub record Makes (nodes : List Node) (s : List ℕ) (start limit : ℕ) (old : L
 
 -- the plan takes a step
 abbrev pub Costs : Plan → Type 0
-Costs P.Cut = ⊥
+Costs P.BackIntoFence = ⊥
+Costs P.BackIntoCut = ⊥
 Costs plan = Unit {0}
 
--- what a plan does to the stack, and what it tells
-abbrev pub CarriesOut : Plan → ℕ → List Point → Option Told → List Point → Type 0
-CarriesOut (P.Replace front at) c old told new = (told ≡ None) × (new ≡ replaced (goals_in front) at old)
-CarriesOut (P.Branch front at next) c old told new = (told ≡ None) × (new ≡ branched (goals_in front) at next old)
-CarriesOut (P.Close assignment) c old told new = (told ≡ None) × (new ≡ closed assignment old)
-CarriesOut (P.Assign a) c old told new = (told ≡ Some (V.Assign a.target a.start a.end)) × (new ≡ replaced [] c old)
-CarriesOut (P.Cursor target) c old told new = (told ≡ Some (V.Cursor target c)) × (new ≡ replaced [] c old)
-CarriesOut (P.Ask prim expr) c old told new = (told ≡ Some (V.Value prim expr)) × (new ≡ old)
-CarriesOut P.Fail c old told new = (told ≡ None) × (new ≡ below old)
-CarriesOut P.Abort c old told new = (told ≡ Some V.Aborted) × (new ≡ old)
-CarriesOut P.Cut c old told new = ⊥
+-- what a plan does to the stack, and what it tells, with the cursor and the steps left behind its own
+abbrev pub CarriesOut : Plan → ℕ → ℕ → List Point → Option Told → List Point → Type 0
+CarriesOut (P.Replace front at) c left old told new = (told ≡ None) × (new ≡ replaced (goals_in front) at old)
+CarriesOut (P.Branch front at next) c left old told new = (told ≡ None) × (new ≡ branched (goals_in front) at next old)
+CarriesOut (P.Close assignment) c left old told new = (told ≡ None) × (new ≡ closed assignment old)
+CarriesOut (P.Assign a) c left old told new = (told ≡ Some (V.Assign a.target a.start a.end)) × (new ≡ replaced [] c old)
+CarriesOut (P.Cursor target) c left old told new = (told ≡ Some (V.Cursor target c)) × (new ≡ replaced [] c old)
+CarriesOut (P.Ask prim expr) c left old told new = (told ≡ Some (V.Value prim expr)) × (new ≡ old)
+CarriesOut P.Fail c left old told new = (told ≡ None) × (new ≡ below old)
+CarriesOut P.Abort c left old told new = (told ≡ Some V.Aborted) × (new ≡ old)
+CarriesOut (P.EnterCut p) c left old told new = (told ≡ None) × (new ≡ branched (Match p ∷ CloseCut left (length (below old)) ∷ []) c left old)
+CarriesOut (P.CloseCut depth) c left old told new = (told ≡ None) × (new ≡ cut_back depth old)
+CarriesOut P.BackIntoFence c left old told new = ⊥
+CarriesOut P.BackIntoCut c left old told new = ⊥
 
 -- the stack once the deferred part at its top is answered
 abbrev pub answered : Option PatId → List Point → List Point

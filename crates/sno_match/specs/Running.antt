@@ -12,6 +12,7 @@ use Rattle.sno_match.specs.Search.{Match, Event, Answer, Search, Gives, emit, fu
 use Rattle.sno_match.specs.Point.{Point}
 use Rattle.sno_match.specs.State.{verdict_of, waits, ended, over, owed, LastIn, HasAsked}
 use Rattle.sno_match.specs.Reading.{reading, waiting, IsStack}
+use Rattle.sno_match.specs.Scopes.{HasCuts}
 use Rattle.sno_match.specs.Session.{Session, answers_of, SameMatch, StaysAt, IsTold}
 
 -- the starts behind this one
@@ -44,6 +45,7 @@ pub record IsMatch (m : Session) (start : ℕ) (points : List Point) (state : St
   pub steps_in : m.steps ≤ m.limit
   pub start_in : start ≤ length m.subject
   pub stack : IsStack m.nodes m.subject points
+  pub cuts : HasCuts m.nodes (m.limit - m.steps) points
   pub asked : HasAsked state points
   pub last_in : LastIn state
   pub points_in : length points ≤ m.steps + 1

@@ -7,6 +7,7 @@ use Rattle.sno_match.specs.declared.engine.State.TheVariants as S
 use Rattle.sno_match.specs.Events.{is_last}
 use Rattle.sno_match.specs.Search.{Verdict, Exhausted, Aborted, Limit}
 use Rattle.sno_match.specs.Point.{Point, HasFirst}
+use Rattle.sno_match.specs.Scopes.{FirstIsPlain}
 
 abbrev pub verdict_of : Told → Verdict
 verdict_of V.Exhausted = Exhausted
@@ -43,7 +44,7 @@ LastIn (S.Ended event) = IsTrue (is_last event)
 
 abbrev pub HasAsked : State → List Point → Type 0
 HasAsked S.Going points = Unit {0}
-HasAsked S.Waiting points = HasFirst points
+HasAsked S.Waiting points = HasFirst points × FirstIsPlain points
 HasAsked (S.Ended event) points = Unit {0}
 
 -- whether the last event told is a last one; whether an answer is owed, which may need a record

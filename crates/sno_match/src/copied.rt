@@ -1,5 +1,5 @@
 //! Resumption points whose goal lists are copied.
-ghost use Rattle.std.specs.Prelude.{◌≡◌, ◌+◌, ◌≤◌, [], ◌∷◌, ◌++◌, length, reverse, vec_len, vec_capacity, IfNone, IfSome};
+ghost use Rattle.std.specs.Prelude.{◌≡◌, ◌+◌, ◌≤◌, [], ◌∷◌, ◌++◌, length, reverse, take, vec_len, vec_capacity, IfNone, IfSome};
 ghost use Rattle.sno_match.specs.Point.{rest_of};
 
 use crate::event::Pending;
@@ -112,6 +112,14 @@ impl Points for CopiedGoals {
         Ok(())
     }
 
+    fn cut(&mut self, depth: usize) {
+        if let Some(point) = &mut self.top {
+            put_front(&mut point.goals, &[]);
+            point.mark = Mark::Enter;
+            retire_newer(&mut self.below, depth, &mut self.spare);
+        }
+    }
+
     fn pop(&mut self) {
         if let Some(point) = self.top.take() {
             self.top = self.below.pop();
@@ -161,6 +169,17 @@ fn unused(spare: &mut Vec<Held>, alloc: Global) -> Held
 /// A dropped point becomes a spare one. Where there is no memory for that, it is let go.
 fn keep(spare: &mut Vec<Held>, point: Held) {
     let _kept = spare.push(point);
+}
+
+/// Only the oldest points stay, so many, and the others become spare ones.
+fn retire_newer(below: &mut Vec<Held>, count: usize, spare: &mut Vec<Held>)
+    ensures { below.new.items ≡ take count below.old.items }
+{
+    'points: while below.len() > count {
+        if let Some(point) = below.pop() {
+            keep(spare, point);
+        }
+    }
 }
 
 /// These goals take the place of the first.

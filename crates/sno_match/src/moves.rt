@@ -1,9 +1,10 @@
 //! One move of the search: what is due at the newest resumption point is done.
-ghost use Rattle.std.specs.Prelude.{◌≡◌, ◌≤◌, ◌+◌, ◌*◌, length, IfOk, OnOk, OnErr};
-ghost use Rattle.sno_match.specs.Point.{HasFirst, replaced, branched};
+ghost use Rattle.std.specs.Prelude.{◌≡◌, ◌≤◌, ◌+◌, ◌-◌, ◌*◌, [], ◌∷◌, length, IfOk, OnOk, OnErr};
+ghost use Rattle.sno_match.specs.Point.{HasFirst, replaced, branched, below};
 ghost use Rattle.sno_match.specs.Reading.{IsStack, HasPoint};
 ghost use Rattle.sno_match.specs.Plan.{goals_in};
 ghost use Rattle.sno_match.specs.State.{after_move, owed};
+ghost use Rattle.sno_match.specs.Scopes.{HasCuts};
 ghost use Rattle.sno_match.specs.Move.{Makes, CarriesOut, Costs, answered};
 
 use crate::event::{Event, Pending};
@@ -26,9 +27,11 @@ pub(crate) fn make_move<P: Points>(
     limit: u32,
 ) -> Result<Option<Event>, AllocError>
     requires stack { IsStack patterns.now subject.now (P.points points.old) }
+    requires cuts { HasCuts patterns.now (limit - steps.old) (P.points points.old) }
     requires some { HasPoint (P.points points.old) }
     requires steps { steps.old ≤ limit }
     ensures stack { IsStack patterns.now subject.now (P.points points.new) }
+    ensures cuts { HasCuts patterns.now (limit - steps.new) (P.points points.new) }
     ensures ok { IfOk result (λ told. Makes patterns.now subject.now start limit (P.points points.old) steps.old way.old.items told (P.points points.new) steps.new way.new.items) }
     ensures records { IfOk result (λ told. P.records points.new + 2 * steps.old + owed (after_move told) ≤ P.records points.old + 2 * steps.new) }
     ensures err { OnErr result ((P.points points.new ≡ P.points points.old) × (P.records points.new ≡ P.records points.old) × (steps.new ≡ steps.old) × (way.new.items ≡ way.old.items)) }
@@ -44,28 +47,35 @@ pub(crate) fn make_move<P: Points>(
         }
         Top::Open { goal, cursor, mark } => {
             let plan = plan_of(patterns, subject, goal, cursor, mark);
-            if let Plan::Cut = plan {
-                return Ok(Some(Event::Aborted));
+            match plan {
+                Plan::BackIntoFence => return Ok(Some(Event::Aborted)),
+                Plan::BackIntoCut => {
+                    points.pop();
+                    return Ok(None);
+                }
+                _ => {}
             }
             if *steps == limit {
                 return Ok(Some(Event::Limit));
             }
-            let told = carry_out(points, plan, cursor)?;
+            let left = limit - *steps - 1;
+            let told = carry_out(points, plan, cursor, left)?;
             *steps += 1;
             Ok(told)
         }
     }
 }
 
-/// Carries out a plan that costs a step, and gives the event that it tells.
+/// Carries out a plan that costs a step, behind which `left` are left, and gives the event that it tells.
 fn carry_out<P: Points>(
     points: &mut P,
     plan: Plan,
     cursor: usize,
+    left: u32,
 ) -> Result<Option<Event>, AllocError>
     requires costs { Costs plan }
     requires first { HasFirst (P.points points.old) }
-    ensures ok { IfOk result (λ told. CarriesOut plan cursor (P.points points.old) told (P.points points.new)) }
+    ensures ok { IfOk result (λ told. CarriesOut plan cursor left (P.points points.old) told (P.points points.new)) }
     ensures records { IfOk result (λ told. P.records points.new + owed (after_move told) ≤ P.records points.old + 2) }
     ensures err { OnErr result ((P.points points.new ≡ P.points points.old) × (P.records points.new ≡ P.records points.old)) }
 {
@@ -96,7 +106,15 @@ fn carry_out<P: Points>(
             Ok(None)
         }
         Plan::Abort => Ok(Some(Event::Aborted)),
-        Plan::Cut => unreachable!(),
+        Plan::EnterCut(body) => {
+            enter_cut(points, body, cursor, left)?;
+            Ok(None)
+        }
+        Plan::CloseCut(depth) => {
+            points.cut(depth);
+            Ok(None)
+        }
+        Plan::BackIntoFence | Plan::BackIntoCut => unreachable!(),
     }
 }
 
@@ -115,6 +133,24 @@ pub(crate) fn put_answer<P: Points>(points: &mut P, given: Option<PatId>) -> Res
         unreachable!();
     };
     points.replace(&[Goal::Match(id)], cursor)?;
+    Ok(())
+}
+
+/// FENCE(P) is entered, which leaves so many steps: its point stays under the body and the close.
+fn enter_cut<P: Points>(
+    points: &mut P,
+    body: PatId,
+    cursor: usize,
+    left: u32,
+) -> Result<(), AllocError>
+    requires { HasFirst (P.points points.old) }
+    ensures ok { OnOk result (P.points points.new ≡ branched (Goal.Match body ∷ Goal.CloseCut left (length (below (P.points points.old))) ∷ []) cursor left (P.points points.old)) }
+    ensures records { P.records points.new ≤ P.records points.old + 2 }
+    ensures err { OnErr result ((P.points points.new ≡ P.points points.old) × (P.records points.new ≡ P.records points.old)) }
+{
+    let depth = points.depth() - 1;
+    let close = Goal::CloseCut { left, depth };
+    points.branch(&[Goal::Match(body), close], cursor, left as usize)?;
     Ok(())
 }
 

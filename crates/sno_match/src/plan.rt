@@ -4,7 +4,7 @@ ghost use Rattle.sno_pattern.specs.Table.{tree};
 ghost use Rattle.sno_pattern.specs.Shape.{IsPrimitive, end_of};
 ghost use Rattle.sno_pattern.specs.NextEnd.{ends_of};
 ghost use Rattle.sno_match.specs.Reading.{IsKnown, MarkFits, HasNext};
-ghost use Rattle.sno_match.specs.Plan.{IsPlan, end_plan};
+ghost use Rattle.sno_match.specs.Plan.{IsPlan, KeepsScopes, end_plan};
 
 use crate::event::Pending;
 use crate::goal::{Goal, Mark};
@@ -19,7 +19,7 @@ pub(crate) enum Front {
     Two(Goal, Goal),
 }
 
-/// What is to be done at a point. All but `Cut` is one step.
+/// What is to be done at a point. All is one step but `BackIntoFence` and `BackIntoCut`, which cost nothing.
 #[derive(Clone, Copy, Drop)]
 pub(crate) enum Plan {
     /// The first goal gives way to these, from this cursor.
@@ -39,8 +39,14 @@ pub(crate) enum Plan {
     Fail,
     /// ABORT was entered.
     Abort,
-    /// FENCE was backed into, which costs nothing.
-    Cut,
+    /// FENCE was backed into.
+    BackIntoFence,
+    /// FENCE(P) was entered: the point stays, and above it stand P and the close.
+    EnterCut(PatId),
+    /// The close of FENCE(P) was entered: the goal is done, and of the points below only this many, the oldest, stay.
+    CloseCut(usize),
+    /// FENCE(P) was backed into, since P has no way: the point is dropped.
+    BackIntoCut,
 }
 
 /// What is to be done at a point with this first goal, cursor and mark.
@@ -54,7 +60,8 @@ pub(crate) fn plan_of(
     requires known { IsKnown patterns.now goal }
     requires inside { cursor ≤ length subject.now }
     requires next { MarkFits patterns.now subject.now mark (goal ∷ []) cursor }
-    ensures { IsPlan patterns.now subject.now goal cursor mark result }
+    ensures plan { IsPlan patterns.now subject.now goal cursor mark result }
+    ensures scopes { KeepsScopes patterns.now goal result }
 {
     match mark {
         Mark::Enter => enter_goal(patterns, subject, goal, cursor),
@@ -63,6 +70,7 @@ pub(crate) fn plan_of(
             Goal::CloseCond { .. } => unreachable!(),
             Goal::CloseImm { .. } => unreachable!(),
             Goal::CloseRepeat { .. } => unreachable!(),
+            Goal::CloseCut { .. } => unreachable!(),
         },
     }
 }
@@ -70,7 +78,8 @@ pub(crate) fn plan_of(
 fn enter_goal(patterns: &Patterns, subject: &[u8], goal: Goal, cursor: usize) -> Plan
     requires known { IsKnown patterns.now goal }
     requires inside { cursor ≤ length subject.now }
-    ensures { IsPlan patterns.now subject.now goal cursor Mark.Enter result }
+    ensures plan { IsPlan patterns.now subject.now goal cursor Mark.Enter result }
+    ensures scopes { KeepsScopes patterns.now goal result }
 {
     match goal {
         Goal::Match(id) => enter_pattern(patterns, subject, id, cursor),
@@ -84,6 +93,7 @@ fn enter_goal(patterns: &Patterns, subject: &[u8], goal: Goal, cursor: usize) ->
             start,
             end: cursor,
         }),
+        Goal::CloseCut { left: _left, depth } => Plan::CloseCut(depth),
         Goal::CloseRepeat { arbno, start } => {
             if cursor == start {
                 Plan::Fail
@@ -97,7 +107,8 @@ fn enter_goal(patterns: &Patterns, subject: &[u8], goal: Goal, cursor: usize) ->
 fn enter_pattern(patterns: &Patterns, subject: &[u8], id: PatId, cursor: usize) -> Plan
     requires known { id.0 < length patterns.now }
     requires inside { cursor ≤ length subject.now }
-    ensures { IsPlan patterns.now subject.now (Goal.Match id) cursor Mark.Enter result }
+    ensures plan { IsPlan patterns.now subject.now (Goal.Match id) cursor Mark.Enter result }
+    ensures scopes { KeepsScopes patterns.now (Goal.Match id) result }
 {
     match patterns.shape(id) {
         Shape::Primitive => enter_primitive(patterns, subject, id, cursor),
@@ -120,6 +131,7 @@ fn enter_pattern(patterns: &Patterns, subject: &[u8], id: PatId, cursor: usize) 
         }
         Shape::Cursor(target) => Plan::Cursor(target),
         Shape::Fence => Plan::Branch(Front::Nothing, cursor, cursor),
+        Shape::Cut(p) => Plan::EnterCut(p),
         Shape::Abort => Plan::Abort,
         Shape::Succeed => Plan::Branch(Front::Nothing, cursor, cursor),
         Shape::Defer(expression) => Plan::Ask(None, expression),
@@ -131,7 +143,8 @@ fn enter_primitive(patterns: &Patterns, subject: &[u8], id: PatId, cursor: usize
     requires known { id.0 < length patterns.now }
     requires primitive { IsPrimitive (tree patterns.now id.0) }
     requires inside { cursor ≤ length subject.now }
-    ensures { IsPlan patterns.now subject.now (Goal.Match id) cursor Mark.Enter result }
+    ensures plan { IsPlan patterns.now subject.now (Goal.Match id) cursor Mark.Enter result }
+    ensures scopes { KeepsScopes patterns.now (Goal.Match id) result }
 {
     let Some(end) = patterns.end_at(id, subject, cursor, 0) else {
         return Plan::Fail;
@@ -143,7 +156,8 @@ fn next_of_pattern(patterns: &Patterns, subject: &[u8], id: PatId, cursor: usize
     requires known { id.0 < length patterns.now }
     requires inside { cursor ≤ length subject.now }
     requires next { HasNext (tree patterns.now id.0) subject.now cursor at }
-    ensures { IsPlan patterns.now subject.now (Goal.Match id) cursor (Mark.Next at) result }
+    ensures plan { IsPlan patterns.now subject.now (Goal.Match id) cursor (Mark.Next at) result }
+    ensures scopes { KeepsScopes patterns.now (Goal.Match id) result }
 {
     match patterns.shape(id) {
         Shape::Primitive => take_end(patterns, subject, id, cursor, at),
@@ -156,7 +170,8 @@ fn next_of_pattern(patterns: &Patterns, subject: &[u8], id: PatId, cursor: usize
             Plan::Replace(Front::Two(Goal::Match(p), close), cursor)
         }
         Shape::Succeed => Plan::Branch(Front::Nothing, cursor, cursor),
-        Shape::Fence => Plan::Cut,
+        Shape::Fence => Plan::BackIntoFence,
+        Shape::Cut(_p) => Plan::BackIntoCut,
         _ => unreachable!(),
     }
 }

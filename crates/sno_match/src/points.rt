@@ -1,6 +1,6 @@
 //! The stack of resumption points.
 ghost use Rattle.std.specs.Prelude.{◌≡◌, ◌≤◌, ◌+◌, List, ℕ, [], ◌∷◌, length, OnOk, OnErr};
-ghost use Rattle.sno_match.specs.Point.{Point, HasFirst, replaced, branched, closed, below};
+ghost use Rattle.sno_match.specs.Point.{Point, HasFirst, replaced, branched, closed, cut_back, below};
 ghost use Rattle.sno_match.specs.Top.{IsTop, Finishes, first_point};
 
 use crate::event::Pending;
@@ -56,6 +56,11 @@ pub trait Points: Drop + Sized {
         ensures ok { OnOk result (points self.new ≡ closed assignment (points self.old)) }
         ensures records { records self.new ≤ records self.old }
         ensures err { OnErr result ((points self.new ≡ points self.old) × (records self.new ≡ records self.old)) };
+
+    /// The newest point's first goal is dropped, and of the points below it only the oldest `depth` stay.
+    fn cut(&mut self, depth: usize)
+        ensures points { points self.new ≡ cut_back depth (points self.old) }
+        ensures records { records self.new ≤ records self.old };
 
     /// The newest point is dropped.
     fn pop(&mut self)

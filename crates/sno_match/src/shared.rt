@@ -1,7 +1,7 @@
 //! Resumption points whose goal lists are numbered records, shared between them.
 ghost use Rattle.std.specs.Prelude.{◌≡◌, ℕ, ◌+◌, ◌≤◌, [], ◌∷◌, ◌++◌, length, reverse, take, vec_len, vec_capacity, IfOk, IfNone, IfSome, OnOk, OnErr};
 ghost use Rattle.sno_match.specs.Point.{rest_of};
-ghost use Rattle.sno_match.specs.Shared.{Falls, Extends, goals_of};
+ghost use Rattle.sno_match.specs.Shared.{Falls, Fits, Extends, goals_of};
 
 use crate::event::Pending;
 use crate::goal::{Goal, Mark, Top};
@@ -156,6 +156,20 @@ impl Points for SharedGoals {
         Ok(())
     }
 
+    fn cut(&mut self, depth: usize) {
+        if let Some(point) = self.top {
+            let goals = behind_first(&self.records, point.goals);
+            let floor = drop_newer(&mut self.below, depth, point.floor);
+            self.top = Some(Held {
+                goals,
+                cursor: point.cursor,
+                mark: Mark::Enter,
+                floor,
+                assigned: point.assigned,
+            });
+        }
+    }
+
     fn pop(&mut self) {
         if let Some(point) = self.top {
             self.top = self.below.pop();
@@ -246,6 +260,20 @@ fn behind_first(records: &[GoalRecord], goals: usize) -> usize
         return 0;
     }
     records[goals - 1].behind
+}
+
+/// Only the oldest points stay, so many. They and a newest point that needed none past `floor` need none past the number
+/// that is given.
+fn drop_newer(below: &mut Vec<Held>, count: usize, floor: usize) -> usize
+    ensures points { below.new.items ≡ take count below.old.items }
+    ensures floor { (assigned : ℕ) → Fits floor assigned (reverse below.old.items) → (result ≤ floor) × Fits result assigned (reverse below.new.items) }
+{
+    if count >= below.len() {
+        return floor;
+    }
+    let least = below[count].floor;
+    below.truncate(count);
+    least
 }
 
 fn larger(first: usize, second: usize) -> usize

@@ -4,8 +4,8 @@ use Rattle.std.specs.List.{starts_with}
 use Rattle.std.specs.Cmp.Lexicographic.{pointwise}
 use Rattle.std.proofs.lemmas.Bool.{leb-true}
 use Rattle.std.proofs.lemmas.Option.{slice_get_within}
-use Rattle.sno_pattern.specs.Pattern.{Primitive, Text, Len, Pos, Rpos, Tab, Rtab, Any, NotAny, Span, Break, Arb, Bal, Rem, Fail}
-use Rattle.sno_pattern.specs.Ends.{is_in, count_from, end_if, end_after, run_length, first_in, is_balanced, ends}
+use Rattle.sno_pattern.specs.Pattern.{Primitive, Text, Len, Pos, Rpos, Tab, Rtab, Any, NotAny, Span, Break, BreakX, Arb, Bal, Rem, Fail}
+use Rattle.sno_pattern.specs.Ends.{is_in, count_from, end_if, end_after, run_length, first_in, all_in, is_balanced, ends}
 
 abbrev pub Within : ℕ → ℕ → ℕ → Type 0
 Within c z e = (c ≤ e) × (e ≤ z)
@@ -54,6 +54,15 @@ first_in-rises set low c z (byte ∷ bytes) h k = go (is_in set byte) (first_in-
     go true r = ((omega arith, omega arith), tt)
     go false r = r
 
+all_in-rises : (set : List ℕ) (low c z : ℕ) (bytes : List ℕ) → low ≤ c → c + length bytes ≤ z → Rises low z (all_in set c bytes)
+all_in-rises set low c z [] h k = tt
+all_in-rises set low c z (byte ∷ bytes) h k =
+    go (is_in set byte) (all_in-rises set (c + 1) (c + 1) z bytes (omega arith) (omega arith)) (all_in-rises set low (c + 1) z bytes (omega arith) (omega arith))
+  where
+    go : (b : Bool) → Rises (c + 1) z (all_in set (c + 1) bytes) → Rises low z (all_in set (c + 1) bytes) → Rises low z (if b then c ∷ all_in set (c + 1) bytes else all_in set (c + 1) bytes)
+    go true more r = ((omega arith, omega arith), more)
+    go false more r = r
+
 count_from-rises : (c n z : ℕ) → c + n ≤ z + 1 → Rises c z (count_from c n)
 count_from-rises c zero z h = tt
 count_from-rises c (suc n) z h = ((omega arith, omega arith), count_from-rises (c + 1) n z (omega arith))
@@ -92,6 +101,7 @@ ends-rise (Any set) s c h = end_after-rises (is_in set) c (length s) (slice_get 
 ends-rise (NotAny set) s c h = end_after-rises (λ byte. not (is_in set byte)) c (length s) (slice_get s c) (λ x e. slice_get_within s c x e)
 ends-rise (Span set) s c h = end_if-rises c (length s) (not (run_length set (drop c s) == 0)) (c + run_length set (drop c s)) (λ e. (omega arith, omega (arith, run_length-le set (drop c s), length-drop c s)))
 ends-rise (Break set) s c h = first_in-rises set c c (length s) (drop c s) (omega arith) (omega (arith, length-drop c s))
+ends-rise (BreakX set) s c h = all_in-rises set c c (length s) (drop c s) (omega arith) (omega (arith, length-drop c s))
 ends-rise Arb s c h = count_from-rises c (length s + 1 - c) (length s) (omega arith)
 ends-rise Bal s c h =
     filter-rises (λ e. is_balanced (take (e - c) (drop c s))) c (length s) (count_from (c + 1) (length s - c))

@@ -1,6 +1,6 @@
 -- Worked rows of the definitions, by computation.
 use Rattle.std.proofs.Common.{◌≡◌, Some, None, [], ◌∷◌, codes, refl}
-use Rattle.sno_pattern.specs.Pattern.{Text, Len, Pos, Rpos, Tab, Rtab, Any, NotAny, Span, Break, Arb, Bal, Rem, Fail, Leaf}
+use Rattle.sno_pattern.specs.Pattern.{Text, Len, Pos, Rpos, Tab, Rtab, Any, NotAny, Span, Break, BreakX, Arb, Bal, Rem, Fail, Leaf}
 use Rattle.sno_pattern.specs.Ends.{ends}
 use Rattle.sno_pattern.specs.Sets.{set_of}
 use Rattle.sno_pattern.specs.NextEnd.{next_end}
@@ -50,6 +50,22 @@ break-ahead = refl
 break-behind : ends (Break (set_of (codes ","))) (codes "A,B") 2 ≡ []
 unfolding set_of
 break-behind = refl
+
+breakx-all : ends (BreakX (set_of (codes "B"))) (codes "ABAB") 0 ≡ 1 ∷ 3 ∷ []
+unfolding set_of
+breakx-all = refl
+
+breakx-here : ends (BreakX (set_of (codes "B"))) (codes "BB") 0 ≡ 0 ∷ 1 ∷ []
+unfolding set_of
+breakx-here = refl
+
+breakx-behind : ends (BreakX (set_of (codes "B"))) (codes "ABAB") 2 ≡ 3 ∷ []
+unfolding set_of
+breakx-behind = refl
+
+breakx-missing : ends (BreakX (set_of (codes "B"))) (codes "AAA") 0 ≡ []
+unfolding set_of
+breakx-missing = refl
 
 span-run : ends (Span (set_of (codes "AB"))) (codes "ABAC") 0 ≡ 3 ∷ []
 unfolding set_of

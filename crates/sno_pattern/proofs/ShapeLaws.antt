@@ -3,7 +3,7 @@ use Rattle.std.proofs.Common.{◌≡◌, ℕ, zero, suc, ◌+◌, ◌<◌, ◌�
 use Rattle.std.specs.List.{starts_with}
 use Rattle.sno_pattern.specs.Pattern.{Pattern, Arb, Leaf}
 use Rattle.sno_pattern.specs.Ends.{is_in, count_from, end_if, end_after, run_length, first_in, ends}
-use Rattle.sno_pattern.specs.Table.{Node, LeafNode, FenceNode, AbortNode, SucceedNode, ArbnoNode, AltNode, CatNode, CondNode, ImmNode, PlaceNode, DeferNode, tree_over, trees_onto, tree, PartsBelow}
+use Rattle.sno_pattern.specs.Table.{Node, LeafNode, FenceNode, CutNode, AbortNode, SucceedNode, ArbnoNode, AltNode, CatNode, CondNode, ImmNode, PlaceNode, DeferNode, tree_over, trees_onto, tree, PartsBelow}
 use Rattle.sno_pattern.specs.Kinds.{node_of, nodes_of, IsTable}
 use Rattle.sno_pattern.specs.Shape.{HasShape, shape_of, end_of, end_of_node}
 use Rattle.sno_pattern.specs.declared.kind.Kind.{Kind}
@@ -17,6 +17,7 @@ HasShape-node nodes id (LeafNode a) h e = (a, e)
 HasShape-node nodes id FenceNode h e = e
 HasShape-node nodes id AbortNode h e = e
 HasShape-node nodes id SucceedNode h e = e
+HasShape-node nodes id (CutNode p) h e = (h, e)
 HasShape-node nodes id (ArbnoNode p) h e = (h, e)
 HasShape-node nodes id (AltNode p q) h e = (h.0, h.1, e)
 HasShape-node nodes id (CatNode p q) h e = (h.0, h.1, e)
@@ -31,6 +32,7 @@ end_of-tree ts (LeafNode a) s c i = refl
 end_of-tree ts FenceNode s c i = refl
 end_of-tree ts AbortNode s c i = refl
 end_of-tree ts SucceedNode s c i = refl
+end_of-tree ts (CutNode p) s c i = refl
 end_of-tree ts (ArbnoNode p) s c i = refl
 end_of-tree ts (AltNode p q) s c i = refl
 end_of-tree ts (CatNode p q) s c i = refl
@@ -88,23 +90,24 @@ first_in-one set c (byte ∷ bytes) i h = go (is_in set byte) (first_in-one set 
     go true e = end_if-one true c i h
     go false e = e
 
--- a primitive has one end at most, but for ARB and BAL
-pub one_end : (kind : Kind) (s : List ℕ) (c i : ℕ) → kind ≢ K.Arb → kind ≢ K.Bal → i ≢ 0 → None ≡ end_of_node (node_of kind) s c i
-one_end (K.Text bytes) s c i a b h = end_if-one (starts_with nat_eq (drop c s) bytes.items) (c + length bytes.items) i h
-one_end (K.Len n) s c i a b h = end_if-one (nat_le (c + n) (length s)) (c + n) i h
-one_end (K.Pos n) s c i a b h = end_if-one (c == n) c i h
-one_end (K.Rpos n) s c i a b h = end_if-one (c + n == length s) c i h
-one_end (K.Tab n) s c i a b h = end_if-one (nat_le c n && nat_le n (length s)) n i h
-one_end (K.Rtab n) s c i a b h = end_if-one (nat_le (c + n) (length s)) (length s - n) i h
-one_end (K.Any set) s c i a b h = end_after-one (is_in set) (slice_get s c) c i h
-one_end (K.NotAny set) s c i a b h = end_after-one (λ byte. not (is_in set byte)) (slice_get s c) c i h
-one_end (K.Span set) s c i a b h = end_if-one (not (run_length set (drop c s) == 0)) (c + run_length set (drop c s)) i h
-one_end (K.Break set) s c i a b h = first_in-one set c (drop c s) i h
-one_end K.Arb s c i a b h = absurd (a refl)
-one_end K.Bal s c i a b h = absurd (b refl)
-one_end K.Rem s c i a b h = end_if-one true (length s) i h
-one_end K.Fail s c i a b h = refl
-one_end kind s c i a b h = refl
+-- a primitive has one end at most, but for BREAKX, ARB and BAL
+pub one_end : (kind : Kind) (s : List ℕ) (c i : ℕ) → kind ≢ K.Arb → kind ≢ K.Bal → ((set : List ℕ) → kind ≢ K.BreakX set) → i ≢ 0 → None ≡ end_of_node (node_of kind) s c i
+one_end (K.Text bytes) s c i a b x h = end_if-one (starts_with nat_eq (drop c s) bytes.items) (c + length bytes.items) i h
+one_end (K.Len n) s c i a b x h = end_if-one (nat_le (c + n) (length s)) (c + n) i h
+one_end (K.Pos n) s c i a b x h = end_if-one (c == n) c i h
+one_end (K.Rpos n) s c i a b x h = end_if-one (c + n == length s) c i h
+one_end (K.Tab n) s c i a b x h = end_if-one (nat_le c n && nat_le n (length s)) n i h
+one_end (K.Rtab n) s c i a b x h = end_if-one (nat_le (c + n) (length s)) (length s - n) i h
+one_end (K.Any set) s c i a b x h = end_after-one (is_in set) (slice_get s c) c i h
+one_end (K.NotAny set) s c i a b x h = end_after-one (λ byte. not (is_in set byte)) (slice_get s c) c i h
+one_end (K.Span set) s c i a b x h = end_if-one (not (run_length set (drop c s) == 0)) (c + run_length set (drop c s)) i h
+one_end (K.Break set) s c i a b x h = first_in-one set c (drop c s) i h
+one_end (K.BreakX set) s c i a b x h = absurd (x set refl)
+one_end K.Arb s c i a b x h = absurd (a refl)
+one_end K.Bal s c i a b x h = absurd (b refl)
+one_end K.Rem s c i a b x h = end_if-one true (length s) i h
+one_end K.Fail s c i a b x h = refl
+one_end kind s c i a b x h = refl
 
 -- an end is at or behind the cursor and within the subject, and there are no more ends than places
 pub end_of-range : (pattern : Pattern) (s : List ℕ) (c i : ℕ) (r : Option ℕ) → c ≤ length s → r ≡ end_of pattern s c i → IfSome r (Within (c + i) (length s))

@@ -2,8 +2,8 @@
 use Rattle.std.proofs.Common.{◌≡◌, ℕ, zero, suc, ◌+◌, ◌<◌, ◌≤◌, List, [], ◌∷◌, ◌++◌, length, get_or, refl, sym, ◌∙◌, ap, subst, arith, length-append, Some, slice_get, Bool, true, false, ◌&&◌, ◌↔◌, IsTrue, ◌⊎◌, inl, inr, ⊎_elim}
 use Rattle.std.proofs.Math.ListN.{get_or-append}
 use Rattle.std.proofs.Math.Seq.{get_or-append_seam}
-use Rattle.sno_pattern.specs.Pattern.{Pattern, Arbno, Cond, Imm}
-use Rattle.sno_pattern.specs.Table.{Node, LeafNode, FenceNode, AbortNode, SucceedNode, ArbnoNode, AltNode, CatNode, CondNode, ImmNode, PlaceNode, DeferNode, tree_over, trees_onto, tree, no_pattern, AllParts, PartsBelow}
+use Rattle.sno_pattern.specs.Pattern.{Pattern, Cut, Arbno, Cond, Imm}
+use Rattle.sno_pattern.specs.Table.{Node, LeafNode, FenceNode, CutNode, AbortNode, SucceedNode, ArbnoNode, AltNode, CatNode, CondNode, ImmNode, PlaceNode, DeferNode, tree_over, trees_onto, tree, no_pattern, AllParts, PartsBelow}
 use Rattle.sno_pattern.specs.Built.{Appends}
 use Rattle.sno_pattern.specs.Quiet.{IsQuiet}
 use Rattle.sno_pattern.specs.Kinds.{node_of, nodes_of, flags_of, quiet_over, IsTable}
@@ -56,6 +56,7 @@ tree_over-same xs ys (LeafNode a) n h e = refl
 tree_over-same xs ys FenceNode n h e = refl
 tree_over-same xs ys AbortNode n h e = refl
 tree_over-same xs ys SucceedNode n h e = refl
+tree_over-same xs ys (CutNode p) n h e = ap Cut (e p h)
 tree_over-same xs ys (ArbnoNode p) n h e = ap Arbno (e p h)
 tree_over-same xs ys (AltNode p q) n h e = let a = e p h.0 in let b = e q h.1 in cc
 tree_over-same xs ys (CatNode p q) n h e = let a = e p h.0 in let b = e q h.1 in cc
@@ -105,6 +106,7 @@ quiet_over-tree flags trees (LeafNode a) n h e = (λ t. tt, λ t. refl)
 quiet_over-tree flags trees FenceNode n h e = (λ t. absurd (cc), λ t. absurd t)
 quiet_over-tree flags trees AbortNode n h e = (λ t. absurd (cc), λ t. absurd t)
 quiet_over-tree flags trees SucceedNode n h e = (λ t. absurd (cc), λ t. absurd t)
+quiet_over-tree flags trees (CutNode p) n h e = e p h
 quiet_over-tree flags trees (ArbnoNode p) n h e = e p h
 quiet_over-tree flags trees (AltNode p q) n h e = quiet-and (get_or flags p false) (get_or flags q false) (IsQuiet (get_or trees p no_pattern)) (IsQuiet (get_or trees q no_pattern)) (e p h.0) (e q h.1)
 quiet_over-tree flags trees (CatNode p q) n h e = quiet-and (get_or flags p false) (get_or flags q false) (IsQuiet (get_or trees p no_pattern)) (IsQuiet (get_or trees q no_pattern)) (e p h.0) (e q h.1)

@@ -3,7 +3,7 @@ use Rattle.std.specs.Prelude.{◌≡◌, ℕ, ◌<◌, pos, ◌<ℤ◌, ◌≤�
 use Rattle.sno_value.specs.Kind.{takes_count}
 use Rattle.sno_value.specs.declared.kind.PrimitiveKind.{PrimitiveKind}
 use Rattle.sno_value.specs.declared.kind.PrimitiveKind.TheVariants as K
-use Rattle.sno_pattern.specs.Pattern.{Primitive, Len, Pos, Rpos, Tab, Rtab, Any, NotAny, Span, Break, Fail}
+use Rattle.sno_pattern.specs.Pattern.{Primitive, Len, Pos, Rpos, Tab, Rtab, Any, NotAny, Span, Break, BreakX, Fail}
 use Rattle.sno_pattern.specs.Sets.{set_of}
 use Rattle.sno_pattern.specs.declared.argument.Arg.{Arg}
 use Rattle.sno_pattern.specs.declared.argument.Arg.TheVariants.{Count, Set}
@@ -39,6 +39,7 @@ with_set K.Any set = Any set
 with_set K.NotAny set = NotAny set
 with_set K.Span set = Span set
 with_set K.Break set = Break set
+with_set K.BreakX set = BreakX set
 with_set kind set = Fail
 
 -- the primitive with its argument

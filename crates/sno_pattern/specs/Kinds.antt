@@ -1,8 +1,8 @@
 -- The nodes that the stored kinds stand for, and what a table keeps of them. Private contracts alone cite it.
 use Rattle.std.specs.Prelude.{ℕ, ◌<◌, ◌≤◌, Bool, true, false, ◌&&◌, ◌↔◌, List, length, map, get_or, None, Some, IsTrue}
-use Rattle.sno_pattern.specs.Pattern.{Text, Len, Pos, Rpos, Tab, Rtab, Any, NotAny, Span, Break, Arb, Bal, Rem, Fail}
+use Rattle.sno_pattern.specs.Pattern.{Text, Len, Pos, Rpos, Tab, Rtab, Any, NotAny, Span, Break, BreakX, Arb, Bal, Rem, Fail}
 use Rattle.sno_pattern.specs.Quiet.{IsQuiet}
-use Rattle.sno_pattern.specs.Table.{Node, LeafNode, FenceNode, AbortNode, SucceedNode, ArbnoNode, AltNode, CatNode, CondNode, ImmNode, PlaceNode, DeferNode, AllParts, tree}
+use Rattle.sno_pattern.specs.Table.{Node, LeafNode, FenceNode, CutNode, AbortNode, SucceedNode, ArbnoNode, AltNode, CatNode, CondNode, ImmNode, PlaceNode, DeferNode, AllParts, tree}
 use Rattle.sno_pattern.specs.declared.kind.Kind.{Kind}
 use Rattle.sno_pattern.specs.declared.kind.Kind.TheVariants as K
 use Rattle.sno_pattern.specs.declared.kind.Entry.{Entry}
@@ -18,11 +18,13 @@ node_of (K.Any set) = LeafNode (Any set)
 node_of (K.NotAny set) = LeafNode (NotAny set)
 node_of (K.Span set) = LeafNode (Span set)
 node_of (K.Break set) = LeafNode (Break set)
+node_of (K.BreakX set) = LeafNode (BreakX set)
 node_of K.Arb = LeafNode Arb
 node_of K.Bal = LeafNode Bal
 node_of K.Rem = LeafNode Rem
 node_of K.Fail = LeafNode Fail
 node_of K.Fence = FenceNode
+node_of (K.Cut p) = CutNode p.0
 node_of K.Abort = AbortNode
 node_of K.Succeed = SucceedNode
 node_of (K.Arbno p) = ArbnoNode p.0
@@ -44,6 +46,7 @@ flags_of entries = map (λ entry. entry.quiet) entries
 abbrev pub quiet_over : List Bool → Node → Bool
 quiet_over flags (LeafNode a) = true
 quiet_over flags FenceNode = false
+quiet_over flags (CutNode p) = get_or flags p false
 quiet_over flags AbortNode = false
 quiet_over flags SucceedNode = false
 quiet_over flags (ArbnoNode p) = get_or flags p false

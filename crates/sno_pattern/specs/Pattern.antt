@@ -16,6 +16,7 @@ pub data Primitive : Type 0 where
   NotAny : (set : List ℕ) → Primitive
   Span : (set : List ℕ) → Primitive
   Break : (set : List ℕ) → Primitive
+  BreakX : (set : List ℕ) → Primitive
   Arb : Primitive
   Bal : Primitive
   Rem : Primitive
@@ -24,6 +25,8 @@ pub data Primitive : Type 0 where
 pub data Pattern : Type 0 where
   Leaf : (primitive : Primitive) → Pattern
   Fence : Pattern
+  -- FENCE(P): the first way of P, and no other
+  Cut : (body : Pattern) → Pattern
   Abort : Pattern
   Succeed : Pattern
   Arbno : (body : Pattern) → Pattern

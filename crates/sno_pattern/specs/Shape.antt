@@ -1,8 +1,8 @@
 -- What a shape says of a number.
 use Rattle.std.specs.Prelude.{ℕ, ◌<◌, ◌≡◌, List, Option, None, Some, slice_get}
-use Rattle.sno_pattern.specs.Pattern.{Pattern, Primitive, Leaf, Fence, Abort, Succeed, Arbno, Alt, Cat, Cond, Imm, Place, Defer}
+use Rattle.sno_pattern.specs.Pattern.{Pattern, Primitive, Leaf, Fence, Cut, Abort, Succeed, Arbno, Alt, Cat, Cond, Imm, Place, Defer}
 use Rattle.sno_pattern.specs.Ends.{ends}
-use Rattle.sno_pattern.specs.Table.{Node, LeafNode, FenceNode, AbortNode, SucceedNode, ArbnoNode, AltNode, CatNode, CondNode, ImmNode, PlaceNode, DeferNode, tree}
+use Rattle.sno_pattern.specs.Table.{Node, LeafNode, FenceNode, CutNode, AbortNode, SucceedNode, ArbnoNode, AltNode, CatNode, CondNode, ImmNode, PlaceNode, DeferNode, tree}
 use Rattle.sno_value.specs.declared.ids.PatId.{PatId}
 use Rattle.sno_value.specs.declared.ids.ExprId.{ExprId}
 use Rattle.sno_pattern.specs.declared.shape.Shape.{Shape}
@@ -18,6 +18,7 @@ HasShape nodes id (S.Cond p target) = (p.0 < id) × (tree nodes id ≡ Cond (tre
 HasShape nodes id (S.Imm p target) = (p.0 < id) × (tree nodes id ≡ Imm (tree nodes p.0) target)
 HasShape nodes id (S.Cursor target) = tree nodes id ≡ Place target
 HasShape nodes id S.Fence = tree nodes id ≡ Fence
+HasShape nodes id (S.Cut p) = (p.0 < id) × (tree nodes id ≡ Cut (tree nodes p.0))
 HasShape nodes id S.Abort = tree nodes id ≡ Abort
 HasShape nodes id S.Succeed = tree nodes id ≡ Succeed
 HasShape nodes id (S.Defer expression) = tree nodes id ≡ Defer None expression.0
@@ -33,6 +34,7 @@ expression n = record { 0 = n }
 abbrev pub shape_of : Node → Shape
 shape_of (LeafNode a) = S.Primitive
 shape_of FenceNode = S.Fence
+shape_of (CutNode p) = S.Cut (pattern p)
 shape_of AbortNode = S.Abort
 shape_of SucceedNode = S.Succeed
 shape_of (ArbnoNode p) = S.Arbno (pattern p)

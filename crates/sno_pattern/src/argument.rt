@@ -43,6 +43,7 @@ pub(crate) fn among(prim: Prim, set: ByteSet) -> Kind
         Prim::NotAny => Kind::NotAny(set),
         Prim::Span => Kind::Span(set),
         Prim::Break => Kind::Break(set),
+        Prim::BreakX => Kind::BreakX(set),
         _ => unreachable!(),
     }
 }

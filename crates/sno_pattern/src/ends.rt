@@ -8,7 +8,7 @@ ghost use Rattle.sno_pattern.specs.Kinds.{node_of};
 use crate::balance::{balanced_end, balanced_end_at};
 use crate::counts::{len_end, pos_end, rpos_end, rtab_end, tab_end};
 use crate::kind::Kind;
-use crate::sets::{any_end, break_end, not_any_end, span_end};
+use crate::sets::{any_end, break_end, first_stop, not_any_end, span_end, stop_at, stop_behind};
 
 /// The end of a primitive node with the number `i`, in order of trial.
 pub(crate) fn end_of_kind(kind: &Kind, subject: &[u8], at: usize, i: usize) -> Option<usize>
@@ -27,6 +27,7 @@ pub(crate) fn end_of_kind(kind: &Kind, subject: &[u8], at: usize, i: usize) -> O
             }
         }
         Kind::Bal => balanced_end_at(subject, at, i),
+        Kind::BreakX(set) => stop_at(set, subject, at, i),
         _ => None,
     }
 }
@@ -46,6 +47,7 @@ pub(crate) fn end_behind_of_kind(kind: &Kind, subject: &[u8], last: usize) -> Op
             }
         }
         Kind::Bal => balanced_end(subject, last),
+        Kind::BreakX(set) => stop_behind(set, subject, last),
         _ => None,
     }
 }
@@ -66,6 +68,7 @@ pub(crate) fn first_end(kind: &Kind, subject: &[u8], at: usize) -> Option<usize>
         Kind::NotAny(set) => not_any_end(set, subject, at),
         Kind::Span(set) => span_end(set, subject, at),
         Kind::Break(set) => break_end(set, subject, at),
+        Kind::BreakX(set) => first_stop(set, subject, at),
         Kind::Arb => Some(at),
         Kind::Bal => balanced_end(subject, at),
         Kind::Rem => Some(subject.len()),

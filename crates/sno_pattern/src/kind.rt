@@ -21,11 +21,13 @@ pub(crate) enum Kind {
     NotAny(ByteSet),
     Span(ByteSet),
     Break(ByteSet),
+    BreakX(ByteSet),
     Arb,
     Bal,
     Rem,
     Fail,
     Fence,
+    Cut(PatId),
     Abort,
     Succeed,
     Arbno(PatId),
@@ -51,6 +53,7 @@ pub(crate) fn shape_of_kind(kind: &Kind) -> Shape
 {
     match kind {
         Kind::Fence => Shape::Fence,
+        Kind::Cut(p) => Shape::Cut(*p),
         Kind::Abort => Shape::Abort,
         Kind::Succeed => Shape::Succeed,
         Kind::Arbno(p) => Shape::Arbno(*p),
@@ -72,7 +75,8 @@ pub(crate) fn is_quiet_over(entries: &[Entry], kind: &Kind) -> bool
 {
     match kind {
         Kind::Fence | Kind::Abort | Kind::Succeed | Kind::Defer(_) | Kind::DeferPrim(_, _) => false,
-        Kind::Arbno(p) | Kind::Cond(p, _) | Kind::Imm(p, _) => entries[p.0 as usize].quiet,
+        Kind::Cut(p) | Kind::Arbno(p) | Kind::Cond(p, _) | Kind::Imm(p, _) =>
+            entries[p.0 as usize].quiet,
         Kind::Alt(p, q) | Kind::Cat(p, q) => {
             entries[p.0 as usize].quiet && entries[q.0 as usize].quiet
         }

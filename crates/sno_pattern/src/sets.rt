@@ -1,6 +1,6 @@
 //! The ends of primitives with a set.
-ghost use Rattle.std.specs.Prelude.{◌≡◌, ◌≤◌, length, slice_get};
-ghost use Rattle.sno_pattern.specs.Pattern.{Any, NotAny, Span, Break};
+ghost use Rattle.std.specs.Prelude.{◌≡◌, ◌≤◌, ◌+◌, ℕ, length, slice_get, Some};
+ghost use Rattle.sno_pattern.specs.Pattern.{Any, NotAny, Span, Break, BreakX};
 ghost use Rattle.sno_pattern.specs.Ends.{ends};
 
 use crate::byte_set::ByteSet;
@@ -46,4 +46,36 @@ pub(crate) fn break_end(set: &ByteSet, subject: &[u8], at: usize) -> Option<usiz
         Some(before) => Some(at + before),
         None => None,
     }
+}
+
+/// BREAKX(s): the place of the first byte in the set, if there is one.
+pub(crate) fn first_stop(set: &ByteSet, subject: &[u8], at: usize) -> Option<usize>
+    requires { at ≤ length subject.now }
+    ensures { result ≡ slice_get (ends (BreakX set.now) subject.now at) 0 }
+{
+    break_end(set, subject, at)
+}
+
+/// BREAKX(s): the place of the next byte in the set behind the place `last` of one, if there is one.
+pub(crate) fn stop_behind(set: &ByteSet, subject: &[u8], last: usize) -> Option<usize>
+    ensures { (c k : ℕ) → slice_get (ends (BreakX set.now) subject.now c) k ≡ Some last
+        → result ≡ slice_get (ends (BreakX set.now) subject.now c) (k + 1) }
+{
+    if last < subject.len() {
+        first_stop(set, subject, last + 1)
+    } else {
+        None
+    }
+}
+
+/// BREAKX(s): the place with the number `i` among those of the bytes in the set.
+pub(crate) fn stop_at(set: &ByteSet, subject: &[u8], at: usize, i: usize) -> Option<usize>
+    requires { at ≤ length subject.now }
+    ensures { result ≡ slice_get (ends (BreakX set.now) subject.now at) i }
+{
+    let mut stop = first_stop(set, subject, at)?;
+    for _more in 0..i {
+        stop = stop_behind(set, subject, stop)?;
+    }
+    Some(stop)
 }

@@ -20,6 +20,8 @@ pub enum Shape {
     Cursor(Name),
     /// FENCE
     Fence,
+    /// FENCE(P): a cut
+    Cut(PatId),
     /// ABORT
     Abort,
     /// SUCCEED

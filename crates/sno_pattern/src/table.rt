@@ -1,8 +1,8 @@
 //! The table of patterns: its builders and look-ups.
 ghost use Rattle.std.specs.Prelude.{◌≡◌, ℕ, ◌+◌, ◌<◌, ◌≤◌, ◌↔◌, ◌⊎◌, [], ◌∷◌, ◌++◌, length, Some, None, IfOk, IfErr, IfSome, OnOk, OnErr, IsErrOf, IsTrue, Contains};
-ghost use Rattle.sno_pattern.specs.Pattern.{Text, Arb, Bal, Rem, Fail, Leaf, Fence, Abort, Succeed, Arbno, Alt, Cat, Cond, Imm, Place, Defer};
+ghost use Rattle.sno_pattern.specs.Pattern.{Text, Arb, Bal, Rem, Fail, Leaf, Fence, Cut, Abort, Succeed, Arbno, Alt, Cat, Cond, Imm, Place, Defer};
 ghost use Rattle.sno_pattern.specs.Shape.{HasShape, IsPrimitive, end_of};
-ghost use Rattle.sno_pattern.specs.Table.{tree, tree_over, trees_onto, LeafNode, FenceNode, AbortNode, SucceedNode, ArbnoNode, AltNode, CatNode, CondNode, ImmNode, PlaceNode, DeferNode, PartsBelow};
+ghost use Rattle.sno_pattern.specs.Table.{tree, tree_over, trees_onto, LeafNode, FenceNode, AbortNode, SucceedNode, CutNode, ArbnoNode, AltNode, CatNode, CondNode, ImmNode, PlaceNode, DeferNode, PartsBelow};
 ghost use Rattle.sno_pattern.specs.Arguments.{IsArgOf, IsNullSet, IsBadCount, IsGoodArg, primitive_of};
 ghost use Rattle.sno_pattern.specs.Built.{Appends};
 ghost use Rattle.sno_pattern.specs.Quiet.{IsQuiet};
@@ -201,6 +201,18 @@ impl Patterns {
         append(&mut self.entries, Kind::Succeed)
     }
 
+    /// FENCE(P), a cut: the first way of P, and no other.
+    pub fn cut(&mut self, body: PatId) -> Result<PatId, BuildError>
+        requires body { body.0 < length self.old }
+        ensures ok { IfOk result (Appends self.old self.new (CutNode body.0)) }
+        ensures stands { IfOk result (λ id. tree self.new id.0 ≡ Cut (tree self.old body.0)) }
+        ensures err { OnErr result (self.new ≡ self.old) }
+        ensures full { IsErrOf result BuildError.Full ↔ (length self.old ≡ 4000000) }
+        ensures others { IfErr result (λ e. (e ≡ BuildError.Full) ⊎ (e ≡ BuildError.NoMemory)) }
+    {
+        append(&mut self.entries, Kind::Cut(body))
+    }
+
     /// ARBNO(P): P any number of times, the fewest first.
     pub fn arbno(&mut self, body: PatId) -> Result<PatId, BuildError>
         requires body { body.0 < length self.old }
@@ -305,7 +317,7 @@ impl Patterns {
         shape_of_kind(&self.entries[id.0 as usize].kind)
     }
 
-    /// Whether a number's tree has no deferred part, FENCE, ABORT or SUCCEED.
+    /// Whether a number's tree has no deferred part, bare FENCE, ABORT or SUCCEED. A FENCE(P) is as quiet as its P.
     pub fn is_quiet(&self, id: PatId) -> bool
         requires { id.0 < length self.now }
         ensures { IsTrue result ↔ IsQuiet (tree self.now id.0) }
@@ -327,7 +339,7 @@ impl Patterns {
     }
 
     /// The end of a primitive from the cursor `at` that is tried after its end `last`, if there is one. It is the least
-    /// that is greater. For ARB that takes constant time, for BAL a look at the bytes from `last` on.
+    /// that is greater. For ARB that takes constant time, for BAL and BREAKX a look at the bytes from `last` on.
     pub fn end_behind(&self, id: PatId, subject: &[u8], at: usize, last: usize) -> Option<usize>
         requires id { id.0 < length self.now }
         requires at { at ≤ length subject.now }

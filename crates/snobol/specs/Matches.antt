@@ -2,7 +2,7 @@
 use Rattle.std.specs.Prelude.{ℕ, Bool, List, [], ◌∷◌}
 use Rattle.sno_match.specs.declared.event.Pending.{Pending}
 use Rattle.sno_pattern.specs.Pattern.{Pattern}
-use Rattle.sno_match.specs.Search.{Event, Answer, Way, Ended, Exhausted, Aborted, Limit, Waiting, trace}
+use Rattle.sno_match.specs.Search.{Event, Answer, Way, Ended, Exhausted, Aborted, Limit, Waiting, CutOff, trace}
 use Rattle.sno_machine.specs.Values.{Str}
 use Rattle.sno_machine.specs.Action.{Error, Action, gives, fails, stops, and_then}
 use Rattle.sno_machine.specs.Variables.{assigns}
@@ -25,6 +25,7 @@ after_event subject (Ended Limit) next = stops (Error 21)
 after_event subject (Ended Exhausted) next = fails
 after_event subject (Ended Aborted) next = fails
 after_event subject (Ended Waiting) next = fails
+after_event subject (Ended (CutOff mark)) next = fails
 after_event subject event next = and_then (effect subject event) (λ done. next)
 
 -- the events of a match, up to the first way

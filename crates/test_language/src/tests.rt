@@ -4,6 +4,7 @@ mod assignments;
 mod calls;
 mod choices;
 mod containers;
+mod cuts;
 mod deferred;
 mod errors;
 mod faults;

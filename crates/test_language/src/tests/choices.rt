@@ -50,7 +50,7 @@ fn goals_of_a_concatenation(rt: HostRuntime) -> Result<(), Fail> {
     check_rows::<Ways, _>(&rt, GOALS_OF_A_CONCATENATION)
 }
 
-const REPETITIONS_AND_CUTS: &str = r"
+const REPETITIONS_AND_STOPS: &str = r"
 --anchor --steps 48 ; ARBNO('A' | 'AA') ; AAA => way 0 0\nway 0 1\nway 0 2\nway 0 3\nway 0 3\nway 0 2\nway 0 3\nexhausted\n
 --anchor --steps 47 ; ARBNO('A' | 'AA') ; AAA => way 0 0\nway 0 1\nway 0 2\nway 0 3\nway 0 3\nway 0 2\nway 0 3\nlimit\n
 --anchor ; ARBNO('') ; A => way 0 0\nexhausted\n
@@ -63,6 +63,6 @@ const REPETITIONS_AND_CUTS: &str = r"
 ";
 
 #[test]
-fn repetitions_and_cuts(rt: HostRuntime) -> Result<(), Fail> {
-    check_rows::<Ways, _>(&rt, REPETITIONS_AND_CUTS)
+fn repetitions_and_stops(rt: HostRuntime) -> Result<(), Fail> {
+    check_rows::<Ways, _>(&rt, REPETITIONS_AND_STOPS)
 }

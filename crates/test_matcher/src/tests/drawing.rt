@@ -114,6 +114,7 @@ fn facts_of_shape(shape: Shape) -> Facts {
     match shape {
         Shape::Primitive => facts_with("primitive", None, None, None),
         Shape::Fence => facts_with("FENCE", None, None, None),
+        Shape::Cut(p) => facts_with("CUT", Some(p.0 as usize), None, None),
         Shape::Abort => facts_with("ABORT", None, None, None),
         Shape::Succeed => facts_with("SUCCEED", None, None, None),
         Shape::Arbno(p) => facts_with("ARBNO", Some(p.0 as usize), None, None),

@@ -56,6 +56,7 @@ fn is_among(prim: Prim, set: &[u8], part: &[u8], behind: Option<u8>) -> bool {
         Prim::NotAny => part.len() == 1 && of_set == 0,
         Prim::Span => !part.is_empty() && of_set == part.len() && !stops,
         Prim::Break => of_set == 0 && stops,
+        Prim::BreakX => stops,
         _ => false,
     }
 }

@@ -17,6 +17,7 @@ pub enum Form {
     Rem,
     Fail,
     Fence,
+    Cut(PatId),
     Abort,
     Succeed,
     Arbno(PatId),
@@ -79,6 +80,7 @@ fn build(table: &mut Patterns, form: Form) -> Result<PatId, BuildError> {
 fn build_over(table: &mut Patterns, form: Form) -> Result<PatId, BuildError> {
     let end = table.len();
     match form {
+        Form::Cut(p) if p.0 < end => table.cut(p),
         Form::Arbno(p) if p.0 < end => table.arbno(p),
         Form::Alt(p, q) if p.0 < end && q.0 < end => table.alt(p, q),
         Form::Cat(p, q) if p.0 < end && q.0 < end => table.cat(p, q),

@@ -63,7 +63,7 @@ impl Chance {
     }
 
     fn primitive(&mut self) -> Form {
-        match self.below(18) {
+        match self.below(20) {
             0 => self.counted(Prim::Len),
             1 => self.counted(Prim::Pos),
             2 => self.counted(Prim::Rpos),
@@ -77,13 +77,14 @@ impl Chance {
             10 => Form::Rem,
             11 | 12 => Form::Arb,
             13 => Form::Cursor(self.number()),
+            14 | 15 => self.set(Prim::BreakX),
             _ => Form::Text(self.among(&TEXTS)),
         }
     }
 
     /// A form over `parts` forms that are there.
     fn form(&mut self, parts: usize) -> Form {
-        match self.below(28) {
+        match self.below(32) {
             _ if parts == 0 => self.primitive(),
             0 | 1 | 2 | 3 | 4 => Form::Cat(self.part(parts), self.part(parts)),
             5 | 6 | 7 | 8 => Form::Alt(self.part(parts), self.part(parts)),
@@ -96,6 +97,7 @@ impl Chance {
             19 => Form::Defer(None, ExprId(self.number())),
             20 => Form::Defer(Some(Prim::Span), ExprId(self.number())),
             21 => Form::Fail,
+            22 | 23 | 24 | 25 => Form::Cut(self.part(parts)),
             _ => self.primitive(),
         }
     }

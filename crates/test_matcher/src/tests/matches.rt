@@ -6,7 +6,7 @@ use super::driver::all_events;
 use super::forms::table_of;
 use super::notation::forms_of;
 use super::rows::{Question, check_rows, parts};
-use sno_match::{CopiedGoals, Event, Matcher, Points, SharedGoals};
+use sno_match::{CopiedGoals, Engine, Event, Matcher, Points, SharedGoals};
 use sno_pattern::Patterns;
 use sno_value::{ExprId, PatId};
 use std::alloc::{AllocError, Global};
@@ -178,6 +178,54 @@ floating 3 : SUCCEED => way 0 0 at 1; way 0 0 at 2; way 0 0 at 3; limit at 3;
 #[test]
 fn search_is_stopped(rt: HostRuntime) -> Result<(), Fail> {
     check_rows::<Matches, _>(&rt, STOPS)
+}
+
+/// They are BREAKX('B') 'B' and BREAKX('B').
+const STOPS_AT_EACH: &str = r"
+anchored 1000 ABAB: BREAKX:B TEXT:B &:0,1 => way 0 2 at 3; way 0 4 at 5; exhausted at 5;
+anchored 4 ABAB: BREAKX:B TEXT:B &:0,1 => way 0 2 at 3; limit at 4;
+anchored 1000 BB: BREAKX:B => way 0 0 at 1; way 0 1 at 2; exhausted at 2;
+";
+
+#[test]
+fn each_byte_of_a_set_is_a_stop(rt: HostRuntime) -> Result<(), Fail> {
+    check_rows::<Matches, _>(&rt, STOPS_AT_EACH)
+}
+
+/// They are FENCE('AB' | 'A') 'C'; FENCE('A' | 'AB') 'C' three times; FENCE('A') 'X' | 'AB';
+/// FENCE(FENCE('A' | 'AB') ('C' | 'BC')) REM; FENCE(ARBNO('A')) 'A'; ARBNO(FENCE('A' | 'AA')); FENCE('A' FENCE) and
+/// FENCE(FENCE 'C') 'D', where a bare FENCE is no cut.
+const CUTS: &str = r"
+anchored 1000 ABC: TEXT:AB TEXT:A |:0,1 CUT:2 TEXT:C &:3,4 => way 0 3 at 6; exhausted at 6;
+anchored 1000 ABC: TEXT:A TEXT:AB |:0,1 CUT:2 TEXT:C &:3,4 => exhausted at 6;
+anchored 5 ABC: TEXT:A TEXT:AB |:0,1 CUT:2 TEXT:C &:3,4 => limit at 5;
+floating 1000 ABAC: TEXT:A TEXT:AB |:0,1 CUT:2 TEXT:C &:3,4 => way 2 4 at 20; exhausted at 34;
+anchored 1000 AB: TEXT:A CUT:0 TEXT:X &:1,2 TEXT:AB |:3,4 => way 0 2 at 8; exhausted at 8;
+anchored 1000 ABC: TEXT:A TEXT:AB |:0,1 CUT:2 TEXT:C TEXT:BC |:4,5 &:3,6 CUT:7 REM &:8,9 => way 0 3 at 13; exhausted at 13;
+anchored 1000 AA: TEXT:A ARBNO:0 CUT:1 &:2,0 => way 0 1 at 5; exhausted at 5;
+anchored 1000 AAA: TEXT:A TEXT:AA |:0,1 CUT:2 ARBNO:3 => way 0 0 at 1; way 0 1 at 8; way 0 2 at 15; way 0 3 at 22; exhausted at 28;
+anchored 1000 AB: TEXT:A FENCE &:0,1 CUT:2 => way 0 1 at 5; exhausted at 5;
+floating 1000 AB: FENCE TEXT:C &:0,1 CUT:2 TEXT:D &:3,4 => aborted at 5;
+";
+
+#[test]
+fn a_cut_has_one_way(rt: HostRuntime) -> Result<(), Fail> {
+    check_rows::<Matches, _>(&rt, CUTS)
+}
+
+/// They are FENCE(LEN(1) $ X | LEN(2) $ X) 'C'; FENCE('A' . X); FENCE('A') . X; FENCE('A' . X 'X' | 'AB' . Y) 'C'; and
+/// FENCE(*E) 'B', where E gives 'A'.
+const CUTS_AND_ASSIGNMENTS: &str = r"
+anchored 1000 ABC: LEN:1 $:0,7 LEN:2 $:2,7 |:1,3 CUT:4 TEXT:C &:5,6 => assign 7 0 1 at 6; exhausted at 8;
+anchored 1000 A: TEXT:A .:0,7 CUT:1 => way 0 1 at 5 with 7 0 1; exhausted at 5 with 7 0 1;
+anchored 1000 A: TEXT:A CUT:0 .:1,7 => way 0 1 at 5 with 7 0 1; exhausted at 5 with 7 0 1;
+anchored 1000 ABC: TEXT:A .:0,1 TEXT:X &:1,2 TEXT:AB .:4,2 |:3,5 CUT:6 TEXT:C &:7,8 => way 0 3 at 14 with 2 0 2; exhausted at 14 with 2 0 2;
+anchored 1000 AB: TEXT:A *:4 CUT:1 TEXT:B &:2,3 => value 4 at 3; way 0 2 at 6; exhausted at 6;
+";
+
+#[test]
+fn assignments_in_a_cut(rt: HostRuntime) -> Result<(), Fail> {
+    check_rows::<Matches, _>(&rt, CUTS_AND_ASSIGNMENTS)
 }
 
 const ASSIGNMENTS: &str = r"
@@ -372,6 +420,28 @@ fn a_long_chain(rt: HostRuntime) -> Result<(), Fail> {
     let copied = events_over::<CopiedGoals>(rt.alloc(), &table, chain, search)?;
     assert_eq!(rt; copied.as_str(), LONG_EVENTS);
     Ok(())
+}
+
+/// How many bytes a long run has.
+const RUN: usize = 50_000;
+
+/// ARBNO(FENCE('A' | 'AA')) RPOS(0): a cut that was closed leaves no point, so that the stack doesn't grow with the run.
+fn repeat_cuts<P: Points>(rt: &impl Abort, alloc: Global) -> Result<(), Fail> {
+    let forms = forms_of(alloc, "TEXT:A TEXT:AA |:0,1 CUT:2 ARBNO:3 RPOS:0 &:4,5")?;
+    let (table, pattern) = table_of(alloc, &forms)?;
+    let run = vec![in alloc; b'A'; RUN]?;
+    let mut m = Engine::<P>::new(alloc, &table, pattern, &run, true, 1_000_000)?;
+    let way = m.next(&table)?;
+    assert_eq!(rt; way, Event::Way { start: 0, end: RUN });
+    assert!(rt; m.points() <= 2);
+    assert!(rt; m.records() <= 10);
+    Ok(())
+}
+
+#[test]
+fn cuts_that_were_closed_leave_no_point(rt: HostRuntime) -> Result<(), Fail> {
+    repeat_cuts::<SharedGoals>(&rt, rt.alloc())?;
+    repeat_cuts::<CopiedGoals>(&rt, rt.alloc())
 }
 
 /// How many times a pattern names itself.

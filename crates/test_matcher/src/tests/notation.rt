@@ -1,5 +1,5 @@
 //! A notation for forms: words as `TEXT:A LEN:1 |:0,1`. A part is named by the place of its word, counted from 0, and a
-//! variable or an expression by its number.
+//! variable or an expression by its number. `CUT:0` is FENCE(P).
 use super::forms::Form;
 use sno_value::{ExprId, PatId, Prim};
 use std::alloc::Global;
@@ -43,6 +43,7 @@ fn numbered(name: &'static str, argument: &'static str) -> Result<Form, Fail> {
     let first: u32 = first.parse()?;
     let second: u32 = second.parse()?;
     match name {
+        "CUT" => Ok(Form::Cut(PatId(first))),
         "ARBNO" => Ok(Form::Arbno(PatId(first))),
         "|" => Ok(Form::Alt(PatId(first), PatId(second))),
         "&" => Ok(Form::Cat(PatId(first), PatId(second))),
@@ -67,6 +68,7 @@ fn primitive_of(name: &str) -> Option<Prim> {
         "NOTANY" => Some(Prim::NotAny),
         "SPAN" => Some(Prim::Span),
         "BREAK" => Some(Prim::Break),
+        "BREAKX" => Some(Prim::BreakX),
         _ => None,
     }
 }

@@ -124,6 +124,8 @@ SPAN:A from 0 of AAAAAAAAAAAAAAAAAAAAAAAAAAAAAAAAAAAAAAAAAAAAAAAAAAAAAAAAAAAAAAA
 SPAN:A from 100 of AAAAAAAAAAAAAAAAAAAAAAAAAAAAAAAAAAAAAAAAAAAAAAAAAAAAAAAAAAAAAAAAAAAAAAAAAAAAAAAAAAAAAAAAAAAAAAAAAAAAB => ends
 SPAN:ABCDEFGH from 0 of ABCDEFGHABCDEFGHABCDEFGHABCDEFGHABCDEFGHABCDEFGHABCDEFGHABCDEFGHA => ends 65
 SPAN:ABCDEFGHI from 0 of IHGFEDCBAIHGFEDCBAIHGFEDCBAIHGFEDCBAIHGFEDCBAIHGFEDCBAIHGFEDCBAIH => ends 65
+BREAKX:B from 0 of AAA => ends
+BREAKX:B from 2 of BB => ends
 ";
 
 #[test]
@@ -134,6 +136,10 @@ fn sets(rt: HostRuntime) -> Result<(), Fail> {
 const SEVERAL_ENDS: &str = r"
 ARB from 0 of AB => ends 0 1 2
 ARB from 2 of AB => ends 2
+BREAKX:B from 0 of ABAB => ends 1 3
+BREAKX:B from 2 of ABAB => ends 3
+BREAKX:B from 0 of BB => ends 0 1
+BREAKX:BC from 1 of BCABAC => ends 1 3 5
 BAL from 0 of (A)B => ends 3 4
 BAL from 1 of (A)B => ends 2
 BAL from 0 of ()) => ends 2
@@ -232,6 +238,8 @@ BREAK:, from 2 to 4 of A,B => place 4
 BREAK:, from 3 to 3 of AB, => place 3
 BREAK:, from 0 to 2 of , => place 0
 BREAK:, from 3 to 4 of AB, => place 4
+BREAKX:, from 0 to 4 of AB, => place 0
+BREAKX:, from 1 to 3 of ,AB => place 3
 LEN:2 from 0 to 4 of ABC => place 0
 LEN:2 from 2 to 4 of ABC => place 4
 LEN:0 from 3 to 4 of ABC => place 3
@@ -298,6 +306,7 @@ fn push_quiet(text: &mut String, quiet: bool) -> Result<(), AllocError> {
 
 const HEADS: &str = r"
 TEXT:A FENCE ABORT SUCCEED ARBNO:0 |:0,4 &:5,1 .:5,7 $:6,7 @:7 *:3 *SPAN:4 => primitive quiet, FENCE, ABORT, SUCCEED, ARBNO 0 quiet, | 0 4 quiet, & 5 1, . 5 7 quiet, $ 6 7, @ 7 quiet, * 3, *SPAN 4, 12
+TEXT:A FENCE CUT:0 CUT:1 *:3 CUT:4 BREAKX:A CUT:6 ARBNO:7 => primitive quiet, FENCE, CUT 0 quiet, CUT 1, * 3, CUT 4, primitive quiet, CUT 6 quiet, ARBNO 7 quiet, 9
 @:7 *:3 *SPAN:4 &:0,2 ARBNO:3 => @ 7 quiet, * 3, *SPAN 4, & 0 2, ARBNO 3, 5
 ";
 
@@ -333,6 +342,7 @@ fn full(rt: HostRuntime) -> Result<(), Fail> {
     assert_eq!(rt; patterns.arb(), Err(BuildError::Full));
     assert_eq!(rt; patterns.text(b"A"), Err(BuildError::Full));
     assert_eq!(rt; patterns.alt(first, deepest), Err(BuildError::Full));
+    assert_eq!(rt; patterns.cut(deepest), Err(BuildError::Full));
     let good = patterns.prim(Prim::Len, Arg::Count(1));
     assert_eq!(rt; good, Err(BuildError::Full));
     let bad_count = patterns.prim(Prim::Len, Arg::Count(-1));

@@ -13,6 +13,8 @@ enum Step {
     CloseCond(Name, usize),
     CloseImm(Name, usize),
     CloseRepeat(PatId, usize),
+    /// With the steps that were left when the cut was entered.
+    CloseCut(u32),
 }
 
 #[derive(Clone, Copy, Drop)]
@@ -21,6 +23,8 @@ enum Verdict {
     Aborted,
     Limit,
     Waiting,
+    /// What follows the cut with this mark is exhausted.
+    CutOff(u32),
 }
 
 #[derive(Drop)]
@@ -79,7 +83,7 @@ pub fn search_events(
         Verdict::Exhausted => search.tell(Event::Exhausted)?,
         Verdict::Aborted => search.tell(Event::Aborted)?,
         Verdict::Limit => search.tell(Event::Limit)?,
-        Verdict::Waiting => {}
+        Verdict::Waiting | Verdict::CutOff(_) => {}
     }
     Ok(search.told)
 }
@@ -182,6 +186,10 @@ impl Search<'_> {
                 let verdict = self.search(&goals, at, pending, depth)?;
                 Ok(verdict)
             }
+            Step::CloseCut(mark) => match self.search(rest, at, pending, depth)? {
+                Verdict::Exhausted => Ok(Verdict::CutOff(mark)),
+                verdict => Ok(verdict),
+            },
         }
     }
 
@@ -245,6 +253,7 @@ impl Search<'_> {
                 Verdict::Exhausted => Ok(Verdict::Aborted),
                 verdict => Ok(verdict),
             },
+            Form::Cut(p) => self.search_first(p, rest, at, pending, depth),
             Form::Abort => Ok(Verdict::Aborted),
             Form::Succeed => self.search_again(rest, at, pending, depth),
             Form::Defer(prim, expr) => {
@@ -292,6 +301,24 @@ impl Search<'_> {
         }
         let verdict = self.search_behind(second, rest, at, pending, depth)?;
         Ok(verdict)
+    }
+
+    /// A cut, whose mark is the number of steps left behind its own.
+    #[cycle(reference)]
+    fn search_first(
+        &mut self,
+        body: PatId,
+        rest: &[Step],
+        at: usize,
+        pending: &[Pending],
+        depth: u32,
+    ) -> Result<Verdict, AllocError> {
+        let mark = self.left;
+        let front = [Step::Match(body), Step::CloseCut(mark)];
+        match self.search_behind(&front, rest, at, pending, depth)? {
+            Verdict::CutOff(cut) if cut == mark => Ok(Verdict::Exhausted),
+            verdict => Ok(verdict),
+        }
     }
 
     #[cycle(reference)]

@@ -8,8 +8,9 @@ use std::alloc::{AllocError, Global};
 use std::process::Abort;
 use std::test::Fail;
 
-/// Refuses growths. Which ones, the number of the pattern says, since nothing else reaches a stack from a test: every
-/// second one for the pattern with the number 3, the first alone for that with 4, the second for that with 5, and so on.
+/// Refuses growths. Which ones, the number of the pattern modulo 64 says, since nothing else reaches a stack from a test:
+/// every second one for the pattern with the number 3, the first alone for that with 4, the second for that with 5, and so
+/// on.
 #[derive(Drop)]
 struct Refusing<P: Points> {
     inner: P,
@@ -77,6 +78,10 @@ impl<P: Points> Points for Refusing<P> {
         self.inner.close(assignment)
     }
 
+    fn cut(&mut self, depth: usize) {
+        self.inner.cut(depth)
+    }
+
     fn pop(&mut self) {
         self.inner.pop()
     }
@@ -90,7 +95,7 @@ impl<P: Points> Points for Refusing<P> {
 
     fn begin(&mut self, goal: Goal, cursor: usize) -> Result<(), AllocError> {
         if let Goal::Match(pattern) = goal {
-            self.pattern = pattern.0;
+            self.pattern = pattern.0 % 64;
             self.asked = 0;
         }
         self.inner.begin(goal, cursor)
@@ -116,13 +121,30 @@ fn add_repetition(table: &mut Patterns) -> Result<PatId, BuildError>
     Ok(some)
 }
 
-/// The ends of its ways in AAA from 0, and their counts of steps.
-const WAYS: [(usize, u32); 7] = [(0, 1), (1, 6), (2, 11), (3, 16), (3, 27), (2, 36), (3, 41)];
+/// What a pattern tells in AAA from 0.
+#[derive(Clone, Copy, Drop)]
+struct Expected {
+    /// The ends of its ways, and their counts of steps.
+    ways: &'static [(usize, u32)],
+    /// The count of steps when no way is left.
+    steps: u32,
+}
 
-/// The count of steps when no way is left.
-const ALL_STEPS: u32 = 48;
+const REPETITION: Expected = Expected {
+    ways: &[(0, 1), (1, 6), (2, 11), (3, 16), (3, 27), (2, 36), (3, 41)],
+    steps: 48,
+};
 
-/// The growths behind `new`: one for each step but 19, 21, 23, 30, 32, 44, 46 and 48, which fail, and one for each way.
+/// FENCE(FENCE('A' | 'AA') 'A') REM.
+const CUTS: Expected = Expected {
+    ways: &[(3, 10)],
+    steps: 10,
+};
+
+/// One for each of its steps but 7 and 9, at which a cut is closed, and one for the way.
+const GROWTHS_OF_CUTS: u32 = 9;
+
+/// The growths of the repetition behind `new`: one for each step but 19, 21, 23, 30, 32, 44, 46 and 48, which fail, and one for each way.
 const GROWTHS: u32 = 47;
 
 /// The next event, asked for again after each refusal: none was told, and the steps are no fewer than those of the event
@@ -154,18 +176,19 @@ fn ask_again<P: Points>(
     None
 }
 
-/// Asks the repetition for all its events, and gives the number of refusals. An Err is a refusal before the first.
+/// Asks a pattern for all its events, and gives the number of refusals. An Err is a refusal before the first.
 fn asked_again<P: Points>(
     rt: &impl Abort,
     table: &Patterns,
     pattern: PatId,
     alloc: Global,
+    expected: Expected,
 ) -> Result<u32, AllocError>
     requires { pattern.0 < length table.now }
 {
     let mut m = Engine::<P>::new(alloc, table, pattern, b"AAA", true, 1000)?;
     let mut refused = 0u32;
-    'ways: for (end, steps) in &WAYS {
+    'ways: for (end, steps) in expected.ways {
         let told = ask_again(rt, &mut m, table, *steps, &mut refused);
         let way = Event::Way {
             start: 0,
@@ -175,10 +198,10 @@ fn asked_again<P: Points>(
         assert_eq!(rt; m.steps(), *steps);
         assert!(rt; !m.is_waiting());
     }
-    let told = ask_again(rt, &mut m, table, ALL_STEPS, &mut refused);
+    let told = ask_again(rt, &mut m, table, expected.steps, &mut refused);
     assert_eq!(rt; told, Some(Event::Exhausted));
-    assert_eq!(rt; m.steps(), ALL_STEPS);
-    assert_eq!(rt; m.told(), 8);
+    assert_eq!(rt; m.steps(), expected.steps);
+    assert_eq!(rt; m.told(), expected.ways.len() as u64 + 1);
     Ok(refused)
 }
 
@@ -188,13 +211,14 @@ fn asked_in_full<P: Points>(
     table: &Patterns,
     pattern: PatId,
     alloc: Global,
+    expected: Expected,
 ) -> Result<u32, AllocError>
     requires { pattern.0 < length table.now }
 {
-    match asked_again::<P>(rt, table, pattern, alloc) {
+    match asked_again::<P>(rt, table, pattern, alloc, expected) {
         Ok(refused) => Ok(refused),
         Err(_) => {
-            let refused = asked_again::<P>(rt, table, pattern, alloc)?;
+            let refused = asked_again::<P>(rt, table, pattern, alloc, expected)?;
             Ok(refused.saturating_add(1))
         }
     }
@@ -205,9 +229,9 @@ fn every_second_growth_is_refused(rt: HostRuntime) -> Result<(), Fail> {
     let mut table = Patterns::new(rt.alloc());
     let some = add_repetition(&mut table)?;
     assert_eq!(rt; some.0, 3);
-    let shared = asked_again::<Refusing<SharedGoals>>(&rt, &table, some, rt.alloc())?;
+    let shared = asked_again::<Refusing<SharedGoals>>(&rt, &table, some, rt.alloc(), REPETITION)?;
     assert_eq!(rt; shared, GROWTHS);
-    let copied = asked_again::<Refusing<CopiedGoals>>(&rt, &table, some, rt.alloc())?;
+    let copied = asked_again::<Refusing<CopiedGoals>>(&rt, &table, some, rt.alloc(), REPETITION)?;
     assert_eq!(rt; copied, GROWTHS);
     Ok(())
 }
@@ -222,8 +246,20 @@ fn each_growth_is_refused_once(rt: HostRuntime) -> Result<(), Fail> {
     'growths: for k in 0..1000u32 {
         let some = table.arbno(choice)?;
         assert_eq!(rt; some.0, k + 4);
-        let shared = asked_again::<Refusing<SharedGoals>>(&rt, &table, some, rt.alloc())?;
-        let copied = asked_again::<Refusing<CopiedGoals>>(&rt, &table, some, rt.alloc())?;
+        let shared = asked_again::<Refusing<SharedGoals>>(
+            &rt,
+            &table,
+            some,
+            rt.alloc(),
+            REPETITION,
+        )?;
+        let copied = asked_again::<Refusing<CopiedGoals>>(
+            &rt,
+            &table,
+            some,
+            rt.alloc(),
+            REPETITION,
+        )?;
         assert_eq!(rt; shared, copied);
         if shared == 0 {
             break;
@@ -232,6 +268,39 @@ fn each_growth_is_refused_once(rt: HostRuntime) -> Result<(), Fail> {
         growths = k + 1;
     }
     assert_eq!(rt; growths, GROWTHS);
+    Ok(())
+}
+
+/// Adds FENCE(FENCE('A' | 'AA') 'A') and REM.
+fn add_cuts(table: &mut Patterns) -> Result<(PatId, PatId), BuildError>
+    ensures first { IfOk result (λ made. made.0.0 < length table.new) }
+    ensures second { IfOk result (λ made. made.1.0 < length table.new) }
+{
+    let choice = add_choice(table)?;
+    let inner = table.cut(choice)?;
+    let a = table.text(b"A")?;
+    let both = table.cat(inner, a)?;
+    let outer = table.cut(both)?;
+    let rest = table.rem()?;
+    Ok((outer, rest))
+}
+
+/// The same of a cut in a cut.
+#[test]
+fn each_growth_of_cuts_is_refused_once(rt: HostRuntime) -> Result<(), Fail> {
+    let mut table = Patterns::new(rt.alloc());
+    let (outer, rest) = add_cuts(&mut table)?;
+    for _other in table.len()..68 {
+        let _none = table.fail()?;
+    }
+    'growths: for k in 0..20u32 {
+        let pattern = table.cat(outer, rest)?;
+        assert_eq!(rt; pattern.0, k + 68);
+        let shared = asked_again::<Refusing<SharedGoals>>(&rt, &table, pattern, rt.alloc(), CUTS)?;
+        let copied = asked_again::<Refusing<CopiedGoals>>(&rt, &table, pattern, rt.alloc(), CUTS)?;
+        assert_eq!(rt; shared, copied);
+        assert_eq!(rt; shared, if k < GROWTHS_OF_CUTS { 1 } else { 0 });
+    }
     Ok(())
 }
 
@@ -248,8 +317,8 @@ fn a_refused_allocation_is_no_event(rt: HostRuntime) -> Result<(), Fail> {
             add_repetition(&mut table)?
         }
     };
-    let shared = asked_in_full::<SharedGoals>(&rt, &table, some, rt.alloc())?;
-    let copied = asked_in_full::<CopiedGoals>(&rt, &table, some, rt.alloc())?;
+    let shared = asked_in_full::<SharedGoals>(&rt, &table, some, rt.alloc(), REPETITION)?;
+    let copied = asked_in_full::<CopiedGoals>(&rt, &table, some, rt.alloc(), REPETITION)?;
     assert!(rt; shared <= 1);
     assert!(rt; copied <= 1);
     assert!(rt; before + shared + copied <= 1);

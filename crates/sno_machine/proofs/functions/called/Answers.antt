@@ -4,6 +4,9 @@ use Rattle.sno_machine.proofs.functions.called.Goals as goal
 pub repetition-requires : goal.repetition-requires
 repetition-requires c = c.argument-operand-in-Some-Arbno.ensures.known _ c.requires
 
+pub cut-requires : goal.cut-requires
+cut-requires c = c.argument-operand-in-Some-Cut.ensures.known _ c.requires
+
 pub convert-requires : goal.convert-requires
 convert-requires c = c.argument-x.ensures.known _ c.requires
 
@@ -17,6 +20,11 @@ pub returns-in-Some-Arbno : goal.returns-in-Some-Arbno
 returns-in-Some-Arbno c =
     let arbno = rw c.in-Some-Arbno.is at c.in-Some-Arbno.field-0-is in
     rw (c.in-Some-Arbno.is, arbno, ← c.argument-operand-in-Some-Arbno.ensures.value c.args.machine.now.nodes) c.repetition.ensures
+
+pub returns-in-Some-Cut : goal.returns-in-Some-Cut
+returns-in-Some-Cut c =
+    let cut = rw c.in-Some-Cut.is at c.in-Some-Cut.field-0-is in
+    rw (c.in-Some-Cut.is, cut, ← c.argument-operand-in-Some-Cut.ensures.value c.args.machine.now.nodes) c.cut.ensures
 
 pub returns-in-Some-Convert : goal.returns-in-Some-Convert
 returns-in-Some-Convert c =

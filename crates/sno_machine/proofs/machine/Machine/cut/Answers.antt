@@ -1,0 +1,6 @@
+use Rattle.std.proofs.Common.{refl}
+use Rattle.sno_machine.proofs.Builders.{made}
+use Rattle.sno_machine.proofs.machine.Machine.cut.Goals as goal
+
+pub returns : goal.returns
+returns c = rw (← c.self.view_is) (made _ _ _ _ c.self.invariant refl c.in_ok-id.ensures.ok)
