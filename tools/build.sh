@@ -7,7 +7,7 @@ takes='up to half an hour on 4 processors, and 5 GB of disk'
 log=$top/crates/snobol4/out/build.log
 
 # Proves and builds the program, and sets `program` to it. `why` says why, where there is a reason to tell.
-# Another call that is building it is waited for, and then what it built is taken, where that is what is wanted.
+# Another call that is building it is waited for, and what it built is taken, where that is not older than the sources.
 build_program() {
     if ! command -v rt >/dev/null; then
         say "${why:+$why, and }to prove and build the program needs the Rattle kit, whose command rt is not on PATH;" \
@@ -21,16 +21,16 @@ build_program() {
     # The lock is the open file: it goes when the last that holds it ends, however it ends. Without flock the kit's own locks
     # still keep two builds from meeting in a crate.
     exec 9>>"$cache/lock"
+    waited=no
     if command -v flock >/dev/null && ! flock -n 9; then
         say "another call is building the program, which this one waits for; its log is $log"
         flock 9
-        if find_program; then
-            exec 9>&-
-            return
-        fi
+        waited=yes
     fi
-    say "${why:+$why; }the program is proved and built first: $takes; the log is $log"
-    prove
+    if [ "$waited" = no ] || ! [ -x "$built" ] || is_older "$built"; then
+        say "${why:+$why; }the program is proved and built${why:+ first}: $takes; the log is $log"
+        prove
+    fi
     exec 9>&-
     program=$built
 }
@@ -39,15 +39,15 @@ build_program() {
 prove() {
     began=$(date +%s)
     : >"$cache/began"
-    trap 'stop HUP' HUP
-    trap 'stop INT' INT
-    trap 'stop TERM' TERM
+    kit=
+    trap end_kit EXIT
+    for signal in HUP INT PIPE TERM; do trap "stop $signal" "$signal"; done
     (cd "$top/crates/snobol4" && exec setsid rt run -- --help) </dev/null >"$log" 2>&1 &
     kit=$!
     follow 9>&-
     status=0
     wait "$kit" || status=$?
-    trap - HUP INT TERM
+    trap - EXIT HUP INT PIPE TERM
     if [ "$status" -ne 0 ] || ! [ -x "$built" ]; then
         say "the build failed; the last lines of $log:"
         tail -n 12 "$log" | sed 's/^/    /' >&2
@@ -83,18 +83,23 @@ clear_line() {
     if on_terminal; then printf '\r\033[K' >&2; fi
 }
 
-# Ends the kit's whole group, and then this call by the signal $1 that it was sent.
-stop() {
-    trap '' HUP INT TERM
-    clear_line
-    # The kit may not be the leader of its group yet.
-    kill -s TERM -- "-$kit" 2>/dev/null || :
-    kill -s TERM "$kit" 2>/dev/null || :
+# Ends the kit's whole group.
+end_kit() {
+    if [ -z "$kit" ]; then return; fi
+    # It may not be the leader of its group yet.
+    kill -s TERM -- "-$kit" 2>/dev/null || kill -s TERM "$kit" 2>/dev/null || :
     sleep 1
     kill -s KILL -- "-$kit" 2>/dev/null || :
     wait "$kit" 2>/dev/null || :
-    say "the build was interrupted; the crates that were proved are kept for the next one"
-    trap - HUP INT TERM
+}
+
+# Ends the kit, and then this call by the signal $1 that it was sent. There may be nobody left to tell.
+stop() {
+    trap '' HUP INT PIPE TERM
+    end_kit
+    clear_line || :
+    say "the build was interrupted; the crates that were proved are kept for the next one" || :
+    trap - EXIT HUP INT PIPE TERM
     kill -s "$1" "$$"
     exit 70
 }
