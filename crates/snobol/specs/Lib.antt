@@ -1,4 +1,5 @@
 pub mod Forms
+pub mod Endings
 pub mod Evaluate
 pub mod Pile
 pub mod Reading

@@ -5,6 +5,7 @@ mod answers;
 mod apply;
 mod calls;
 mod code;
+mod endings;
 mod enumeration;
 mod evaluate;
 mod execution;

@@ -59,7 +59,9 @@ fn obey(rt: &HostRuntime, args: &[String]) -> u8 {
             if status == NO_MEMORY {
                 return no_memory(rt);
             }
-            let _ = error.print(rt);
+            if error.print(rt).is_err() && status == 0 {
+                return write_fault(rt);
+            }
             status
         }
     }
@@ -109,8 +111,7 @@ fn finish(rt: &HostRuntime, job: &Job, file: Option<&[u8]>, name: usize) -> u8
     let mut errors = Device::new(line);
     let status = perform(alloc, job, file, &mut reader, &mut writer, &mut errors);
     if writer.flush().is_err() {
-        let _ = eprintln!(rt; "snobol4: write fault");
-        return FAULT;
+        return write_fault(rt);
     }
     let _ = rt.stderr().write_all(errors.into_inner().as_slice());
     status
@@ -119,4 +120,9 @@ fn finish(rt: &HostRuntime, job: &Job, file: Option<&[u8]>, name: usize) -> u8
 fn no_memory(rt: &HostRuntime) -> u8 {
     let _ = eprintln!(rt; "snobol4: no memory");
     NO_MEMORY
+}
+
+fn write_fault(rt: &HostRuntime) -> u8 {
+    let _ = eprintln!(rt; "snobol4: write fault");
+    FAULT
 }

@@ -1,7 +1,8 @@
 //! Programs on devices that fail, and on readers that give a byte at a time.
 use super::writers::Shut;
 use sno_text::read_program;
-use snobol::{Device, Limits, Outcome, Sink, run};
+use snobol::{Device, Job, Limits, Outcome, Sink, perform, run};
+use std::alloc::Global;
 use std::io::{self, ErrorKind, Read};
 use std::process::Abort;
 use std::test::Fail;
@@ -129,4 +130,174 @@ fn writers_that_fill_up(rt: HostRuntime) -> Result<(), Fail> {
         b"a\n\nb",
         b"a\n\nb\n",
     )
+}
+
+/// The job of running a program.
+const RUN: Job<'static> = Job::Run {
+    file: "f.sno",
+    limits: LIMITS,
+};
+
+/// What a job gave: its status, what was written and what was told.
+#[derive(Drop)]
+struct Done {
+    status: u8,
+    written: Vec<u8>,
+    told: Vec<u8>,
+}
+
+/// Does a job on a reader that fails at the call behind so many, and on writers with so much room for what is written and
+/// for what is told.
+fn done(
+    alloc: Global,
+    job: &Job<'_>,
+    file: Option<&[u8]>,
+    calls: usize,
+    room: usize,
+    line_room: usize,
+) -> Done {
+    let mut input = Device::new(Drip {
+        bytes: b"ab\n\ncd",
+        at: 0,
+        calls,
+    });
+    let mut output = Device::new(Shut {
+        taken: Vec::new(alloc),
+        room,
+    });
+    let mut errors = Device::new(Shut {
+        taken: Vec::new(alloc),
+        room: line_room,
+    });
+    let status = perform(alloc, job, file, &mut input, &mut output, &mut errors);
+    let Shut {
+        taken: written,
+        room: _,
+    } = output.into_inner();
+    let Shut {
+        taken: told,
+        room: _,
+    } = errors.into_inner();
+    Done {
+        status,
+        written,
+        told,
+    }
+}
+
+#[test]
+fn a_read_fault_has_its_status_and_its_line(rt: HostRuntime) {
+    for calls in 0..7 {
+        let fault = done(rt.alloc(), &RUN, Some(NUMBERS), calls, 1000, 1000);
+        assert_eq!(rt; fault.status, 7, "{calls} calls");
+        assert_eq!(rt; fault.told.as_slice(), b"snobol4: read fault\n".as_slice());
+    }
+    let well = done(rt.alloc(), &RUN, Some(NUMBERS), 7, 1000, 1000);
+    assert_eq!(rt; well.status, 0);
+    assert_eq!(rt; well.written.as_slice(), b"1 ab\n2 \n3 cd\n".as_slice());
+    assert!(rt; well.told.is_empty());
+}
+
+/// Does a job on writers with room for 0 bytes, 1 byte and so on, which do not suffice for these lines.
+fn check_write_faults<R: Abort + AllocGlobal>(
+    rt: &R,
+    job: &Job<'_>,
+    file: Option<&[u8]>,
+    lines: &[u8],
+) {
+    for room in 0..lines.len() {
+        let fault = done(rt.alloc(), job, file, 1000, room, 1000);
+        assert_eq!(rt; fault.status, 7, "room for {room}");
+        assert_eq!(rt; fault.written.as_slice(), &lines[..room]);
+        assert_eq!(rt; fault.told.as_slice(), b"snobol4: write fault\n".as_slice());
+    }
+    let well = done(rt.alloc(), job, file, 1000, lines.len(), 1000);
+    assert_eq!(rt; well.status, 0);
+    assert!(rt; well.told.is_empty());
+}
+
+#[test]
+fn a_write_fault_has_its_status_and_its_line(rt: HostRuntime) {
+    let ways = Job::Ways {
+        anchored: true,
+        steps: 1000,
+        pattern: "'A' | 'AB'",
+        subject: "AB",
+    };
+    check_write_faults(&rt, &RUN, Some(NUMBERS), b"1 ab\n2 \n3 cd\n");
+    check_write_faults(&rt, &ways, None, b"way 0 1\nway 0 2\nexhausted\n");
+}
+
+/// Does a job where standard error has room for 0 bytes, 1 byte and so on: the line is cut off, and the status stays.
+fn check_line<R: Abort + AllocGlobal>(
+    rt: &R,
+    job: &Job<'_>,
+    file: Option<&[u8]>,
+    status: u8,
+    line: &[u8],
+) {
+    for room in 0..line.len() + 2 {
+        let ended = done(rt.alloc(), job, file, 1000, 1000, room);
+        assert_eq!(rt; ended.status, status, "room for {room}");
+        assert_eq!(rt; ended.told.as_slice(), &line[..line.len().min(room)]);
+    }
+}
+
+/// The same of a program that is run and of one that is checked.
+fn check_program<R: Abort + AllocGlobal>(rt: &R, text: &[u8], status: u8, line: &[u8]) {
+    let check = Job::Check { file: "f.sno" };
+    check_line(rt, &RUN, Some(text), status, line);
+    check_line(rt, &check, Some(text), status, line);
+}
+
+#[test]
+fn a_refusal_has_its_line_or_a_beginning(rt: HostRuntime) {
+    check_program(&rt, b" X = 'A\n", 2, b"snobol4: syntax 1 at line 1\n");
+    check_program(&rt, b"L X = 1\nL X = 2\nEND\n", 2, b"snobol4: duplicate label at line 2\n");
+    check_program(&rt, b"", 2, b"snobol4: no END\n");
+    check_program(&rt, b" X = 1\n X = ((((((((((((((((((((((((((((((((((((((((((((1\n", 2, b"snobol4: too large at line 2\n");
+    check_line(&rt, &RUN, None, 3, b"snobol4: cannot read f.sno\n");
+    check_line(&rt, &Job::Check { file: "" }, None, 3, b"snobol4: cannot read \n");
+}
+
+#[test]
+fn an_error_has_its_line_or_a_beginning(rt: HostRuntime) {
+    let ways = Job::Ways {
+        anchored: false,
+        steps: 1000,
+        pattern: "LEN(-1)",
+        subject: "A",
+    };
+    let short = Job::Run {
+        file: "f.sno",
+        limits: Limits {
+            statements: 1,
+            match_steps: 0,
+        },
+    };
+    check_line(&rt, &ways, None, 1, b"snobol4: error 7\n");
+    check_line(&rt, &RUN, Some(b" X = 1\n X = 1 / 0\nEND\n"), 1, b"snobol4: error 3 in statement 2\n");
+    check_line(&rt, &short, Some(b" X = 1\n X = 1\nEND\n"), 4, b"snobol4: error 20 in statement 2\n");
+    check_line(&rt, &short, Some(b" 'A' 'A'\nEND\n"), 5, b"snobol4: error 21 in statement 1\n");
+}
+
+/// A refusal's own message is the line that a job tells of it.
+fn check_message<R: Abort + AllocGlobal>(rt: &R, text: &[u8]) -> Result<(), Fail> {
+    let alloc = rt.alloc();
+    let Err(error) = read_program(alloc, text) else {
+        return Err(Fail::from("accepted"));
+    };
+    let message = format!(in alloc; "{error}\n")?;
+    let ended = done(alloc, &RUN, Some(text), 1000, 1000, 1000);
+    assert_eq!(rt; ended.told.as_slice(), message.as_bytes());
+    Ok(())
+}
+
+#[test]
+fn a_line_is_the_message_of_the_refusal(rt: HostRuntime) -> Result<(), Fail> {
+    check_message(&rt, b" X = 'A\n")?;
+    check_message(&rt, b" X = 1 +\n")?;
+    check_message(&rt, b"L X = 1\nL X = 2\nEND\n")?;
+    check_message(&rt, b"")?;
+    check_message(&rt, b" X = ((((((((((((((((((((((((((((((((((((((((((((1\n")
 }

@@ -117,6 +117,93 @@ fn keeps_a_read_fault(rt: HostRuntime) {
     assert!(rt; Source::failed(&device));
 }
 
+/// A reader or writer that is interrupted so often before each call that it answers.
+#[derive(Drop)]
+struct Interrupted<T> {
+    inner: T,
+    times: usize,
+    asked: usize,
+}
+
+impl<T> Interrupted<T> {
+    fn new(inner: T, times: usize) -> Interrupted<T> {
+        Interrupted {
+            inner,
+            times,
+            asked: 0,
+        }
+    }
+
+    /// Whether this call is interrupted.
+    fn interrupts(&mut self) -> bool {
+        if self.asked < self.times {
+            self.asked += 1;
+            return true;
+        }
+        self.asked = 0;
+        false
+    }
+}
+
+impl<T: Read> Read for Interrupted<T> {
+    fn read(&mut self, buf: &mut [u8]) -> io::Result<usize> {
+        if self.interrupts() {
+            return Err(ErrorKind::Interrupted.into());
+        }
+        let len = buf.len().min(1);
+        self.inner.read(&mut buf[..len])
+    }
+}
+
+impl<T: Write> Write for Interrupted<T> {
+    fn write(&mut self, bytes: &[u8]) -> io::Result<usize> {
+        if self.interrupts() {
+            return Err(ErrorKind::Interrupted.into());
+        }
+        self.inner.write(&bytes[..bytes.len().min(1)])
+    }
+
+    fn flush(&mut self) -> io::Result<()> {
+        if self.interrupts() {
+            return Err(ErrorKind::Interrupted.into());
+        }
+        self.inner.flush()
+    }
+}
+
+/// Reads a text a byte at a time from a reader that is interrupted so often before each byte.
+fn check_interrupted_reads<R: Abort + AllocGlobal>(rt: &R, times: usize) -> Result<(), Fail> {
+    let mut device = Device::new(Interrupted::new(TEXT, times));
+    let mut buf = [0; 4];
+    for byte in TEXT {
+        let count = device.read(&mut buf)?;
+        assert!(rt; count == 1 && buf[0] == *byte, "{times} times");
+    }
+    let count = device.read(&mut buf)?;
+    assert!(rt; count == 0, "{times} times");
+    assert!(rt; !Source::failed(&device), "{times} times");
+    Ok(())
+}
+
+/// Writes a text to a writer that takes a byte at a time and is interrupted so often before each.
+fn check_interrupted_writes<R: Abort + AllocGlobal>(rt: &R, times: usize) -> Result<(), Fail> {
+    let mut device = Device::new(Interrupted::new(Vec::new(rt.alloc()), times));
+    put(&mut device, TEXT)?;
+    device.flush()?;
+    assert!(rt; !Sink::failed(&device), "{times} times");
+    assert!(rt; device.into_inner().inner.as_slice() == TEXT, "{times} times");
+    Ok(())
+}
+
+#[test]
+fn asks_again_where_it_is_interrupted(rt: HostRuntime) -> Result<(), Fail> {
+    for times in &[1, 2, 100] {
+        check_interrupted_reads(&rt, *times)?;
+        check_interrupted_writes(&rt, *times)?;
+    }
+    Ok(())
+}
+
 #[test]
 fn flushes_what_is_held_back(rt: HostRuntime) -> Result<(), Fail> {
     let inner = Vec::new(rt.alloc());

@@ -8,9 +8,9 @@ use Rattle.snobol.proofs.job.run_file.Goals as goal
 pub returns-in-Ok : goal.returns-in-Ok
 returns-in-Ok g c =
     let h = c.in-Ok.ensures.accepted in let ran = c.run-outcome.ensures.meaning in
-    (ran.0, ran.1, ran.2, ran.3, was_run c.run-outcome.result (record { statements = h.0; program = h.1; source = c.in-Ok.program; stands = h.2; source_text = c.in-Ok.ensures.source; meets = ran.4 }) (rw c.status_of_run.ensures at c.report.ensures))
+    (ran.0, ran.1, ran.2, ran.3, was_run c.run-outcome.result (record { statements = h.0; program = h.1; source = c.in-Ok.program; stands = h.2; source_text = c.in-Ok.ensures.source; meets = ran.4 }) c.ran.ensures)
 
 pub returns-in-Err : goal.returns-in-Err
 returns-in-Err g c =
-    let told = refusal_checked c.args.text.now c.in-Err.error c.refuse.result c.in-Err.ensures.refused c.refuse.ensures in
-    ([], [], consumes_nothing (g.R.Source.left c.args.reader.now), appends_nothing (g.W.Sink.taken c.args.writer.now), not_read refl refl told.0 told.1)
+    let told = refusal_checked c.args.text.now c.in-Err.error c.in-Err.ensures.refused in
+    ([], [], consumes_nothing (g.R.Source.left c.args.reader.now), appends_nothing (g.W.Sink.taken c.args.writer.now), rw c.refused.ensures (not_read refl refl told.0 told.1))
