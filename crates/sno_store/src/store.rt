@@ -303,7 +303,8 @@ impl Store {
         requires sound { is_sound (prototype_seen parts) ≡ true }
         ensures { result ≡ nat_lt 1_000_000 (length (with_names (names (prototype_seen parts.entry)) self.now.symbols)) }
     {
-        self.symbols.len() + MOST_NAMES > MOST_SYMBOLS && self.symbols.len_with(parts) > MOST_SYMBOLS
+        self.symbols.len() + MOST_NAMES > MOST_SYMBOLS
+            && self.symbols.len_with(parts) > MOST_SYMBOLS
     }
 
     /// A function is defined by the parts of its prototype. Where that is refused, some of its names may be new symbols.

@@ -65,11 +65,7 @@ impl Symbols {
         requires few { length (names (prototype_seen parts)) ≤ 100 }
         ensures { result ≡ length (with_names (names (prototype_seen parts.entry)) self.now) }
     {
-        let function = if self.has(parts.function) {
-            0
-        } else {
-            1
-        };
+        let function = if self.has(parts.function) { 0 } else { 1 };
         let formals = self.count_new(parts.function, b"", parts.formals);
         let locals = self.count_new(parts.function, parts.formals, parts.locals);
         self.len() + function + formals + locals
