@@ -164,6 +164,7 @@ fn set_primitive(machine: &mut Machine, prim: Prim, operand: Value) -> Result<Pa
 
 /// DEFINE(P,E).
 fn define(machine: &mut Machine, prototype: Value, entry: Value) -> Result<Value, Exit>
+    requires { IsValueOf machine.old.nodes prototype }
     ensures { Does shown IsValueOf (define (shown machine.old.nodes prototype) (shown machine.old.nodes entry)) machine.old machine.new result }
 {
     let prototype = text_of(machine.alloc(), prototype)?;

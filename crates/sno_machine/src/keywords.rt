@@ -7,7 +7,7 @@ ghost use Rattle.sno_machine.specs.Keywords.{keyword_numbers, is_anchored, is_se
 use std::marker::Model;
 
 /// The keywords that a program sets, and those that count.
-#[derive(Debug, Drop)]
+#[derive(Drop)]
 pub struct Keywords {
     /// `&ANCHOR`: not 0 where a match may begin at the subject's first byte alone.
     anchor: i64,

@@ -21,7 +21,7 @@ use std::alloc::Global;
 const MOST_BYTES: usize = 1_000_000;
 
 /// How two patterns become one.
-#[derive(Clone, Copy, Debug)]
+#[derive(Clone, Copy)]
 enum Join {
     /// One behind the other.
     Cat,
@@ -30,7 +30,7 @@ enum Join {
 }
 
 /// When a part that was matched is assigned.
-#[derive(Clone, Copy, Debug)]
+#[derive(Clone, Copy)]
 enum Assignment {
     /// When the whole match has succeeded.
     Conditional,

@@ -1,5 +1,5 @@
 //! Functions that a program defines, and their calls.
-ghost use Rattle.std.specs.Prelude.{◌≡◌, ℕ, List, [], ◌∷◌, ◌++◌, length, map, option_copied, Some};
+ghost use Rattle.std.specs.Prelude.{◌≡◌, ◌≤◌, ℕ, List, [], ◌∷◌, ◌++◌, length, map, option_copied, Some};
 ghost use Rattle.std.specs.List.{AllByRecursion};
 ghost use Rattle.sno_value.specs.declared.value.Value.{Value as Stored};
 ghost use Rattle.sno_store.specs.Definitions.{Definition as Defined, definition_at};
@@ -8,20 +8,18 @@ ghost use Rattle.sno_machine.specs.Calls.{defines, definition_named, Enters, Lea
 ghost use Rattle.sno_machine.specs.State.{Does, itself, any};
 
 use crate::convert::null;
-use crate::machine::{Exit, MOST_BYTES, Machine, Stop, UNDEFINED_FUNCTION, error};
+use crate::machine::{Exit, Machine, UNDEFINED_FUNCTION, error};
 use sno_store::Definition;
 use sno_value::{Name, SymId, Value};
 
 impl Machine {
     /// Defines a function by its prototype, whose names join the symbols; its calls begin at the label `entry`, or at the
     /// function's name where that is null. Another text than a sound prototype is error 12, and more than 1,000,000 symbols
-    /// are error 9. No string is longer than 1,000,000 bytes: a longer prototype is told as want of memory.
+    /// are error 9.
     pub fn define(&mut self, prototype: &[u8], entry: &[u8]) -> Result<(), Exit>
+        requires { length prototype.now ≤ 1_000_000 }
         ensures { Does itself any (defines prototype.now entry.now) self.old self.new result }
     {
-        if prototype.len() > MOST_BYTES {
-            return Err(Exit::Halt(Stop::NoMemory));
-        }
         self.store.define(prototype, entry)?;
         Ok(())
     }

@@ -10,6 +10,9 @@ cut-requires c = c.argument-operand-in-Some-Cut.ensures.known _ c.requires
 pub convert-requires : goal.convert-requires
 convert-requires c = c.argument-x.ensures.known _ c.requires
 
+pub define-requires : goal.define-requires
+define-requires c = c.argument-p-in-Some-Define.ensures.known _ c.requires
+
 pub array-requires-clause-prototype : goal.array-requires-clause-prototype
 array-requires-clause-prototype c = c.argument-p.ensures.known _ c.requires
 

@@ -17,6 +17,9 @@ returns-in_err-entry c =
     let machine = c.args.machine.now in
     rw (p.1, p.2, c.in_ok-prototype.ensures.text machine.nodes) (missing {X = Vec ℕ Global} (λ t. t.items) _ _ machine _ (absent _ _) (c.in_err-entry.ensures.text machine.nodes))
 
+pub define-requires : goal.define-requires
+define-requires c = rw c.deref.ensures.value (c.in_ok-prototype.ensures.short c.args.machine.now.nodes c.requires)
+
 pub returns-in_err-define : goal.returns-in_err-define
 returns-in_err-define c =
     let p = err_from_is_err_and c.from_residual-in_err-define.result c.from_residual-in_err-define.ensures.1 in
