@@ -81,6 +81,7 @@ fn expressions_as_values(rt: HostRuntime) -> Result<(), Fail> {
 const PROGRAMS_WITH_EXPRESSIONS: &str = r"
  &ANCHOR = 1\n P = '(' *P ')' | 'X'\n '((X))' P . W :F(END)\n OUTPUT = W\nEND\n => ((X))\n
 --match-steps 300 ;  P = *P 'A' | 'A'\n 'A' P\nEND\n => status 5: snobol4: error 21 in statement 2\n
+ P = *P 'A' | 'A'\n 'A' P\nEND\n => status 5: snobol4: error 21 in statement 2\n
 --match-steps 1000 ;  P = *Q\n Q = *P\n 'A' P\nEND\n => status 5: snobol4: error 21 in statement 3\n
  P = *Y\n Y = 'B'\n 'AB' P . Z\n Y = 'A'\n 'AB' P . W\n OUTPUT = Z W\nEND\n => BA\n
  'ABB' LEN(1) $ X *X . Y\n OUTPUT = X Y\nEND\n => BB\n
