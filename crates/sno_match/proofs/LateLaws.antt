@@ -11,7 +11,7 @@ use Rattle.sno_match.specs.Point.{Point}
 use Rattle.sno_match.specs.Reading.{left_of, goals_of, ends_from, after_pattern, after_goals, behind_mark, behind, resume, from_mark, reading}
 use Rattle.sno_match.specs.Session.{Session}
 use Rattle.sno_match.specs.Running.{later, later_starts, to_come}
-use Rattle.sno_match.specs.Search.{Goal, Match, CloseCond, CloseImm, CloseRepeat, Exhausted, Aborted, Limit, Waiting, Event, Assign, Cursor, Value, Answer, Outcome, Gives, Search, Finder, emit, or_else, further, tries, abort_if_exhausted, with_answer, if_moved, first_goal, search_within, search, all_events, Ended, CloseCut, CutOff, cut_if_exhausted, exhausted_if_cut}
+use Rattle.sno_match.specs.Search.{Goal, Match, CloseCond, CloseImm, CloseRepeat, Exhausted, Aborted, Limit, Waiting, Event, Assign, Cursor, Value, Answer, Outcome, Gives, Search, Finder, emit, or_else, further, tries, abort_if_exhausted, with_answer, if_moved, first_goal, search_within, search, all_events, Ended, CloseCut, CutOff, cut_off_if_exhausted, exhausted_if_cut_off}
 
 abbrev pub AllLeft : ℕ → List (Event × ℕ) → Type 0
 AllLeft n [] = Unit {0}
@@ -74,14 +74,14 @@ abort-within n (Gives es answers left Limit) w = w
 abort-within n (Gives es answers left Waiting) w = w
 abort-within n (Gives es answers left (CutOff m)) w = w
 
-cut-within : (n m : ℕ) (r : Outcome) → IsWithin n r → IsWithin n (cut_if_exhausted m r)
+cut-within : (n m : ℕ) (r : Outcome) → IsWithin n r → IsWithin n (cut_off_if_exhausted m r)
 cut-within n m (Gives es answers left Exhausted) w = w
 cut-within n m (Gives es answers left Aborted) w = w
 cut-within n m (Gives es answers left Limit) w = w
 cut-within n m (Gives es answers left Waiting) w = w
 cut-within n m (Gives es answers left (CutOff k)) w = w
 
-ended-within : (n m : ℕ) (r : Outcome) → IsWithin n r → IsWithin n (exhausted_if_cut m r)
+ended-within : (n m : ℕ) (r : Outcome) → IsWithin n r → IsWithin n (exhausted_if_cut_off m r)
 ended-within n m (Gives es answers left Exhausted) w = w
 ended-within n m (Gives es answers left Aborted) w = w
 ended-within n m (Gives es answers left Limit) w = w

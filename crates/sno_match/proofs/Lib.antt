@@ -1,5 +1,6 @@
 pub mod Walks
 mod Rows
+mod CutRows
 pub mod SearchLaws
 pub mod ReadingLaws
 pub mod PlanLaws

@@ -3,7 +3,7 @@ use Rattle.std.proofs.Common.{◌≡◌, ℕ, zero, suc, ◌+◌, ◌*◌, ◌�
 use Rattle.sno_pattern.specs.Pattern.{Pattern, Leaf, Fence, Cut, Abort, Succeed, Arbno, Alt, Cat, Cond, Imm, Place, Defer}
 use Rattle.sno_pattern.specs.Ends.{ends}
 use Rattle.sno_match.specs.declared.event.Pending.{Pending}
-use Rattle.sno_match.specs.Search.{Goal, Match, CloseCond, CloseImm, CloseRepeat, Exhausted, Aborted, Limit, Waiting, Event, Assign, Cursor, Value, Answer, Outcome, Gives, Search, Finder, emit, or_else, further, tries, abort_if_exhausted, with_answer, if_moved, first_goal, search_within, search, whole, starts, CloseCut, CutOff, cut_if_exhausted, exhausted_if_cut}
+use Rattle.sno_match.specs.Search.{Goal, Match, CloseCond, CloseImm, CloseRepeat, Exhausted, Aborted, Limit, Waiting, Event, Assign, Cursor, Value, Answer, Outcome, Gives, Search, Finder, emit, or_else, further, tries, abort_if_exhausted, with_answer, if_moved, first_goal, search_within, search, whole, starts, CloseCut, CutOff, cut_off_if_exhausted, exhausted_if_cut_off}
 
 -- the events told, and two for each step left
 abbrev pub weight : Outcome → ℕ
@@ -50,14 +50,14 @@ weight-abort (Gives es answers left Limit) = refl
 weight-abort (Gives es answers left Waiting) = refl
 weight-abort (Gives es answers left (CutOff m)) = refl
 
-weight-cut : (m : ℕ) (r : Outcome) → weight (cut_if_exhausted m r) ≡ weight r
+weight-cut : (m : ℕ) (r : Outcome) → weight (cut_off_if_exhausted m r) ≡ weight r
 weight-cut m (Gives es answers left Exhausted) = refl
 weight-cut m (Gives es answers left Aborted) = refl
 weight-cut m (Gives es answers left Limit) = refl
 weight-cut m (Gives es answers left Waiting) = refl
 weight-cut m (Gives es answers left (CutOff k)) = refl
 
-weight-ended : (m : ℕ) (r : Outcome) → weight (exhausted_if_cut m r) ≡ weight r
+weight-ended : (m : ℕ) (r : Outcome) → weight (exhausted_if_cut_off m r) ≡ weight r
 weight-ended m (Gives es answers left Exhausted) = refl
 weight-ended m (Gives es answers left Aborted) = refl
 weight-ended m (Gives es answers left Limit) = refl

@@ -7,7 +7,7 @@ use Rattle.sno_pattern.specs.Table.{tree}
 use Rattle.sno_pattern.proofs.EndsRange.{Within}
 use Rattle.sno_match.specs.declared.event.Event.{Event as Told}
 use Rattle.sno_match.specs.declared.event.Pending.{Pending}
-use Rattle.sno_match.specs.Search.{Goal, Match, CloseCond, CloseImm, CloseRepeat, assigns, Verdict, Exhausted, Aborted, Limit, Waiting, Event, Assign, Cursor, Value, Answer, Outcome, Gives, Search, Finder, emit, or_else, further, tries, abort_if_exhausted, with_answer, if_moved, first_goal, search_within, search, starts, whole, last_event, all_events, trace, CloseCut, CutOff, cut_if_exhausted, exhausted_if_cut}
+use Rattle.sno_match.specs.Search.{Goal, Match, CloseCond, CloseImm, CloseRepeat, assigns, Verdict, Exhausted, Aborted, Limit, Waiting, Event, Assign, Cursor, Value, Answer, Outcome, Gives, Search, Finder, emit, or_else, further, tries, abort_if_exhausted, with_answer, if_moved, first_goal, search_within, search, starts, whole, last_event, all_events, trace, CloseCut, CutOff, cut_off_if_exhausted, exhausted_if_cut_off}
 use Rattle.sno_match.specs.Events.{in_trace}
 use Rattle.sno_match.specs.Within.{IsPart, IsWithin}
 use Rattle.sno_match.specs.Session.{Session, answers_of, IsTold}
@@ -50,14 +50,14 @@ tells-abort n (Gives events answers left Limit) h = h
 tells-abort n (Gives events answers left Waiting) h = h
 tells-abort n (Gives events answers left (CutOff m)) h = h
 
-tells-cut : (n m : ℕ) (outcome : Outcome) → Tells n outcome → Tells n (cut_if_exhausted m outcome)
+tells-cut : (n m : ℕ) (outcome : Outcome) → Tells n outcome → Tells n (cut_off_if_exhausted m outcome)
 tells-cut n m (Gives events answers left Exhausted) h = h
 tells-cut n m (Gives events answers left Aborted) h = h
 tells-cut n m (Gives events answers left Limit) h = h
 tells-cut n m (Gives events answers left Waiting) h = h
 tells-cut n m (Gives events answers left (CutOff k)) h = h
 
-tells-ended : (n m : ℕ) (outcome : Outcome) → Tells n outcome → Tells n (exhausted_if_cut m outcome)
+tells-ended : (n m : ℕ) (outcome : Outcome) → Tells n outcome → Tells n (exhausted_if_cut_off m outcome)
 tells-ended n m (Gives events answers left Exhausted) h = h
 tells-ended n m (Gives events answers left Aborted) h = h
 tells-ended n m (Gives events answers left Limit) h = h

@@ -82,7 +82,13 @@ fn copies_strings(rt: HostRuntime) -> Result<(), Fail> {
 
 const COUNTS: [Prim; 5] = [Prim::Len, Prim::Pos, Prim::Rpos, Prim::Tab, Prim::Rtab];
 
-const SETS: [Prim; 4] = [Prim::Any, Prim::NotAny, Prim::Span, Prim::Break];
+const SETS: [Prim; 5] = [
+    Prim::Any,
+    Prim::NotAny,
+    Prim::Span,
+    Prim::Break,
+    Prim::BreakX,
+];
 
 #[test]
 fn counts_and_sets(rt: HostRuntime) {
