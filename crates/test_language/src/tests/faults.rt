@@ -253,11 +253,27 @@ fn check_program<R: Abort + AllocGlobal>(rt: &R, text: &[u8], status: u8, line: 
 #[test]
 fn a_refusal_has_its_line_or_a_beginning(rt: HostRuntime) {
     check_program(&rt, b" X = 'A\n", 2, b"snobol4: syntax 1 at line 1\n");
-    check_program(&rt, b"L X = 1\nL X = 2\nEND\n", 2, b"snobol4: duplicate label at line 2\n");
+    check_program(
+        &rt,
+        b"L X = 1\nL X = 2\nEND\n",
+        2,
+        b"snobol4: duplicate label at line 2\n",
+    );
     check_program(&rt, b"", 2, b"snobol4: no END\n");
-    check_program(&rt, b" X = 1\n X = ((((((((((((((((((((((((((((((((((((((((((((1\n", 2, b"snobol4: too large at line 2\n");
+    check_program(
+        &rt,
+        b" X = 1\n X = ((((((((((((((((((((((((((((((((((((((((((((1\n",
+        2,
+        b"snobol4: too large at line 2\n",
+    );
     check_line(&rt, &RUN, None, 3, b"snobol4: cannot read f.sno\n");
-    check_line(&rt, &Job::Check { file: "" }, None, 3, b"snobol4: cannot read \n");
+    check_line(
+        &rt,
+        &Job::Check { file: "" },
+        None,
+        3,
+        b"snobol4: cannot read \n",
+    );
 }
 
 #[test]
@@ -276,9 +292,27 @@ fn an_error_has_its_line_or_a_beginning(rt: HostRuntime) {
         },
     };
     check_line(&rt, &ways, None, 1, b"snobol4: error 7\n");
-    check_line(&rt, &RUN, Some(b" X = 1\n X = 1 / 0\nEND\n"), 1, b"snobol4: error 3 in statement 2\n");
-    check_line(&rt, &short, Some(b" X = 1\n X = 1\nEND\n"), 4, b"snobol4: error 20 in statement 2\n");
-    check_line(&rt, &short, Some(b" 'A' 'A'\nEND\n"), 5, b"snobol4: error 21 in statement 1\n");
+    check_line(
+        &rt,
+        &RUN,
+        Some(b" X = 1\n X = 1 / 0\nEND\n"),
+        1,
+        b"snobol4: error 3 in statement 2\n",
+    );
+    check_line(
+        &rt,
+        &short,
+        Some(b" X = 1\n X = 1\nEND\n"),
+        4,
+        b"snobol4: error 20 in statement 2\n",
+    );
+    check_line(
+        &rt,
+        &short,
+        Some(b" 'A' 'A'\nEND\n"),
+        5,
+        b"snobol4: error 21 in statement 1\n",
+    );
 }
 
 /// A refusal's own message is the line that a job tells of it.

@@ -191,7 +191,10 @@ fn check_interrupted_writes<R: Abort + AllocGlobal>(rt: &R, times: usize) -> Res
     put(&mut device, TEXT)?;
     device.flush()?;
     assert!(rt; !Sink::failed(&device), "{times} times");
-    assert!(rt; device.into_inner().inner.as_slice() == TEXT, "{times} times");
+    assert!(rt;
+        device.into_inner().inner.as_slice() == TEXT,
+        "{times} times"
+    );
     Ok(())
 }
 

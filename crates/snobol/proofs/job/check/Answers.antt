@@ -1,4 +1,3 @@
-use Rattle.std.proofs.Common.{refl}
 use Rattle.snobol.specs.Jobs.{accepted_is}
 use Rattle.snobol.proofs.JobLaws.{refusal_checked}
 use Rattle.snobol.proofs.job.check.Goals as goal
