@@ -1,4 +1,6 @@
 //! Programs on devices that fail, and on readers that give a byte at a time.
+ghost use Rattle.snobol.specs.Jobs.{IsInRange};
+
 use super::writers::Shut;
 use sno_text::read_program;
 use snobol::{Device, Job, Limits, Outcome, Sink, perform, run};
@@ -155,7 +157,9 @@ fn done(
     calls: usize,
     room: usize,
     line_room: usize,
-) -> Done {
+) -> Done
+    requires { IsInRange job.now }
+{
     let mut input = Device::new(Drip {
         bytes: b"ab\n\ncd",
         at: 0,
@@ -204,7 +208,9 @@ fn check_write_faults<R: Abort + AllocGlobal>(
     job: &Job<'_>,
     file: Option<&[u8]>,
     lines: &[u8],
-) {
+)
+    requires { IsInRange job.now }
+{
     for room in 0..lines.len() {
         let fault = done(rt.alloc(), job, file, 1000, room, 1000);
         assert_eq!(rt; fault.status, 7, "room for {room}");
@@ -235,7 +241,9 @@ fn check_line<R: Abort + AllocGlobal>(
     file: Option<&[u8]>,
     status: u8,
     line: &[u8],
-) {
+)
+    requires { IsInRange job.now }
+{
     for room in 0..line.len() + 2 {
         let ended = done(rt.alloc(), job, file, 1000, 1000, room);
         assert_eq!(rt; ended.status, status, "room for {room}");
