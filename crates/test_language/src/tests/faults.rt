@@ -150,7 +150,7 @@ struct Done {
 
 /// Does a job on a reader that fails at the call behind so many, and on writers with so much room for what is written and
 /// for what is told.
-fn done(
+fn performed(
     alloc: Global,
     job: &Job<'_>,
     file: Option<&[u8]>,
@@ -192,11 +192,11 @@ fn done(
 #[test]
 fn a_read_fault_has_its_status_and_its_line(rt: HostRuntime) {
     for calls in 0..7 {
-        let fault = done(rt.alloc(), &RUN, Some(NUMBERS), calls, 1000, 1000);
+        let fault = performed(rt.alloc(), &RUN, Some(NUMBERS), calls, 1000, 1000);
         assert_eq!(rt; fault.status, 7, "{calls} calls");
         assert_eq!(rt; fault.told.as_slice(), b"snobol4: read fault\n".as_slice());
     }
-    let well = done(rt.alloc(), &RUN, Some(NUMBERS), 7, 1000, 1000);
+    let well = performed(rt.alloc(), &RUN, Some(NUMBERS), 7, 1000, 1000);
     assert_eq!(rt; well.status, 0);
     assert_eq!(rt; well.written.as_slice(), b"1 ab\n2 \n3 cd\n".as_slice());
     assert!(rt; well.told.is_empty());
@@ -212,12 +212,12 @@ fn check_write_faults<R: Abort + AllocGlobal>(
     requires { IsInRange job.now }
 {
     for room in 0..lines.len() {
-        let fault = done(rt.alloc(), job, file, 1000, room, 1000);
+        let fault = performed(rt.alloc(), job, file, 1000, room, 1000);
         assert_eq!(rt; fault.status, 7, "room for {room}");
         assert_eq!(rt; fault.written.as_slice(), &lines[..room]);
         assert_eq!(rt; fault.told.as_slice(), b"snobol4: write fault\n".as_slice());
     }
-    let well = done(rt.alloc(), job, file, 1000, lines.len(), 1000);
+    let well = performed(rt.alloc(), job, file, 1000, lines.len(), 1000);
     assert_eq!(rt; well.status, 0);
     assert!(rt; well.told.is_empty());
 }
@@ -245,7 +245,7 @@ fn check_line<R: Abort + AllocGlobal>(
     requires { IsInRange job.now }
 {
     for room in 0..line.len() + 2 {
-        let ended = done(rt.alloc(), job, file, 1000, 1000, room);
+        let ended = performed(rt.alloc(), job, file, 1000, 1000, room);
         assert_eq!(rt; ended.status, status, "room for {room}");
         assert_eq!(rt; ended.told.as_slice(), &line[..line.len().min(room)]);
     }
@@ -330,7 +330,7 @@ fn check_message<R: Abort + AllocGlobal>(rt: &R, text: &[u8]) -> Result<(), Fail
         return Err(Fail::from("accepted"));
     };
     let message = format!(in alloc; "{error}\n")?;
-    let ended = done(alloc, &RUN, Some(text), 1000, 1000, 1000);
+    let ended = performed(alloc, &RUN, Some(text), 1000, 1000, 1000);
     assert_eq!(rt; ended.told.as_slice(), message.as_bytes());
     Ok(())
 }
