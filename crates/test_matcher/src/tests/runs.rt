@@ -99,7 +99,10 @@ fn check_places(rt: &impl Abort, set: &[u8], subject: &[u8]) {
         if at <= subject.len() {
             let bytes = &subject[at..];
             assert_eq!(rt; first_in(bytes, &eight), first_by_look(bytes, &eight, true));
-            assert_eq!(rt; first_not_in(bytes, &eight), first_by_look(bytes, &eight, false));
+            assert_eq!(rt;
+                first_not_in(bytes, &eight),
+                first_by_look(bytes, &eight, false)
+            );
         }
     }
 }
