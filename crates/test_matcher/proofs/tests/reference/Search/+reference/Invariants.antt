@@ -16,6 +16,9 @@ decreases-search_again l = 8 * l.depth + 2
 abbrev pub decreases-search_ends : goal.decreases-search_ends
 decreases-search_ends l = 8 * l.depth + 2
 
+abbrev pub decreases-search_first : goal.decreases-search_first
+decreases-search_first l = 8 * l.depth + 2
+
 abbrev pub decreases-enter_form : goal.decreases-enter_form
 decreases-enter_form l = 8 * l.depth + 3
 

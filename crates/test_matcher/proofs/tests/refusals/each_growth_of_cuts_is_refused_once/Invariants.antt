@@ -1,0 +1,8 @@
+use Rattle.std.proofs.Common.{◌<◌, length}
+use Rattle.test_matcher.proofs.tests.refusals.each_growth_of_cuts_is_refused_once.Given as goal
+
+abbrev pub invariant-loop-other : goal.invariant-loop-other
+invariant-loop-other g l = (l.outer.0 < length l.table) × (l.rest.0 < length l.table)
+
+abbrev pub invariant-growths : goal.invariant-growths
+invariant-growths g l = (l.outer.0 < length l.table) × (l.rest.0 < length l.table)
