@@ -91,8 +91,8 @@ fn runs_are_pushed_out(rt: HostRuntime) -> Result<(), Fail> {
     compare_all(&rt, rt.alloc(), PUSHED_OUT)
 }
 
-/// How many bytes a long run has. If each start looked through it again, five thousand million bytes would be looked at.
-const LONG: usize = 100_000;
+/// How many bytes a long run has. If each start looked through it again, a thousand million bytes would be looked at.
+const LONG: usize = 50_000;
 
 /// A pattern has no way in the subject, which is found out by so many steps.
 fn check_no_way(
@@ -130,10 +130,10 @@ fn check_long_run(
 /// the primitive fails two are. Each start but the first is taken up by a step.
 #[test]
 fn long_runs_are_looked_through_once(rt: HostRuntime) -> Result<(), Fail> {
-    check_long_run(&rt, rt.alloc(), "SPAN:A TEXT:B &:0,1", 400_005)?;
-    check_long_run(&rt, rt.alloc(), "BREAK:, TEXT:B &:0,1", 400_006)?;
-    check_long_run(&rt, rt.alloc(), "BREAKX:, TEXT:B &:0,1", 400_006)?;
-    check_long_run(&rt, rt.alloc(), "LEN:1 BREAK:; &:0,1", 400_006)
+    check_long_run(&rt, rt.alloc(), "SPAN:A TEXT:B &:0,1", 200_005)?;
+    check_long_run(&rt, rt.alloc(), "BREAK:, TEXT:B &:0,1", 200_006)?;
+    check_long_run(&rt, rt.alloc(), "BREAKX:, TEXT:B &:0,1", 200_006)?;
+    check_long_run(&rt, rt.alloc(), "LEN:1 BREAK:; &:0,1", 200_006)
 }
 
 #[test]
