@@ -1,5 +1,5 @@
 -- The patterns with which variables of a new store begin.
-use Rattle.std.specs.Prelude.{List, [], ◌∷◌}
+use Rattle.std.specs.Prelude.{◌≡◌, List, [], ◌∷◌, length, take}
 use Rattle.sno_pattern.specs.Pattern.{Arb, Bal, Rem, Fail}
 use Rattle.sno_pattern.specs.Table.{Node, LeafNode, FenceNode, AbortNode, SucceedNode}
 
@@ -10,3 +10,7 @@ first_patterns = LeafNode Arb ∷ LeafNode Bal ∷ LeafNode Rem ∷ LeafNode Fai
 -- the first four of them, which search for an end
 abbrev pub search_patterns : List Node
 search_patterns = LeafNode Arb ∷ LeafNode Bal ∷ LeafNode Rem ∷ LeafNode Fail ∷ []
+
+-- a table that holds the first of these patterns, all or some or none, and nothing else
+abbrev pub IsBeginning : List Node → Type 0
+IsBeginning nodes = nodes ≡ take (length nodes) first_patterns

@@ -6,7 +6,7 @@ ghost use Rattle.sno_store.specs.Arrays.{new_array, element_name, prototype_of};
 ghost use Rattle.sno_store.specs.Calls.{function_value, restored};
 ghost use Rattle.sno_store.specs.Contents.{Contents, new_contents, is_symbol, IsJoined, value_of, with_value};
 ghost use Rattle.sno_store.specs.Definitions.{Definition as Defined, definition_at, is_name, is_sound, listed, names, with_names};
-ghost use Rattle.sno_store.specs.First.{first_patterns, search_patterns};
+ghost use Rattle.sno_store.specs.First.{first_patterns, search_patterns, IsBeginning};
 ghost use Rattle.sno_store.specs.Outcomes.{IsAnswered, IsDefined, IsDone, IsEntered, itself};
 ghost use Rattle.sno_store.specs.Seen.{prototype_seen};
 ghost use Rattle.sno_store.specs.Stored.{stored_notions};
@@ -62,12 +62,13 @@ impl Model for Store {
 
 impl Store {
     /// A new store. Its first variables are ARB, BAL, REM, FAIL, FENCE, ABORT and SUCCEED, whose patterns the empty table
-    /// `patterns` is given, and INPUT and OUTPUT, which begin with null. Where memory is refused, the table may hold some
-    /// of the patterns.
+    /// `patterns` is given, and INPUT and OUTPUT, which begin with null. Where memory is refused, the table holds the first
+    /// of the patterns, or none.
     pub fn new(alloc: Global, patterns: &mut Patterns) -> Result<Store, AllocError>
         requires { patterns.old ≡ [] }
         ensures ok { IfOk result (λ store. store ≡ new_contents) }
         ensures table { IfOk result (λ _. patterns.new ≡ first_patterns) }
+        ensures refused { OnErr result (IsBeginning patterns.new) }
     {
         let mut store = Store {
             alloc,
@@ -351,6 +352,7 @@ impl Store {
         requires table { patterns.old ≡ [] }
         ensures ok { OnOk result (self.new ≡ with_searches) }
         ensures table { OnOk result (patterns.new ≡ search_patterns) }
+        ensures refused { OnErr result (IsBeginning patterns.new) }
     {
         self.begin(b"ARB", patterns.arb())?;
         self.begin(b"BAL", patterns.bal())?;
@@ -365,6 +367,7 @@ impl Store {
         requires table { patterns.old ≡ search_patterns }
         ensures ok { OnOk result (self.new ≡ with_controls) }
         ensures table { OnOk result (patterns.new ≡ first_patterns) }
+        ensures refused { OnErr result (IsBeginning patterns.new) }
     {
         self.begin(b"FENCE", patterns.fence())?;
         self.begin(b"ABORT", patterns.abort())?;
