@@ -1,5 +1,5 @@
 -- Each move keeps what is known of the cuts of a stack.
-use Rattle.std.proofs.Common.{◌≡◌, ℕ, suc, ◌-◌, ◌≤◌, List, [], ◌∷◌, ◌++◌, Option, Some, None, length, drop, refl, sym, ◌∙◌, ap, subst, arith}
+use Rattle.std.proofs.Common.{◌≡◌, ℕ, suc, ◌-◌, ◌≤◌, List, [], ◌∷◌, ◌++◌, Option, length, drop, refl, sym, ◌∙◌, ap, subst, arith}
 use Rattle.sno_value.specs.declared.ids.PatId.{PatId}
 use Rattle.sno_pattern.specs.Pattern.{Cut}
 use Rattle.sno_pattern.specs.Table.{Node, tree}
@@ -8,13 +8,13 @@ use Rattle.sno_match.specs.declared.event.Pending.{Pending}
 use Rattle.sno_match.specs.declared.goal.Goal.{Goal as Numbered}
 use Rattle.sno_match.specs.declared.goal.Goal.TheVariants as N
 use Rattle.sno_match.specs.declared.goal.Mark.{Mark}
-use Rattle.sno_match.specs.declared.goal.Mark.TheVariants.{Enter, Next}
+use Rattle.sno_match.specs.declared.goal.Mark.TheVariants.{Next}
 use Rattle.sno_match.specs.declared.plan.Plan.{Plan}
 use Rattle.sno_match.specs.declared.plan.Plan.TheVariants as P
-use Rattle.sno_match.specs.Point.{Point, with_front, replaced, branched, closed, cut_back, below}
+use Rattle.sno_match.specs.Point.{Point, with_front, branched, cut_back, below}
 use Rattle.sno_match.specs.Plan.{IsPlan, IsCut, KeepsScopes, goals_in, point_at}
 use Rattle.sno_match.specs.Move.{CarriesOut}
-use Rattle.sno_match.specs.Scopes.{Scope, closes, opened_at, opened, opens, AllScoped, RiseFrom, HasCuts}
+use Rattle.sno_match.specs.Scopes.{Scope, closes, opened_at, opened, opens, RiseFrom, HasCuts}
 use Rattle.sno_match.proofs.CutLaws.{cut-keeps, cut-scoped, enter-scoped}
 
 pub closes-append : (xs ys : List Numbered) → closes (xs ++ ys) ≡ closes xs ++ closes ys

@@ -1,5 +1,5 @@
 -- The oldest points of a stack, which stay where a cut is closed.
-use Rattle.std.proofs.Common.{◌≡◌, ℕ, suc, ◌+◌, ◌-◌, ◌≤◌, ◌<◌, List, [], ◌∷◌, ◌++◌, Option, Some, length, map, take, drop, slice_get, get_or, reverse, refl, ◌∙◌, sym, ap, subst, arith, append_assoc, length-drop}
+use Rattle.std.proofs.Common.{◌≡◌, ℕ, suc, ◌-◌, ◌≤◌, ◌<◌, List, [], ◌∷◌, ◌++◌, Option, Some, length, map, take, drop, slice_get, get_or, reverse, refl, ◌∙◌, sym, ap, subst, arith, append_assoc, length-drop}
 use Rattle.std.proofs.Math.Seq.{drop-append_seam}
 use Rattle.std.proofs.lemmas.List.{reverse-append, length-reverse, take-append-drop, drop-map}
 use Rattle.sno_match.specs.declared.event.Pending.{Pending}
@@ -10,7 +10,7 @@ use Rattle.sno_match.specs.declared.shared.Held.{Held}
 use Rattle.sno_match.specs.Point.{Point, rest_of, cut_back}
 use Rattle.sno_match.specs.declared.copied.Held.{Held as Copied}
 use Rattle.sno_match.specs.Copied.{point_of as copied_of, points_of as copied_points}
-use Rattle.sno_match.specs.Shared.{goals_of, Fits, Holds, point_of, points_of, held_of}
+use Rattle.sno_match.specs.Shared.{goals_of, Fits, Holds, point_of, points_of}
 use Rattle.std.proofs.lemmas.Option.{slice_get-get_or}
 use Rattle.sno_match.proofs.ReadingLaws.{drop-at}
 use Rattle.sno_match.proofs.SharedLaws.{fits, fits_wider}

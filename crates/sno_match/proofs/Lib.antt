@@ -31,3 +31,4 @@ pub mod WithinLaws
 pub mod CutPoints
 pub mod CutLaws
 pub mod CutMoves
+pub mod LookLaws

@@ -16,7 +16,7 @@ use Rattle.sno_match.specs.Search.{Exhausted, Limit, Way, Answer, Gives, emit}
 use Rattle.sno_match.specs.Point.{Point, with_front, replaced, branched, closed, cut_back, below}
 use Rattle.sno_match.specs.Reading.{reading, AllMarked, AllKnown, AllFit, Fits, MarkFits, HasNext, IsStack}
 use Rattle.sno_match.specs.Plan.{IsPlan, IsDue, IsCut, KeepsScopes, goals_in, point_at}
-use Rattle.sno_match.specs.Scopes.{closes, opens, RiseFrom, HasCuts}
+use Rattle.sno_match.specs.Scopes.{opens, RiseFrom, HasCuts}
 use Rattle.sno_match.specs.State.{after_move, HasAsked}
 use Rattle.sno_match.specs.Move.{Makes, Costs, CarriesOut, entries, price, way_after, standing}
 use Rattle.sno_match.specs.Top.{Finishes}

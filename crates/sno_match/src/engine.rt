@@ -12,7 +12,7 @@ use crate::moves::{make_move, put_answer};
 use crate::points::Points;
 use crate::snapshot::Snapshot;
 use crate::starts::pass_failing_starts;
-use sno_pattern::Patterns;
+use sno_pattern::{Looks, Patterns};
 use sno_value::PatId;
 use std::alloc::{AllocError, Global};
 use std::marker::Model;
@@ -36,6 +36,8 @@ pub struct Engine<P: Points> {
     lent: Snapshot<Patterns>,
     pattern: PatId,
     subject: Vec<u8>,
+    /// What was found out of the subject.
+    looks: Looks,
     anchored: bool,
     limit: u32,
     /// Where the search under way began.
@@ -51,12 +53,13 @@ pub struct Engine<P: Points> {
 impl<P: Points> Model for Engine<P> {
     ghost use Rattle.sno_match.specs.Session.{Session};
     ghost use Rattle.sno_match.specs.Running.{IsMatch, seen};
+    ghost use Rattle.sno_pattern.specs.Looks.{AreTrue};
 
     ghost Value = { Session };
 
     ghost view = { λ m. seen m.lent.value m.pattern m.subject.items m.anchored m.limit m.answers.items m.told m.steps m.state m.way.items (P.points m.points) (P.records m.points) };
 
-    ghost invariant = { λ m. IsMatch (seen m.lent.value m.pattern m.subject.items m.anchored m.limit m.answers.items m.told m.steps m.state m.way.items (P.points m.points) (P.records m.points)) m.start (P.points m.points) m.state };
+    ghost invariant = { λ m. IsMatch (seen m.lent.value m.pattern m.subject.items m.anchored m.limit m.answers.items m.told m.steps m.state m.way.items (P.points m.points) (P.records m.points)) m.start (P.points m.points) m.state × AreTrue m.lent.value m.subject.items m.looks };
 }
 
 impl<P: Points> Engine<P> {
@@ -94,11 +97,13 @@ impl<P: Points> Engine<P> {
     {
         let mut points = P::empty(alloc);
         points.begin(Goal::Match(pattern), 0)?;
+        let looks = Looks::new();
         Ok(Engine {
             points,
             lent: Snapshot::of(patterns),
             pattern,
             subject,
+            looks,
             anchored,
             limit,
             start: 0,
@@ -154,6 +159,7 @@ impl<P: Points> Engine<P> {
             &mut self.points,
             &mut self.steps,
             &mut self.way,
+            &mut self.looks,
             patterns,
             &self.subject,
             self.start,
@@ -179,6 +185,7 @@ impl<P: Points> Engine<P> {
     {
         let passed = pass_failing_starts(
             patterns,
+            &mut self.looks,
             self.pattern,
             &self.subject,
             self.anchored,

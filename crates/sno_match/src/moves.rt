@@ -1,5 +1,6 @@
 //! One move of the search: what is due at the newest resumption point is done.
 ghost use Rattle.std.specs.Prelude.{◌≡◌, ◌≤◌, ◌+◌, ◌-◌, ◌*◌, [], ◌∷◌, length, IfOk, OnOk, OnErr};
+ghost use Rattle.sno_pattern.specs.Looks.{AreTrue};
 ghost use Rattle.sno_match.specs.Point.{HasFirst, replaced, branched, below};
 ghost use Rattle.sno_match.specs.Reading.{IsStack, HasPoint};
 ghost use Rattle.sno_match.specs.Plan.{goals_in};
@@ -11,7 +12,7 @@ use crate::event::{Event, Pending};
 use crate::goal::{Goal, Top};
 use crate::plan::{Front, Plan, plan_of};
 use crate::points::Points;
-use sno_pattern::Patterns;
+use sno_pattern::{Looks, Patterns};
 use sno_value::PatId;
 use std::alloc::AllocError;
 
@@ -21,6 +22,7 @@ pub(crate) fn make_move<P: Points>(
     points: &mut P,
     steps: &mut u32,
     way: &mut Vec<Pending>,
+    looks: &mut Looks,
     patterns: &Patterns,
     subject: &[u8],
     start: usize,
@@ -30,6 +32,8 @@ pub(crate) fn make_move<P: Points>(
     requires cuts { HasCuts patterns.now (limit - steps.old) (P.points points.old) }
     requires some { HasPoint (P.points points.old) }
     requires steps { steps.old ≤ limit }
+    requires looks { AreTrue patterns.now subject.now looks.old }
+    ensures looks { AreTrue patterns.now subject.now looks.new }
     ensures stack { IsStack patterns.now subject.now (P.points points.new) }
     ensures cuts { HasCuts patterns.now (limit - steps.new) (P.points points.new) }
     ensures ok { IfOk result (λ told. Makes patterns.now subject.now start limit (P.points points.old) steps.old way.old.items told (P.points points.new) steps.new way.new.items) }
@@ -46,7 +50,7 @@ pub(crate) fn make_move<P: Points>(
             Ok(Some(Event::Way { start, end }))
         }
         Top::Open { goal, cursor, mark } => {
-            let plan = plan_of(patterns, subject, goal, cursor, mark);
+            let plan = plan_of(patterns, looks, subject, goal, cursor, mark);
             match plan {
                 Plan::BackIntoFence => return Ok(Some(Event::Aborted)),
                 Plan::BackIntoCut => {

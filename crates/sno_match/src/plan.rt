@@ -3,12 +3,13 @@ ghost use Rattle.std.specs.Prelude.{ℕ, ◌≡◌, ◌+◌, ◌<◌, ◌≤◌,
 ghost use Rattle.sno_pattern.specs.Table.{tree};
 ghost use Rattle.sno_pattern.specs.Shape.{IsPrimitive, end_of};
 ghost use Rattle.sno_pattern.specs.NextEnd.{ends_of};
+ghost use Rattle.sno_pattern.specs.Looks.{AreTrue};
 ghost use Rattle.sno_match.specs.Reading.{IsKnown, MarkFits, HasNext};
 ghost use Rattle.sno_match.specs.Plan.{IsPlan, KeepsScopes, end_plan};
 
 use crate::event::Pending;
 use crate::goal::{Goal, Mark};
-use sno_pattern::{Patterns, Shape};
+use sno_pattern::{Looks, Patterns, Shape};
 use sno_value::{ExprId, Name, PatId, Prim};
 
 /// At most two goals.
@@ -52,6 +53,7 @@ pub(crate) enum Plan {
 /// What is to be done at a point with this first goal, cursor and mark.
 pub(crate) fn plan_of(
     patterns: &Patterns,
+    looks: &mut Looks,
     subject: &[u8],
     goal: Goal,
     cursor: usize,
@@ -60,13 +62,15 @@ pub(crate) fn plan_of(
     requires known { IsKnown patterns.now goal }
     requires inside { cursor ≤ length subject.now }
     requires next { MarkFits patterns.now subject.now mark (goal ∷ []) cursor }
+    requires looks { AreTrue patterns.now subject.now looks.old }
+    ensures looks { AreTrue patterns.now subject.now looks.new }
     ensures plan { IsPlan patterns.now subject.now goal cursor mark result }
     ensures scopes { KeepsScopes patterns.now goal result }
 {
     match mark {
-        Mark::Enter => enter_goal(patterns, subject, goal, cursor),
+        Mark::Enter => enter_goal(patterns, looks, subject, goal, cursor),
         Mark::Next(at) => match goal {
-            Goal::Match(id) => next_of_pattern(patterns, subject, id, cursor, at),
+            Goal::Match(id) => next_of_pattern(patterns, looks, subject, id, cursor, at),
             Goal::CloseCond { .. } => unreachable!(),
             Goal::CloseImm { .. } => unreachable!(),
             Goal::CloseRepeat { .. } => unreachable!(),
@@ -75,14 +79,22 @@ pub(crate) fn plan_of(
     }
 }
 
-fn enter_goal(patterns: &Patterns, subject: &[u8], goal: Goal, cursor: usize) -> Plan
+fn enter_goal(
+    patterns: &Patterns,
+    looks: &mut Looks,
+    subject: &[u8],
+    goal: Goal,
+    cursor: usize,
+) -> Plan
     requires known { IsKnown patterns.now goal }
     requires inside { cursor ≤ length subject.now }
+    requires looks { AreTrue patterns.now subject.now looks.old }
+    ensures looks { AreTrue patterns.now subject.now looks.new }
     ensures plan { IsPlan patterns.now subject.now goal cursor Mark.Enter result }
     ensures scopes { KeepsScopes patterns.now goal result }
 {
     match goal {
-        Goal::Match(id) => enter_pattern(patterns, subject, id, cursor),
+        Goal::Match(id) => enter_pattern(patterns, looks, subject, id, cursor),
         Goal::CloseCond { target, start } => Plan::Close(Pending {
             target,
             start,
@@ -104,14 +116,22 @@ fn enter_goal(patterns: &Patterns, subject: &[u8], goal: Goal, cursor: usize) ->
     }
 }
 
-fn enter_pattern(patterns: &Patterns, subject: &[u8], id: PatId, cursor: usize) -> Plan
+fn enter_pattern(
+    patterns: &Patterns,
+    looks: &mut Looks,
+    subject: &[u8],
+    id: PatId,
+    cursor: usize,
+) -> Plan
     requires known { id.0 < length patterns.now }
     requires inside { cursor ≤ length subject.now }
+    requires looks { AreTrue patterns.now subject.now looks.old }
+    ensures looks { AreTrue patterns.now subject.now looks.new }
     ensures plan { IsPlan patterns.now subject.now (Goal.Match id) cursor Mark.Enter result }
     ensures scopes { KeepsScopes patterns.now (Goal.Match id) result }
 {
     match patterns.shape(id) {
-        Shape::Primitive => enter_primitive(patterns, subject, id, cursor),
+        Shape::Primitive => enter_primitive(patterns, looks, subject, id, cursor),
         Shape::Cat(p, q) => Plan::Replace(Front::Two(Goal::Match(p), Goal::Match(q)), cursor),
         Shape::Alt(p, _q) => Plan::Branch(Front::One(Goal::Match(p)), cursor, cursor),
         Shape::Arbno(_p) => Plan::Branch(Front::Nothing, cursor, cursor),
@@ -139,28 +159,45 @@ fn enter_pattern(patterns: &Patterns, subject: &[u8], id: PatId, cursor: usize) 
     }
 }
 
-fn enter_primitive(patterns: &Patterns, subject: &[u8], id: PatId, cursor: usize) -> Plan
+fn enter_primitive(
+    patterns: &Patterns,
+    looks: &mut Looks,
+    subject: &[u8],
+    id: PatId,
+    cursor: usize,
+) -> Plan
     requires known { id.0 < length patterns.now }
     requires primitive { IsPrimitive (tree patterns.now id.0) }
     requires inside { cursor ≤ length subject.now }
+    requires looks { AreTrue patterns.now subject.now looks.old }
+    ensures looks { AreTrue patterns.now subject.now looks.new }
     ensures plan { IsPlan patterns.now subject.now (Goal.Match id) cursor Mark.Enter result }
     ensures scopes { KeepsScopes patterns.now (Goal.Match id) result }
 {
-    let Some(end) = patterns.end_at(id, subject, cursor, 0) else {
+    let Some(end) = patterns.look(looks, id, subject, cursor) else {
         return Plan::Fail;
     };
-    take_end(patterns, subject, id, cursor, end)
+    take_end(patterns, looks, subject, id, cursor, end)
 }
 
-fn next_of_pattern(patterns: &Patterns, subject: &[u8], id: PatId, cursor: usize, at: usize) -> Plan
+fn next_of_pattern(
+    patterns: &Patterns,
+    looks: &mut Looks,
+    subject: &[u8],
+    id: PatId,
+    cursor: usize,
+    at: usize,
+) -> Plan
     requires known { id.0 < length patterns.now }
     requires inside { cursor ≤ length subject.now }
     requires next { HasNext (tree patterns.now id.0) subject.now cursor at }
+    requires looks { AreTrue patterns.now subject.now looks.old }
+    ensures looks { AreTrue patterns.now subject.now looks.new }
     ensures plan { IsPlan patterns.now subject.now (Goal.Match id) cursor (Mark.Next at) result }
     ensures scopes { KeepsScopes patterns.now (Goal.Match id) result }
 {
     match patterns.shape(id) {
-        Shape::Primitive => take_end(patterns, subject, id, cursor, at),
+        Shape::Primitive => take_end(patterns, looks, subject, id, cursor, at),
         Shape::Alt(_p, q) => Plan::Replace(Front::One(Goal::Match(q)), cursor),
         Shape::Arbno(p) => {
             let close = Goal::CloseRepeat {
@@ -177,14 +214,23 @@ fn next_of_pattern(patterns: &Patterns, subject: &[u8], id: PatId, cursor: usize
 }
 
 /// A primitive's point stays only where there is an end behind this one.
-fn take_end(patterns: &Patterns, subject: &[u8], id: PatId, cursor: usize, end: usize) -> Plan
+fn take_end(
+    patterns: &Patterns,
+    looks: &mut Looks,
+    subject: &[u8],
+    id: PatId,
+    cursor: usize,
+    end: usize,
+) -> Plan
     requires known { id.0 < length patterns.now }
     requires inside { cursor ≤ length subject.now }
     requires end { Contains (ends_of (tree patterns.now id.0) subject.now cursor) end }
-    ensures { (i : ℕ) → end_of (tree patterns.now id.0) subject.now cursor i ≡ Some end
+    requires looks { AreTrue patterns.now subject.now looks.old }
+    ensures looks { AreTrue patterns.now subject.now looks.new }
+    ensures plan { (i : ℕ) → end_of (tree patterns.now id.0) subject.now cursor i ≡ Some end
         → result ≡ end_plan end (end_of (tree patterns.now id.0) subject.now cursor (i + 1)) }
 {
-    match patterns.end_behind(id, subject, cursor, end) {
+    match patterns.look_behind(looks, id, subject, cursor, end) {
         None => Plan::Replace(Front::Nothing, end),
         Some(next) => Plan::Branch(Front::Nothing, end, next),
     }

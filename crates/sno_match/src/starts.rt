@@ -1,10 +1,11 @@
 //! Starts that fail at once.
 ghost use Rattle.std.specs.Prelude.{◌<◌, ◌≤◌, ◌-◌, length, IfSome};
 ghost use Rattle.sno_pattern.specs.Shape.{IsPrimitive};
+ghost use Rattle.sno_pattern.specs.Looks.{AreTrue};
 ghost use Rattle.sno_pattern.specs.Table.{tree};
 ghost use Rattle.sno_match.specs.Starts.{Passes, FailsWith};
 
-use sno_pattern::{Patterns, Shape};
+use sno_pattern::{Looks, Patterns, Shape};
 use sno_value::PatId;
 
 /// A start whose search is exhausted, and how many steps lead there.
@@ -26,6 +27,7 @@ struct Head {
 /// concatenation above the primitive, and one for the primitive.
 pub(crate) fn pass_failing_starts(
     patterns: &Patterns,
+    looks: &mut Looks,
     pattern: PatId,
     subject: &[u8],
     anchored: bool,
@@ -34,6 +36,8 @@ pub(crate) fn pass_failing_starts(
 ) -> Passed
     requires known { pattern.0 < length patterns.now }
     requires inside { start ≤ length subject.now }
+    requires looks { AreTrue patterns.now subject.now looks.old }
+    ensures looks { AreTrue patterns.now subject.now looks.new }
     ensures inside { result.start ≤ length subject.now }
     ensures enough { result.steps ≤ left }
     ensures passes { Passes anchored (tree patterns.now pattern.0) subject.now start result.start result.steps }
@@ -47,7 +51,7 @@ pub(crate) fn pass_failing_starts(
     };
     let price = head.above + 2;
     let room = (subject.len() - start).min((left / price) as usize);
-    let next = patterns.first_place(head.id, subject, start + 1, start + 1 + room);
+    let next = patterns.look_for_place(looks, head.id, subject, start + 1, start + 1 + room);
     let passed = next - start - 1;
     Passed {
         start: start + passed,

@@ -41,7 +41,7 @@ end_of-tree ts (ImmNode p target) s c i = refl
 end_of-tree ts (PlaceNode target) s c i = refl
 end_of-tree ts (DeferNode primitive expression) s c i = refl
 
-node-at : (entries : List Entry) (id : ℕ) (entry : Entry) → id < length entries → get_or entries id entry ≡ entry → slice_get (nodes_of entries) id ≡ Some (node_of entry.kind)
+pub node-at : (entries : List Entry) (id : ℕ) (entry : Entry) → id < length entries → get_or entries id entry ≡ entry → slice_get (nodes_of entries) id ≡ Some (node_of entry.kind)
 node-at [] id entry h e = absurd (omega arith)
 node-at (x ∷ entries) zero entry h e = ap (λ (k : Entry). Some (node_of k.kind)) e
 node-at (x ∷ entries) (suc id) entry h e = node-at entries id entry (omega arith) e

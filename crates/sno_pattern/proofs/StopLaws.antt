@@ -1,8 +1,11 @@
 -- The places at which BREAKX stops.
 use Rattle.std.proofs.Common.{◌≡◌, ℕ, zero, suc, ◌+◌, ◌-◌, ◌<◌, ◌≤◌, Bool, true, false, if◌then◌else◌, Some, None, List, [], ◌∷◌, Option, length, drop, slice_get, refl, sym, ◌∙◌, ap, arith}
 use Rattle.std.proofs.lemmas.List.{drop-drop, length-drop}
-use Rattle.sno_pattern.specs.Pattern.{BreakX}
+use Rattle.std.specs.Option.{is_some}
+use Rattle.sno_pattern.specs.Pattern.{Break, BreakX}
 use Rattle.sno_pattern.specs.Ends.{is_in, first_in, all_in, ends}
+use Rattle.sno_pattern.specs.Places.{IsFirstPlace, leaf_has_end}
+use Rattle.sno_pattern.proofs.PlaceLaws.{same_place}
 
 -- the first of all is the first
 pub all_in-first : (set : List ℕ) (c : ℕ) (bytes : List ℕ) → slice_get (all_in set c bytes) 0 ≡ slice_get (first_in set c bytes) 0
@@ -68,3 +71,8 @@ none_at_first set s c i r q first is none = none ∙ sym (none_after (ends (Brea
 
 pub none_behind : (set s : List ℕ) (c k i : ℕ) (r q : Option ℕ) → k < i → r ≡ slice_get (ends (BreakX set) s c) (k + 1) → r ≡ None → q ≡ None → q ≡ slice_get (ends (BreakX set) s c) i
 none_behind set s c k i r q before next is none = none ∙ sym (none_after (ends (BreakX set) s c) (k + 1) i (omega arith) (sym next ∙ is))
+
+-- BREAKX has an end where BREAK has one
+pub stop_place : (set s : List ℕ) (from until place : ℕ) → IsFirstPlace (leaf_has_end (Break set) s) from until place → IsFirstPlace (leaf_has_end (BreakX set) s) from until place
+stop_place set s from until place first =
+    same_place (leaf_has_end (Break set) s) (leaf_has_end (BreakX set) s) from until place (λ c. ap is_some (sym (all_in-first set c (drop c s)))) first

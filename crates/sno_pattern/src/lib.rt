@@ -8,6 +8,7 @@ mod counts;
 mod ends;
 mod kind;
 mod lanes;
+mod looks;
 mod places;
 mod sets;
 mod shape;
@@ -15,6 +16,7 @@ mod table;
 
 pub use argument::Arg;
 pub use lanes::{first_in, first_not_in};
+pub use looks::Looks;
 pub use shape::Shape;
 pub use sno_value::{ExprId, Name, PatId, Prim};
 pub use table::{BuildError, Patterns};

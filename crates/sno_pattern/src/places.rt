@@ -23,6 +23,7 @@ pub(crate) fn first_place_of_kind(kind: &Kind, subject: &[u8], from: usize, unti
         Kind::NotAny(set) => place_outside_set(set, subject, from, until),
         Kind::Span(set) => place_in_set(set, subject, from, until),
         Kind::Break(set) => place_before_set(set, subject, from, until),
+        Kind::BreakX(set) => place_before_set(set, subject, from, until),
         _ => place_of_end(kind, subject, from, until),
     }
 }

@@ -8,12 +8,14 @@ ghost use Rattle.sno_pattern.specs.Built.{Appends};
 ghost use Rattle.sno_pattern.specs.Quiet.{IsQuiet};
 ghost use Rattle.sno_pattern.specs.NextEnd.{ends_of, next_end};
 ghost use Rattle.sno_pattern.specs.Places.{IsFirstPlace, has_end};
+ghost use Rattle.sno_pattern.specs.Looks.{AreTrue, StopsOften};
 ghost use Rattle.sno_pattern.specs.Kinds.{nodes_of, node_of, IsTable};
 
 use crate::argument::{Arg, among, counted};
 use crate::byte_set::ByteSet;
 use crate::ends::{end_behind_of_kind, end_of_kind};
 use crate::kind::{Entry, Kind, is_quiet_over, shape_of_kind};
+use crate::looks::{Looks, Run, is_far, last_with_end, slot_behind, slot_of_first};
 use crate::places::first_place_of_kind;
 use crate::shape::Shape;
 use sno_value::{ExprId, Name, PatId, Prim};
@@ -362,6 +364,128 @@ impl Patterns {
         ensures { IsFirstPlace (has_end (tree self.now id.0) subject.now) from until result }
     {
         first_place_of_kind(&self.entries[id.0 as usize].kind, subject, from, until)
+    }
+
+    /// The first end of a primitive, as `end_at` gives it, by what was found out before where that says it. What is found
+    /// out by this look is remembered.
+    pub fn look(&self, looks: &mut Looks, id: PatId, subject: &[u8], at: usize) -> Option<usize>
+        requires id { id.0 < length self.now }
+        requires primitive { IsPrimitive (tree self.now id.0) }
+        requires at { at ≤ length subject.now }
+        requires looks { AreTrue self.now subject.now looks.old }
+        ensures looks { AreTrue self.now subject.now looks.new }
+        ensures value { result ≡ end_of (tree self.now id.0) subject.now at 0 }
+        ensures ahead { IfSome result (λ e. at ≤ e) }
+        ensures inside { IfSome result (λ e. e ≤ length subject.now) }
+    {
+        let end = self.look_by(looks, slot_of_first(id), id, subject, at);
+        end
+    }
+
+    /// The end of a primitive behind another, as `end_behind` gives it, by what was found out before where that says it.
+    pub fn look_behind(
+        &self,
+        looks: &mut Looks,
+        id: PatId,
+        subject: &[u8],
+        at: usize,
+        last: usize,
+    ) -> Option<usize>
+        requires id { id.0 < length self.now }
+        requires at { at ≤ length subject.now }
+        requires last { Contains (ends_of (tree self.now id.0) subject.now at) last }
+        requires looks { AreTrue self.now subject.now looks.old }
+        ensures looks { AreTrue self.now subject.now looks.new }
+        ensures value { result ≡ next_end (tree self.now id.0) subject.now at last }
+        ensures by_number { (i : ℕ) → end_of (tree self.now id.0) subject.now at i ≡ Some last
+            → result ≡ end_of (tree self.now id.0) subject.now at (i + 1) }
+        ensures inside { IfSome result (λ e. e ≤ length subject.now) }
+    {
+        if last < subject.len() && self.stops_often(id) {
+            let end = self.look_by(looks, slot_behind(id, last), id, subject, last + 1);
+            return end;
+        }
+        let end = self.end_behind(id, subject, at, last);
+        end
+    }
+
+    /// The first place of a range at which a primitive has an end, as `first_place` gives it. Where it may be far to the end
+    /// from the first of them, that is looked for first, and remembered.
+    pub fn look_for_place(
+        &self,
+        looks: &mut Looks,
+        id: PatId,
+        subject: &[u8],
+        from: usize,
+        until: usize,
+    ) -> usize
+        requires id { id.0 < length self.now }
+        requires primitive { IsPrimitive (tree self.now id.0) }
+        requires start { from ≤ length subject.now }
+        requires range { from ≤ until }
+        requires inside { until ≤ length subject.now + 1 }
+        requires looks { AreTrue self.now subject.now looks.old }
+        ensures looks { AreTrue self.now subject.now looks.new }
+        ensures place { IsFirstPlace (has_end (tree self.now id.0) subject.now) from until result }
+    {
+        if is_far(&self.entries[id.0 as usize].kind)
+            && self.look(looks, id, subject, from).is_some()
+        {
+            return from;
+        }
+        let place = self.first_place(id, subject, from, until);
+        place
+    }
+
+    /// Whether a number's tree is BREAKX, whose end behind another is its first end from the byte behind that.
+    fn stops_often(&self, id: PatId) -> bool
+        requires { id.0 < length self.now }
+        ensures { IsTrue result → StopsOften (tree self.now id.0) }
+    {
+        matches!(&self.entries[id.0 as usize].kind, Kind::BreakX(_))
+    }
+
+    /// The first end of a primitive. A run that is looked through is remembered in the slot.
+    fn look_by(
+        &self,
+        looks: &mut Looks,
+        slot: usize,
+        id: PatId,
+        subject: &[u8],
+        at: usize,
+    ) -> Option<usize>
+        requires slot { slot < 8 }
+        requires id { id.0 < length self.now }
+        requires primitive { IsPrimitive (tree self.now id.0) }
+        requires at { at ≤ length subject.now }
+        requires looks { AreTrue self.now subject.now looks.old }
+        ensures looks { AreTrue self.now subject.now looks.new }
+        ensures value { result ≡ end_of (tree self.now id.0) subject.now at 0 }
+        ensures ahead { IfSome result (λ e. at ≤ e) }
+        ensures inside { IfSome result (λ e. e ≤ length subject.now) }
+    {
+        let kind = &self.entries[id.0 as usize].kind;
+        if !is_far(kind) {
+            let end = self.end_at(id, subject, at, 0);
+            return end;
+        }
+        if let Some(end) = looks.recall(slot, id, at) {
+            return end;
+        }
+        let end = self.end_at(id, subject, at, 0);
+        let until = last_with_end(kind, subject, at, end);
+        if at < until {
+            looks.remember(
+                slot,
+                Run {
+                    id,
+                    from: at,
+                    until,
+                    end,
+                },
+            );
+        }
+        end
     }
 }
 

@@ -50,7 +50,7 @@ pub returns-in-Primitive-clause-plan : goal.returns-in-Primitive-clause-plan
 returns-in-Primitive-clause-plan c =
     let is_end = plans.ends_in c.args.patterns.now c.args.id.0 c.in-Primitive.ensures.0 c.args.subject.now c.args.cursor c.args.at c.in-Primitive.ensures.1 c.requires.next in
     let number = plans.number_of c.args.patterns.now c.args.id.0 c.args.subject.now c.args.cursor c.args.at is_end in
-    rw (c.take_end.ensures number.0 number.1)
+    rw (c.take_end.ensures.plan number.0 number.1)
     (plans.leaf_next c.args.patterns.now c.args.subject.now c.args.id c.in-Primitive.ensures.0 c.args.cursor c.in-Primitive.ensures.1 c.requires.inside number.0 c.args.at number.1 _ refl)
 
 pub returns-in-Cut-clause-plan : goal.returns-in-Cut-clause-plan
@@ -61,4 +61,4 @@ pub returns-in-Primitive-clause-scopes : goal.returns-in-Primitive-clause-scopes
 returns-in-Primitive-clause-scopes c =
     let is_end = plans.ends_in c.args.patterns.now c.args.id.0 c.in-Primitive.ensures.0 c.args.subject.now c.args.cursor c.args.at c.in-Primitive.ensures.1 c.requires.next in
     let number = plans.number_of c.args.patterns.now c.args.id.0 c.args.subject.now c.args.cursor c.args.at is_end in
-    rw (c.take_end.ensures number.0 number.1) (plans.leaf_scopes c.args.patterns.now c.args.id c.in-Primitive.ensures.0 c.in-Primitive.ensures.1 c.args.at _)
+    rw (c.take_end.ensures.plan number.0 number.1) (plans.leaf_scopes c.args.patterns.now c.args.id c.in-Primitive.ensures.0 c.in-Primitive.ensures.1 c.args.at _)

@@ -1,4 +1,4 @@
-use Rattle.std.proofs.Common.{◌∙◌, sym, arith}
+use Rattle.std.proofs.Common.{◌∙◌, sym}
 use Rattle.sno_pattern.proofs.StopLaws.{stop_behind, no_stop_behind}
 use Rattle.sno_pattern.proofs.sets.stop_behind.Goals as goal
 

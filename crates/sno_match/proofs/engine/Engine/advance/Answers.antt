@@ -1,55 +1,61 @@
-use Rattle.std.proofs.Common.{arith, refl}
+use Rattle.std.proofs.Common.{arith, refl, ◌∙◌, ap}
+use Rattle.sno_match.specs.Session.{Session}
+use Rattle.sno_match.proofs.LookLaws.{same_looks}
 use Rattle.sno_match.proofs.EngineLaws as laws
 use Rattle.sno_match.proofs.CountLaws.{match_few, match_counted}
 use Rattle.sno_match.proofs.engine.Engine.advance.Goals as goal
 
 pub overflow_add-self : goal.overflow_add-self
-overflow_add-self g c = let few = match_few _ _ _ _ c.self.invariant in omega (arith, few, c.self.ranges)
+overflow_add-self g c = let few = match_few _ _ _ _ c.self.invariant.0 in omega (arith, few, c.self.ranges)
 
 pub invariant_of-self-in-Some : goal.invariant_of-self-in-Some
 invariant_of-self-in-Some g c =
-    let l = laws.made_leads c.args.self.now c.self.inside.lent.value c.self.inside.pattern c.self.inside.subject.items c.self.inside.anchored c.self.inside.limit c.self.inside.answers.items c.self.inside.told c.self.inside.steps c.self.inside.state c.self.inside.way.items (g.P.Points.points c.self.inside.points) (g.P.Points.records c.self.inside.points) c.self.inside.start c.self.view_is c.self.invariant c.requires.going c.requires.on
-    c.args.patterns.now c.deref.result.now c.requires.table c.deref.ensures.value c.in_ok-told-2.told c.make_move.new.steps (g.P.Points.points c.make_move.new.points) c.make_move.new.way.items (g.P.Points.records c.make_move.new.points) c.in_ok-told-2.ensures.stack c.in_ok-told-2.ensures.cuts c.in_ok-told-2.ensures.records c.in_ok-told-2.ensures.ok in
-    (laws.tells_all c.args.self.now c.self.inside.lent.value c.self.inside.pattern c.self.inside.subject.items c.self.inside.anchored c.self.inside.limit c.self.inside.answers.items c.self.inside.told c.self.inside.steps c.self.inside.state c.self.inside.way.items (g.P.Points.points c.self.inside.points) (g.P.Points.records c.self.inside.points) c.self.inside.start c.self.view_is c.self.invariant c.requires.going c.requires.on
-    c.in-Some.event c.make_move.new.steps c.self.inside.start (g.P.Points.points c.make_move.new.points) c.make_move.new.way.items (g.P.Points.records c.make_move.new.points) (rw c.in-Some.is at l) c.state_behind-self-inside.result c.state_behind-self-inside.ensures).0
+    let l = laws.made_leads c.args.self.now c.self.inside.lent.value c.self.inside.pattern c.self.inside.subject.items c.self.inside.anchored c.self.inside.limit c.self.inside.answers.items c.self.inside.told c.self.inside.steps c.self.inside.state c.self.inside.way.items (g.P.Points.points c.self.inside.points) (g.P.Points.records c.self.inside.points) c.self.inside.start c.self.view_is c.self.invariant.0 c.requires.going c.requires.on
+    c.args.patterns.now c.deref.result.now c.requires.table c.deref.ensures.value c.in_ok-told-2.told c.make_move.new.steps (g.P.Points.points c.make_move.new.points) c.make_move.new.way.items (g.P.Points.records c.make_move.new.points) c.in_ok-told-2.ensures.stack c.in_ok-told-2.ensures.cuts c.in_ok-told-2.ensures.records c.in_ok-told-2.ensures.ok in (
+      (laws.tells_all c.args.self.now c.self.inside.lent.value c.self.inside.pattern c.self.inside.subject.items c.self.inside.anchored c.self.inside.limit c.self.inside.answers.items c.self.inside.told c.self.inside.steps c.self.inside.state c.self.inside.way.items (g.P.Points.points c.self.inside.points) (g.P.Points.records c.self.inside.points) c.self.inside.start c.self.view_is c.self.invariant.0 c.requires.going c.requires.on
+          c.in-Some.event c.make_move.new.steps c.self.inside.start (g.P.Points.points c.make_move.new.points) c.make_move.new.way.items (g.P.Points.records c.make_move.new.points) (rw c.in-Some.is at l) c.state_behind-self-inside.result c.state_behind-self-inside.ensures).0,
+      same_looks c.self.inside.lent.value c.args.patterns.now c.self.inside.subject.items c.deref.result.now c.make_move.new.looks (ap (λ (x : Session). x.nodes) c.self.view_is ∙ c.requires.table) c.deref.ensures.value c.in_ok-told-2.ensures.looks,
+    )
 
 pub returns-in-Some-clause-ok : goal.returns-in-Some-clause-ok
 returns-in-Some-clause-ok g c =
-    let l = laws.made_leads c.args.self.now c.self.inside.lent.value c.self.inside.pattern c.self.inside.subject.items c.self.inside.anchored c.self.inside.limit c.self.inside.answers.items c.self.inside.told c.self.inside.steps c.self.inside.state c.self.inside.way.items (g.P.Points.points c.self.inside.points) (g.P.Points.records c.self.inside.points) c.self.inside.start c.self.view_is c.self.invariant c.requires.going c.requires.on
+    let l = laws.made_leads c.args.self.now c.self.inside.lent.value c.self.inside.pattern c.self.inside.subject.items c.self.inside.anchored c.self.inside.limit c.self.inside.answers.items c.self.inside.told c.self.inside.steps c.self.inside.state c.self.inside.way.items (g.P.Points.points c.self.inside.points) (g.P.Points.records c.self.inside.points) c.self.inside.start c.self.view_is c.self.invariant.0 c.requires.going c.requires.on
     c.args.patterns.now c.deref.result.now c.requires.table c.deref.ensures.value c.in_ok-told-2.told c.make_move.new.steps (g.P.Points.points c.make_move.new.points) c.make_move.new.way.items (g.P.Points.records c.make_move.new.points) c.in_ok-told-2.ensures.stack c.in_ok-told-2.ensures.cuts c.in_ok-told-2.ensures.records c.in_ok-told-2.ensures.ok in
-    (laws.tells_all c.args.self.now c.self.inside.lent.value c.self.inside.pattern c.self.inside.subject.items c.self.inside.anchored c.self.inside.limit c.self.inside.answers.items c.self.inside.told c.self.inside.steps c.self.inside.state c.self.inside.way.items (g.P.Points.points c.self.inside.points) (g.P.Points.records c.self.inside.points) c.self.inside.start c.self.view_is c.self.invariant c.requires.going c.requires.on
+    (laws.tells_all c.args.self.now c.self.inside.lent.value c.self.inside.pattern c.self.inside.subject.items c.self.inside.anchored c.self.inside.limit c.self.inside.answers.items c.self.inside.told c.self.inside.steps c.self.inside.state c.self.inside.way.items (g.P.Points.points c.self.inside.points) (g.P.Points.records c.self.inside.points) c.self.inside.start c.self.view_is c.self.invariant.0 c.requires.going c.requires.on
     c.in-Some.event c.make_move.new.steps c.self.inside.start (g.P.Points.points c.make_move.new.points) c.make_move.new.way.items (g.P.Points.records c.make_move.new.points) (rw c.in-Some.is at l) c.state_behind-self-inside.result c.state_behind-self-inside.ensures).1
 
 pub returns-in-Some-clause-counts : goal.returns-in-Some-clause-counts
 returns-in-Some-clause-counts g c =
-    let l = laws.made_leads c.args.self.now c.self.inside.lent.value c.self.inside.pattern c.self.inside.subject.items c.self.inside.anchored c.self.inside.limit c.self.inside.answers.items c.self.inside.told c.self.inside.steps c.self.inside.state c.self.inside.way.items (g.P.Points.points c.self.inside.points) (g.P.Points.records c.self.inside.points) c.self.inside.start c.self.view_is c.self.invariant c.requires.going c.requires.on
+    let l = laws.made_leads c.args.self.now c.self.inside.lent.value c.self.inside.pattern c.self.inside.subject.items c.self.inside.anchored c.self.inside.limit c.self.inside.answers.items c.self.inside.told c.self.inside.steps c.self.inside.state c.self.inside.way.items (g.P.Points.points c.self.inside.points) (g.P.Points.records c.self.inside.points) c.self.inside.start c.self.view_is c.self.invariant.0 c.requires.going c.requires.on
     c.args.patterns.now c.deref.result.now c.requires.table c.deref.ensures.value c.in_ok-told-2.told c.make_move.new.steps (g.P.Points.points c.make_move.new.points) c.make_move.new.way.items (g.P.Points.records c.make_move.new.points) c.in_ok-told-2.ensures.stack c.in_ok-told-2.ensures.cuts c.in_ok-told-2.ensures.records c.in_ok-told-2.ensures.ok in
-    (laws.tells_all c.args.self.now c.self.inside.lent.value c.self.inside.pattern c.self.inside.subject.items c.self.inside.anchored c.self.inside.limit c.self.inside.answers.items c.self.inside.told c.self.inside.steps c.self.inside.state c.self.inside.way.items (g.P.Points.points c.self.inside.points) (g.P.Points.records c.self.inside.points) c.self.inside.start c.self.view_is c.self.invariant c.requires.going c.requires.on
+    (laws.tells_all c.args.self.now c.self.inside.lent.value c.self.inside.pattern c.self.inside.subject.items c.self.inside.anchored c.self.inside.limit c.self.inside.answers.items c.self.inside.told c.self.inside.steps c.self.inside.state c.self.inside.way.items (g.P.Points.points c.self.inside.points) (g.P.Points.records c.self.inside.points) c.self.inside.start c.self.view_is c.self.invariant.0 c.requires.going c.requires.on
     c.in-Some.event c.make_move.new.steps c.self.inside.start (g.P.Points.points c.make_move.new.points) c.make_move.new.way.items (g.P.Points.records c.make_move.new.points) (rw c.in-Some.is at l) c.state_behind-self-inside.result c.state_behind-self-inside.ensures).2
 
 pub invariant_of-self-in_default : goal.invariant_of-self-in_default
 invariant_of-self-in_default g c =
-    let l = laws.made_leads c.args.self.now c.self.inside.lent.value c.self.inside.pattern c.self.inside.subject.items c.self.inside.anchored c.self.inside.limit c.self.inside.answers.items c.self.inside.told c.self.inside.steps c.self.inside.state c.self.inside.way.items (g.P.Points.points c.self.inside.points) (g.P.Points.records c.self.inside.points) c.self.inside.start c.self.view_is c.self.invariant c.requires.going c.requires.on
-    c.args.patterns.now c.deref.result.now c.requires.table c.deref.ensures.value c.in_ok-told-2.told c.make_move.new.steps (g.P.Points.points c.make_move.new.points) c.make_move.new.way.items (g.P.Points.records c.make_move.new.points) c.in_ok-told-2.ensures.stack c.in_ok-told-2.ensures.cuts c.in_ok-told-2.ensures.records c.in_ok-told-2.ensures.ok in
-    (laws.goes_all c.args.self.now c.self.inside.lent.value c.self.inside.pattern c.self.inside.subject.items c.self.inside.anchored c.self.inside.limit c.self.inside.answers.items c.self.inside.told c.self.inside.steps c.self.inside.state c.self.inside.way.items (g.P.Points.points c.self.inside.points) (g.P.Points.records c.self.inside.points) c.self.inside.start c.self.view_is c.self.invariant c.requires.going c.requires.on
-    c.make_move.new.steps c.self.inside.start (g.P.Points.points c.make_move.new.points) c.make_move.new.way.items (g.P.Points.records c.make_move.new.points) (rw c.in_default.is at l) (c.in_ok-told-2.ensures.ok.falls c.in_default.is)).0
+    let l = laws.made_leads c.args.self.now c.self.inside.lent.value c.self.inside.pattern c.self.inside.subject.items c.self.inside.anchored c.self.inside.limit c.self.inside.answers.items c.self.inside.told c.self.inside.steps c.self.inside.state c.self.inside.way.items (g.P.Points.points c.self.inside.points) (g.P.Points.records c.self.inside.points) c.self.inside.start c.self.view_is c.self.invariant.0 c.requires.going c.requires.on
+    c.args.patterns.now c.deref.result.now c.requires.table c.deref.ensures.value c.in_ok-told-2.told c.make_move.new.steps (g.P.Points.points c.make_move.new.points) c.make_move.new.way.items (g.P.Points.records c.make_move.new.points) c.in_ok-told-2.ensures.stack c.in_ok-told-2.ensures.cuts c.in_ok-told-2.ensures.records c.in_ok-told-2.ensures.ok in (
+      (laws.goes_all c.args.self.now c.self.inside.lent.value c.self.inside.pattern c.self.inside.subject.items c.self.inside.anchored c.self.inside.limit c.self.inside.answers.items c.self.inside.told c.self.inside.steps c.self.inside.state c.self.inside.way.items (g.P.Points.points c.self.inside.points) (g.P.Points.records c.self.inside.points) c.self.inside.start c.self.view_is c.self.invariant.0 c.requires.going c.requires.on
+          c.make_move.new.steps c.self.inside.start (g.P.Points.points c.make_move.new.points) c.make_move.new.way.items (g.P.Points.records c.make_move.new.points) (rw c.in_default.is at l) (c.in_ok-told-2.ensures.ok.falls c.in_default.is)).0,
+      same_looks c.self.inside.lent.value c.args.patterns.now c.self.inside.subject.items c.deref.result.now c.make_move.new.looks (ap (λ (x : Session). x.nodes) c.self.view_is ∙ c.requires.table) c.deref.ensures.value c.in_ok-told-2.ensures.looks,
+    )
 
 pub returns-in_default-clause-ok : goal.returns-in_default-clause-ok
 returns-in_default-clause-ok g c =
-    let l = laws.made_leads c.args.self.now c.self.inside.lent.value c.self.inside.pattern c.self.inside.subject.items c.self.inside.anchored c.self.inside.limit c.self.inside.answers.items c.self.inside.told c.self.inside.steps c.self.inside.state c.self.inside.way.items (g.P.Points.points c.self.inside.points) (g.P.Points.records c.self.inside.points) c.self.inside.start c.self.view_is c.self.invariant c.requires.going c.requires.on
+    let l = laws.made_leads c.args.self.now c.self.inside.lent.value c.self.inside.pattern c.self.inside.subject.items c.self.inside.anchored c.self.inside.limit c.self.inside.answers.items c.self.inside.told c.self.inside.steps c.self.inside.state c.self.inside.way.items (g.P.Points.points c.self.inside.points) (g.P.Points.records c.self.inside.points) c.self.inside.start c.self.view_is c.self.invariant.0 c.requires.going c.requires.on
     c.args.patterns.now c.deref.result.now c.requires.table c.deref.ensures.value c.in_ok-told-2.told c.make_move.new.steps (g.P.Points.points c.make_move.new.points) c.make_move.new.way.items (g.P.Points.records c.make_move.new.points) c.in_ok-told-2.ensures.stack c.in_ok-told-2.ensures.cuts c.in_ok-told-2.ensures.records c.in_ok-told-2.ensures.ok in
-    rw c.in_default.is (laws.goes_all c.args.self.now c.self.inside.lent.value c.self.inside.pattern c.self.inside.subject.items c.self.inside.anchored c.self.inside.limit c.self.inside.answers.items c.self.inside.told c.self.inside.steps c.self.inside.state c.self.inside.way.items (g.P.Points.points c.self.inside.points) (g.P.Points.records c.self.inside.points) c.self.inside.start c.self.view_is c.self.invariant c.requires.going c.requires.on
+    rw c.in_default.is (laws.goes_all c.args.self.now c.self.inside.lent.value c.self.inside.pattern c.self.inside.subject.items c.self.inside.anchored c.self.inside.limit c.self.inside.answers.items c.self.inside.told c.self.inside.steps c.self.inside.state c.self.inside.way.items (g.P.Points.points c.self.inside.points) (g.P.Points.records c.self.inside.points) c.self.inside.start c.self.view_is c.self.invariant.0 c.requires.going c.requires.on
     c.make_move.new.steps c.self.inside.start (g.P.Points.points c.make_move.new.points) c.make_move.new.way.items (g.P.Points.records c.make_move.new.points) (rw c.in_default.is at l) (c.in_ok-told-2.ensures.ok.falls c.in_default.is)).1
 
 pub returns-in_default-clause-counts : goal.returns-in_default-clause-counts
 returns-in_default-clause-counts g c =
-    let l = laws.made_leads c.args.self.now c.self.inside.lent.value c.self.inside.pattern c.self.inside.subject.items c.self.inside.anchored c.self.inside.limit c.self.inside.answers.items c.self.inside.told c.self.inside.steps c.self.inside.state c.self.inside.way.items (g.P.Points.points c.self.inside.points) (g.P.Points.records c.self.inside.points) c.self.inside.start c.self.view_is c.self.invariant c.requires.going c.requires.on
+    let l = laws.made_leads c.args.self.now c.self.inside.lent.value c.self.inside.pattern c.self.inside.subject.items c.self.inside.anchored c.self.inside.limit c.self.inside.answers.items c.self.inside.told c.self.inside.steps c.self.inside.state c.self.inside.way.items (g.P.Points.points c.self.inside.points) (g.P.Points.records c.self.inside.points) c.self.inside.start c.self.view_is c.self.invariant.0 c.requires.going c.requires.on
     c.args.patterns.now c.deref.result.now c.requires.table c.deref.ensures.value c.in_ok-told-2.told c.make_move.new.steps (g.P.Points.points c.make_move.new.points) c.make_move.new.way.items (g.P.Points.records c.make_move.new.points) c.in_ok-told-2.ensures.stack c.in_ok-told-2.ensures.cuts c.in_ok-told-2.ensures.records c.in_ok-told-2.ensures.ok in
-    (laws.goes_all c.args.self.now c.self.inside.lent.value c.self.inside.pattern c.self.inside.subject.items c.self.inside.anchored c.self.inside.limit c.self.inside.answers.items c.self.inside.told c.self.inside.steps c.self.inside.state c.self.inside.way.items (g.P.Points.points c.self.inside.points) (g.P.Points.records c.self.inside.points) c.self.inside.start c.self.view_is c.self.invariant c.requires.going c.requires.on
+    (laws.goes_all c.args.self.now c.self.inside.lent.value c.self.inside.pattern c.self.inside.subject.items c.self.inside.anchored c.self.inside.limit c.self.inside.answers.items c.self.inside.told c.self.inside.steps c.self.inside.state c.self.inside.way.items (g.P.Points.points c.self.inside.points) (g.P.Points.records c.self.inside.points) c.self.inside.start c.self.view_is c.self.invariant.0 c.requires.going c.requires.on
     c.make_move.new.steps c.self.inside.start (g.P.Points.points c.make_move.new.points) c.make_move.new.way.items (g.P.Points.records c.make_move.new.points) (rw c.in_default.is at l) (c.in_ok-told-2.ensures.ok.falls c.in_default.is)).2
 
 pub returns-in_err-told-2-clause-counts : goal.returns-in_err-told-2-clause-counts
 returns-in_err-told-2-clause-counts g c =
     let e = c.in_err-told-2.ensures.err in
-    let kept = match_counted _ _ _ _ c.self.invariant refl in
+    let kept = match_counted _ _ _ _ c.self.invariant.0 refl in
     rw (e.0, e.1, e.2, e.3) kept

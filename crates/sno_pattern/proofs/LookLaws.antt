@@ -1,0 +1,168 @@
+-- From each cursor of a run the first end is the same.
+use Rattle.std.proofs.Common.{◌≡◌, ◌≢◌, ℕ, zero, suc, ◌+◌, ◌-◌, ◌<◌, ◌≤◌, ◌==◌, Bool, true, false, not, if◌then◌else◌, Some, None, List, [], ◌∷◌, ◌++◌, Option, length, drop, get_or, slice_get, slice_set, refl, sym, ◌∙◌, ap, subst, arith, length-append, ◌⊎◌, inl, inr, ⊎_elim}
+use Rattle.std.specs.Prelude.{unwrap_or}
+use Rattle.std.proofs.lemmas.Bool.{ne_eqb}
+use Rattle.std.proofs.lemmas.List.{drop-drop, get_or-set_same, get_or-set_other, length-set}
+use Rattle.sno_pattern.specs.Pattern.{Pattern, Span, Break, BreakX, Leaf}
+use Rattle.sno_pattern.specs.Ends.{is_in, end_if, run_length, first_in, ends}
+use Rattle.sno_pattern.specs.Shape.{end_of, end_of_node}
+use Rattle.sno_pattern.specs.Table.{Node, tree, tree_over, trees_onto}
+use Rattle.sno_pattern.specs.Kinds.{node_of, nodes_of, IsTable}
+use Rattle.sno_pattern.specs.declared.kind.Entry.{Entry}
+use Rattle.sno_pattern.specs.declared.kind.Kind.{Kind}
+use Rattle.sno_pattern.specs.declared.kind.Kind.TheVariants as K
+use Rattle.sno_pattern.specs.Looks.{IsTrueRun, AreTrue}
+use Rattle.sno_pattern.specs.declared.looks.Run.{Run}
+use Rattle.sno_pattern.proofs.ShapeLaws.{node-at, end_of-kind}
+use Rattle.sno_pattern.proofs.StopLaws.{all_in-first, stop_behind}
+use Rattle.sno_pattern.proofs.TableLaws.{tree-append, tree-at, length-nodes}
+
+-- what is left of a run behind some of its bytes
+run_left : (set bytes : List ℕ) (k : ℕ) → k ≤ run_length set bytes → k + run_length set (drop k bytes) ≡ run_length set bytes
+run_left set bytes zero h = omega arith
+run_left set [] (suc k) h = absurd (omega arith)
+run_left set (byte ∷ bytes) (suc k) h = go (is_in set byte) h (run_left set bytes k)
+  where
+    go : (b : Bool) → suc k ≤ (if b then suc (run_length set bytes) else 0) → (k ≤ run_length set bytes → k + run_length set (drop k bytes) ≡ run_length set bytes) →
+        suc k + run_length set (drop k bytes) ≡ (if b then suc (run_length set bytes) else 0)
+    go true most left = omega (arith, left (omega arith))
+    go false most left = absurd (omega arith)
+
+drop_to : (s : List ℕ) (c d : ℕ) → c ≤ d → drop (d - c) (drop c s) ≡ drop d s
+drop_to s c d h = let n : c + (d - c) ≡ d = omega arith in drop-drop (d - c) c s ∙ ap (λ m. drop m s) n
+
+some_is : (m n : ℕ) → Some m ≡ Some n → m ≡ n
+some_is m n h = cc
+
+-- a run that has an end has a byte
+the_end : (c n e : ℕ) → slice_get (end_if (not (n == 0)) (c + n)) 0 ≡ Some e → (c + n ≡ e) × (0 < n)
+the_end c zero e h = absurd (cc)
+the_end c (suc n) e h = let some : (suc n == 0) ≡ false = ne_eqb (suc n) 0 (λ z. omega arith) in (some_is (c + suc n) e (rw some at h), omega arith)
+
+-- SPAN ends at the same place from each byte of its run
+pub span_run : (set s : List ℕ) (c e d : ℕ) → slice_get (ends (Span set) s c) 0 ≡ Some e → c ≤ d → d ≤ e - 1 → slice_get (ends (Span set) s d) 0 ≡ Some e
+span_run set s c e d at low high =
+    let is = the_end c (run_length set (drop c s)) e at in
+    let left : d - c + run_length set (drop (d - c) (drop c s)) ≡ run_length set (drop c s) = run_left set (drop c s) (d - c) (omega (arith, is.0, is.1)) in
+    let behind : run_length set (drop (d - c) (drop c s)) ≡ run_length set (drop d s) = ap (run_length set) (drop_to s c d low) in
+    let same : d + run_length set (drop d s) ≡ e = omega (arith, is.0, is.1, left, behind) in
+    let some : (run_length set (drop d s) == 0) ≡ false = ne_eqb (run_length set (drop d s)) 0 (λ z. omega (arith, is.1, same, z)) in
+    ap (λ b. slice_get (end_if (not b) (d + run_length set (drop d s))) 0) some ∙ ap Some same
+
+first_behind : (set : List ℕ) (c : ℕ) (bytes : List ℕ) (k e : ℕ) → slice_get (first_in set c bytes) 0 ≡ Some e → c + k ≤ e → slice_get (first_in set (c + k) (drop k bytes)) 0 ≡ Some e
+first_behind set c bytes zero e at h = let n : c + 0 ≡ c = omega arith in rw n at
+first_behind set c [] (suc k) e at h = absurd (cc)
+first_behind set c (byte ∷ bytes) (suc k) e at h = go (is_in set byte) at (first_behind set (c + 1) bytes k e)
+  where
+    n : c + suc k ≡ c + 1 + k
+    n = omega arith
+
+    go : (b : Bool) → slice_get (if b then c ∷ [] else first_in set (c + 1) bytes) 0 ≡ Some e →
+        (slice_get (first_in set (c + 1) bytes) 0 ≡ Some e → c + 1 + k ≤ e → slice_get (first_in set (c + 1 + k) (drop k bytes)) 0 ≡ Some e) →
+        slice_get (first_in set (c + suc k) (drop k bytes)) 0 ≡ Some e
+    go true is later = let same : c ≡ e = cc in absurd (omega arith)
+    go false is later = rw n (later is (omega arith))
+
+none_behind : (set : List ℕ) (c : ℕ) (bytes : List ℕ) (k : ℕ) → slice_get (first_in set c bytes) 0 ≡ None → slice_get (first_in set (c + k) (drop k bytes)) 0 ≡ None
+none_behind set c bytes zero at = let n : c + 0 ≡ c = omega arith in rw n at
+none_behind set c [] (suc k) at = refl
+none_behind set c (byte ∷ bytes) (suc k) at = go (is_in set byte) at (none_behind set (c + 1) bytes k)
+  where
+    n : c + suc k ≡ c + 1 + k
+    n = omega arith
+
+    go : (b : Bool) → slice_get (if b then c ∷ [] else first_in set (c + 1) bytes) 0 ≡ None →
+        (slice_get (first_in set (c + 1) bytes) 0 ≡ None → slice_get (first_in set (c + 1 + k) (drop k bytes)) 0 ≡ None) →
+        slice_get (first_in set (c + suc k) (drop k bytes)) 0 ≡ None
+    go true is later = absurd (cc)
+    go false is later = rw n (later is)
+
+-- BREAK ends at the same place up to its end
+pub break_run : (set s : List ℕ) (c e d : ℕ) → slice_get (ends (Break set) s c) 0 ≡ Some e → c ≤ d → d ≤ e → slice_get (ends (Break set) s d) 0 ≡ Some e
+break_run set s c e d at low high =
+    let n : c + (d - c) ≡ d = omega arith in
+    ap (λ bytes. slice_get (first_in set d bytes) 0) (sym (drop_to s c d low)) ∙
+    ap (λ m. slice_get (first_in set m (drop (d - c) (drop c s))) 0) (sym n) ∙ first_behind set c (drop c s) (d - c) e at (omega arith)
+
+-- where BREAK has no end it has none from a later cursor
+pub break_none : (set s : List ℕ) (c d : ℕ) → slice_get (ends (Break set) s c) 0 ≡ None → c ≤ d → slice_get (ends (Break set) s d) 0 ≡ None
+break_none set s c d at low =
+    let n : c + (d - c) ≡ d = omega arith in
+    ap (λ bytes. slice_get (first_in set d bytes) 0) (sym (drop_to s c d low)) ∙
+    ap (λ m. slice_get (first_in set m (drop (d - c) (drop c s))) 0) (sym n) ∙ none_behind set c (drop c s) (d - c) at
+
+stop_first : (set s : List ℕ) (c : ℕ) → slice_get (ends (BreakX set) s c) 0 ≡ slice_get (ends (Break set) s c) 0
+stop_first set s c = all_in-first set c (drop c s)
+
+pub stop_run : (set s : List ℕ) (c e d : ℕ) → slice_get (ends (BreakX set) s c) 0 ≡ Some e → c ≤ d → d ≤ e → slice_get (ends (BreakX set) s d) 0 ≡ Some e
+stop_run set s c e d at low high = stop_first set s d ∙ break_run set s c e d (sym (stop_first set s c) ∙ at) low high
+
+pub stop_none : (set s : List ℕ) (c d : ℕ) → slice_get (ends (BreakX set) s c) 0 ≡ None → c ≤ d → slice_get (ends (BreakX set) s d) 0 ≡ None
+stop_none set s c d at low = stop_first set s d ∙ break_none set s c d (sym (stop_first set s c) ∙ at) low
+
+-- a table that grows keeps what was found out
+grown_run : (nodes more : List Node) (s : List ℕ) (run : Run) → IsTrueRun nodes s run → IsTrueRun (nodes ++ more) s run
+grown_run nodes more s run is = record {
+  known = λ some. omega (arith, length-append nodes more, is.known some);
+  ends = λ c low high. ap (λ (t : Pattern). end_of t s c 0) (tree-append nodes more run.id.0 (is.known (omega (arith, low, high)))) ∙ is.ends c low high;
+}
+
+pub true_grown : (nodes more : List Node) (s : List ℕ) (runs : List Run) → AreTrue nodes s runs → AreTrue (nodes ++ more) s runs
+true_grown nodes more s runs are = record { each = λ slot other h. grown_run nodes more s (get_or runs slot other) (are.each slot other h) }
+
+pub empty_run : (nodes : List Node) (s : List ℕ) (run : Run) → run.until < run.from → IsTrueRun nodes s run
+empty_run nodes s run h = record { known = λ some. absurd (omega arith); ends = λ c low high. absurd (omega arith) }
+
+same_or_not : (i j : ℕ) → (i ≡ j) ⊎ (i ≢ j)
+same_or_not zero zero = inl refl
+same_or_not zero (suc j) = inr (λ e. omega arith)
+same_or_not (suc i) zero = inr (λ e. omega arith)
+same_or_not (suc i) (suc j) = ⊎_elim (λ e. inl (ap suc e)) (λ n. inr (λ e. n (omega arith))) (same_or_not i j)
+
+-- a true run in the place of one
+pub true_put : (nodes : List Node) (s : List ℕ) (runs : List Run) (slot : ℕ) (run : Run) → AreTrue nodes s runs → IsTrueRun nodes s run → AreTrue nodes s (slice_set runs slot run)
+true_put nodes s runs slot run are is = record {
+  each = λ at other h. let long = length-set runs slot run in
+      ⊎_elim
+      (λ same. rw (← same) (subst (IsTrueRun nodes s) (sym (get_or-set_same runs slot run other (omega (arith, h, long, same)))) is))
+      (λ apart. subst (IsTrueRun nodes s) (sym (get_or-set_other runs slot at run other (λ e. apart (sym e)))) (are.each at other (omega (arith, h, long))))
+      (same_or_not slot at);
+}
+
+-- what a run says from one of its cursors
+pub run_tells : (nodes : List Node) (s : List ℕ) (runs : List Run) (slot : ℕ) (run : Run) (id at : ℕ) → AreTrue nodes s runs → slot < length runs → get_or runs slot run ≡ run →
+    run.id.0 ≡ id → run.from ≤ at → at ≤ run.until → run.end ≡ end_of (tree nodes id) s at 0
+run_tells nodes s runs slot run id at are h is same low high =
+    let one = subst (IsTrueRun nodes s) is (are.each slot run h) in
+    sym (one.ends at low high) ∙ ap (λ n. end_of (tree nodes n) s at 0) same
+
+-- the same where a look says whether there is an end
+pub break_look : (set s : List ℕ) (c d : ℕ) (end : Option ℕ) → end ≡ slice_get (ends (Break set) s c) 0 → c ≤ d → d ≤ unwrap_or end (length s) → slice_get (ends (Break set) s d) 0 ≡ end
+break_look set s c d None at low high = break_none set s c d (sym at) low
+break_look set s c d (Some e) at low high = break_run set s c e d (sym at) low high
+
+pub stop_look : (set s : List ℕ) (c d : ℕ) (end : Option ℕ) → end ≡ slice_get (ends (BreakX set) s c) 0 → c ≤ d → d ≤ unwrap_or end (length s) → slice_get (ends (BreakX set) s d) 0 ≡ end
+stop_look set s c d None at low high = stop_none set s c d (sym at) low
+stop_look set s c d (Some e) at low high = stop_run set s c e d (sym at) low high
+
+-- an entry of BREAKX stands for BREAKX
+pub is_stop : (entries : List Entry) (id : ℕ) (entry : Entry) (set : List ℕ) → IsTable entries → id < length entries → get_or entries id entry ≡ entry → entry.kind ≡ K.BreakX set → tree (nodes_of entries) id ≡ Leaf (BreakX set)
+is_stop entries id entry set t h e is =
+    tree-at (nodes_of entries) id (node_of entry.kind) t.parts (node-at entries id entry h e) ∙ ap (λ (k : Kind). tree_over (trees_onto [] (nodes_of entries)) (node_of k)) is
+
+-- behind an end of BREAKX the next is the first from the byte behind it
+pub stop_next : (pattern : Pattern) (set s : List ℕ) (c i last : ℕ) (end : Option ℕ) → pattern ≡ Leaf (BreakX set) → end ≡ end_of pattern s (last + 1) 0 → end_of pattern s c i ≡ Some last → end ≡ end_of pattern s c (i + 1)
+stop_next pattern set s c i last end is looked at =
+    looked ∙ ap (λ (t : Pattern). end_of t s (last + 1) 0) is ∙ sym (stop_behind set s c i last (sym (ap (λ (t : Pattern). end_of t s c i) is) ∙ at)) ∙ sym (ap (λ (t : Pattern). end_of t s c (i + 1)) is)
+
+-- the first ends of an entry are those of its number
+pub of_entry : (entries : List Entry) (nodes : List Node) (id : ℕ) (entry : Entry) (s : List ℕ) (c : ℕ) → nodes_of entries ≡ nodes → IsTable entries → id < length nodes → get_or entries id entry ≡ entry →
+    end_of_node (node_of entry.kind) s c 0 ≡ end_of (tree nodes id) s c 0
+of_entry entries nodes id entry s c is t h e =
+    let fits : id < length entries = omega (arith, length-nodes entries, ap length is, h) in
+    end_of-kind entries id entry s c 0 t fits e ∙ ap (λ (n : List Node). end_of (tree n id) s c 0) is
+
+-- what was found out of a node is true of its number
+pub run_of_node : (nodes : List Node) (node : Node) (s : List ℕ) (run : Run) → run.id.0 < length nodes → ((c : ℕ) → end_of_node node s c 0 ≡ end_of (tree nodes run.id.0) s c 0) →
+    ((c : ℕ) → run.from ≤ c → c ≤ run.until → end_of_node node s c 0 ≡ run.end) → IsTrueRun nodes s run
+run_of_node nodes node s run known same ends = record { known = λ _. known; ends = λ c low high. sym (same c) ∙ ends c low high }

@@ -1,0 +1,111 @@
+//! What the looks through a subject have found out, so that a later look need not repeat them.
+ghost use Rattle.std.specs.Prelude.{◌≡◌, ℕ, List, ◌<◌, ◌≤◌, length, IfSome};
+ghost use Rattle.sno_pattern.specs.Kinds.{node_of};
+ghost use Rattle.sno_pattern.specs.Looks.{IsTrueRun, AreTrue};
+ghost use Rattle.sno_pattern.specs.Shape.{end_of, end_of_node};
+ghost use Rattle.sno_pattern.specs.Table.{Node, tree};
+
+use crate::kind::Kind;
+use sno_value::PatId;
+use std::marker::Model;
+
+/// How many runs are remembered.
+const RUNS: usize = 8;
+
+/// A run of cursors from each of which the first end of a primitive is the same. There is no cursor in it where `from` is
+/// greater than `until`.
+#[derive(Clone, Copy, Drop)]
+pub(crate) struct Run {
+    pub id: PatId,
+    pub from: usize,
+    pub until: usize,
+    pub end: Option<usize>,
+}
+
+/// What the looks through one subject have found out: the last runs that SPAN, BREAK and BREAKX looked through.
+#[derive(Drop)]
+pub struct Looks {
+    runs: [Run; RUNS],
+}
+
+impl Model for Looks {
+    ghost use Rattle.std.specs.Prelude.{List};
+    ghost use Rattle.sno_pattern.specs.declared.looks.Run.{Run};
+
+    ghost Value = { List Run };
+
+    ghost view = { λ looks. looks.runs };
+}
+
+impl Looks {
+    /// Nothing was looked through. That is true of each subject.
+    pub fn new() -> Looks
+        ensures { (nodes : List Node) (s : List ℕ) → AreTrue nodes s result }
+    {
+        let none = Run {
+            id: PatId(0),
+            from: 1,
+            until: 0,
+            end: None,
+        };
+        Looks { runs: [none; RUNS] }
+    }
+
+    /// The first end of a primitive from a cursor, if the run in this slot tells it.
+    pub(crate) fn recall(&self, slot: usize, id: PatId, at: usize) -> Option<Option<usize>>
+        requires { slot < 8 }
+        ensures { (nodes : List Node) (s : List ℕ) → AreTrue nodes s self.now
+            → IfSome result (λ end. end ≡ end_of (tree nodes id.0) s at 0) }
+    {
+        let run = self.runs[slot];
+        if run.id.0 == id.0 && run.from <= at && at <= run.until {
+            Some(run.end)
+        } else {
+            None
+        }
+    }
+
+    /// Puts a run into a slot, in the place of the one before.
+    pub(crate) fn remember(&mut self, slot: usize, run: Run)
+        requires { slot < 8 }
+        ensures { (nodes : List Node) (s : List ℕ) → AreTrue nodes s self.old → IsTrueRun nodes s run
+            → AreTrue nodes s self.new }
+    {
+        self.runs[slot] = run;
+    }
+}
+
+/// The slot for the first end of a primitive.
+pub(crate) fn slot_of_first(id: PatId) -> usize
+    ensures { result < 8 }
+{
+    id.0 as usize % RUNS
+}
+
+/// The slot for the end behind another, which is never that for the first end of the same primitive.
+pub(crate) fn slot_behind(id: PatId, last: usize) -> usize
+    ensures { result < 8 }
+{
+    (id.0 as usize % RUNS + 1 + last % (RUNS - 1)) % RUNS
+}
+
+/// Whether the first end of a primitive may be so far that it is worth remembering.
+pub(crate) fn is_far(kind: &Kind) -> bool {
+    matches!(kind, Kind::Span(_) | Kind::Break(_) | Kind::BreakX(_))
+}
+
+/// The last cursor of the run that begins at one with this first end.
+pub(crate) fn last_with_end(kind: &Kind, subject: &[u8], at: usize, end: Option<usize>) -> usize
+    requires { end ≡ end_of_node (node_of kind.now) subject.now at 0 }
+    ensures { (c : ℕ) → at ≤ c → c ≤ result → end_of_node (node_of kind.now) subject.now c 0 ≡ end }
+{
+    match kind {
+        Kind::Span(_set) => match end {
+            Some(end) => end.saturating_sub(1),
+            None => at,
+        },
+        Kind::Break(_set) => end.unwrap_or(subject.len()),
+        Kind::BreakX(_set) => end.unwrap_or(subject.len()),
+        _ => at,
+    }
+}
