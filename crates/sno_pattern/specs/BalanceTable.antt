@@ -16,3 +16,7 @@ pub record IsBalanceFrom (from : ℕ) (s table : List ℕ) : Type 0 where
 -- the table has BAL's first end from each cursor before the subject's end
 abbrev pub IsBalanceTable : List ℕ → List ℕ → Type 0
 IsBalanceTable s table = IsBalanceFrom 0 s table
+
+-- a table that was made is the subject's, and one that was not is empty
+pub record IsTableIfMade (s table : List ℕ) : Type 0 where
+  pub made : 0 < length table → IsBalanceTable s table
