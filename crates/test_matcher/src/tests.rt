@@ -4,6 +4,7 @@ mod ends;
 mod forms;
 mod generated;
 mod long_subjects;
+mod looks;
 mod matches;
 mod notation;
 mod patterns;

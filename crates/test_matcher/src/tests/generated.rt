@@ -131,7 +131,7 @@ fn is_same(got: &Told, want: &Told) -> bool {
         && got.pending.as_slice() == want.pending.as_slice()
 }
 
-fn check_same(rt: &impl Abort, got: &[Told], want: &[Told]) {
+pub fn check_same(rt: &impl Abort, got: &[Told], want: &[Told]) {
     assert_eq!(rt; got.len(), want.len());
     for (g, w) in got.iter().zip(want) {
         assert!(rt; is_same(g, w));

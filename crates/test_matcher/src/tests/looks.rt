@@ -1,0 +1,190 @@
+//! What a match remembers of its looks: it tells what the plain search tells, and runs are looked through once.
+ghost use Rattle.std.specs.Prelude.{◌<◌, length};
+
+use super::driver::all_events;
+use super::forms::table_of;
+use super::generated::check_same;
+use super::notation::forms_of;
+use super::reference::search_events;
+use super::rows::parts;
+use sno_match::{CopiedGoals, Event, Matcher, SharedGoals};
+use sno_pattern::{Arg, Looks, Patterns};
+use sno_value::{ExprId, PatId, Prim};
+use std::alloc::Global;
+use std::process::Abort;
+use std::test::Fail;
+
+/// Each row is tried with every limit below this.
+const LIMITS: u32 = 160;
+
+/// Compares what the matcher over either stack and the plain search tell of the row `SUBJECT: FORMS` with this limit. The
+/// first form answers a deferred part, but for the second that is reached, which fails.
+fn compare(
+    rt: &impl Abort,
+    alloc: Global,
+    row: &'static str,
+    anchored: bool,
+    limit: u32,
+) -> Result<(), Fail> {
+    let (subject, words) = parts(row, ": ")?;
+    let subject = subject.as_bytes();
+    let answers = [Some(PatId(0)), None, Some(PatId(0))];
+    let forms = forms_of(alloc, words)?;
+    let (table, pattern) = table_of(alloc, &forms)?;
+    let want = search_events(alloc, &forms, pattern, subject, anchored, limit, &answers)?;
+    let shared = all_events::<SharedGoals>(
+        alloc, &table, pattern, subject, anchored, limit, &answers,
+    )?;
+    check_same(rt, &shared, &want);
+    let copied = all_events::<CopiedGoals>(
+        alloc, &table, pattern, subject, anchored, limit, &answers,
+    )?;
+    check_same(rt, &copied, &want);
+    Ok(())
+}
+
+const RUNS: &str = r"
+AAAA: SPAN:A TEXT:B &:0,1
+AAABAAB: SPAN:A TEXT:B &:0,1
+AAAA: SPAN:A SPAN:A |:0,1 TEXT:B &:2,3
+A,B;C: BREAK:, BREAK:; &:0,1
+A;B,C: BREAK:, BREAK:; &:0,1
+AAAA: BREAK:, BREAK:; |:0,1
+A,A,AA;: BREAK:, LEN:1 &:0,1 BREAK:; &:2,3
+AABBA: SPAN:A TEXT:B |:0,1 ARBNO:2 RPOS:0 &:3,4
+AABCA: SPAN:A TEXT:B |:0,1 ARBNO:2 RPOS:0 &:3,4
+A,B,A,,A: BREAKX:, TEXT:, &:0,1
+A,B,A,,A: BREAKX:, LEN:2 &:0,1 FAIL &:2,3
+A,,B,;: BREAKX:, LEN:1 &:0,1 ARBNO:2 TEXT:; &:3,4
+A,B;A,: BREAKX:, BREAKX:; &:0,1
+AABBAA: SPAN:A *:0 &:0,1 TEXT:B &:2,3
+AABAAB: SPAN:A *:0 |:0,1 TEXT:B &:2,3
+";
+
+/// A ninth primitive takes the slot of the first.
+const PUSHED_OUT: &str = r"
+ABCDEFGHI: SPAN:A SPAN:B SPAN:C SPAN:D SPAN:E SPAN:F SPAN:G SPAN:H SPAN:I &:0,1 &:9,2 &:10,3 &:11,4 &:12,5 &:13,6 &:14,7 &:15,8
+ABBCDEFGHI: SPAN:A SPAN:B SPAN:C SPAN:D SPAN:E SPAN:F SPAN:G SPAN:H SPAN:I &:0,1 &:9,2 &:10,3 &:11,4 &:12,5 &:13,6 &:14,7 &:15,8
+AABBAABB: SPAN:A TEXT: TEXT: TEXT: TEXT: TEXT: TEXT: TEXT: SPAN:B |:0,8 ARBNO:9 TEXT:C &:10,11
+A,B;A,B;: BREAKX:, TEXT: TEXT: TEXT: TEXT: TEXT: TEXT: TEXT: BREAKX:; &:0,8 TEXT:C &:9,10
+";
+
+fn compare_all(rt: &impl Abort, alloc: Global, block: &'static str) -> Result<(), Fail> {
+    for row in block.lines() {
+        if !row.is_empty() {
+            for limit in 0..LIMITS {
+                compare(rt, alloc, row, false, limit)?;
+                compare(rt, alloc, row, true, limit)?;
+            }
+        }
+    }
+    Ok(())
+}
+
+#[test]
+fn remembered_looks_change_no_event(rt: HostRuntime) -> Result<(), Fail> {
+    compare_all(&rt, rt.alloc(), RUNS)
+}
+
+#[test]
+fn runs_are_pushed_out(rt: HostRuntime) -> Result<(), Fail> {
+    compare_all(&rt, rt.alloc(), PUSHED_OUT)
+}
+
+/// How many bytes a long run has. If each start looked through it again, a thousand million bytes would be looked at.
+const LONG: usize = 50_000;
+
+/// A pattern has no way in the subject, which is found out by so many steps.
+fn check_no_way(
+    rt: &impl Abort,
+    alloc: Global,
+    table: &Patterns,
+    pattern: PatId,
+    subject: &[u8],
+    steps: u32,
+) -> Result<(), Fail>
+    requires { pattern.0 < length table.now }
+{
+    let mut m = Matcher::new(alloc, table, pattern, subject, false, 1_000_000)?;
+    let last = m.next(table)?;
+    assert_eq!(rt; last, Event::Exhausted);
+    assert_eq!(rt; m.steps(), steps);
+    Ok(())
+}
+
+/// The forms fail at each start of a long run that a byte follows, behind a look through all that is left of it.
+fn check_long_run(
+    rt: &impl Abort,
+    alloc: Global,
+    words: &'static str,
+    steps: u32,
+) -> Result<(), Fail> {
+    let forms = forms_of(alloc, words)?;
+    let (table, pattern) = table_of(alloc, &forms)?;
+    let mut subject = vec![in alloc; b'A'; LONG]?;
+    subject.push(b',')?;
+    check_no_way(rt, alloc, &table, pattern, &subject, steps)
+}
+
+/// At each start within the run three goals are entered: the concatenation, the primitive and the text. At a start where
+/// the primitive fails two are. Each start but the first is taken up by a step.
+#[test]
+fn long_runs_are_looked_through_once(rt: HostRuntime) -> Result<(), Fail> {
+    check_long_run(&rt, rt.alloc(), "SPAN:A TEXT:B &:0,1", 200_005)?;
+    check_long_run(&rt, rt.alloc(), "BREAK:, TEXT:B &:0,1", 200_006)?;
+    check_long_run(&rt, rt.alloc(), "BREAKX:, TEXT:B &:0,1", 200_006)?;
+    check_long_run(&rt, rt.alloc(), "LEN:1 BREAK:; &:0,1", 200_006)
+}
+
+#[test]
+fn looks_give_the_ends(rt: HostRuntime) -> Result<(), Fail> {
+    let subject = b"AA,A,A";
+    let mut patterns = Patterns::new(rt.alloc());
+    let span = patterns.prim(Prim::Span, Arg::Set(b"A"))?;
+    let stops = patterns.prim(Prim::BreakX, Arg::Set(b","))?;
+    let mut looks = Looks::new();
+    assert_eq!(rt; patterns.look(&mut looks, span, subject, 0), Some(2));
+    assert_eq!(rt; patterns.look(&mut looks, span, subject, 1), Some(2));
+    assert_eq!(rt; patterns.look(&mut looks, span, subject, 2), None);
+    assert_eq!(rt; patterns.look(&mut looks, stops, subject, 0), Some(2));
+    assert_eq!(rt; patterns.look(&mut looks, stops, subject, 3), Some(4));
+    assert_eq!(rt; patterns.look(&mut looks, stops, subject, 5), None);
+    assert_eq!(rt; patterns.look_for_place(&mut looks, span, subject, 2, 7), 3);
+    assert_eq!(rt;
+        patterns.look_for_place(&mut looks, stops, subject, 5, 7),
+        7
+    );
+    Ok(())
+}
+
+/// Asks for the value of `*E`, and answers it by a node that the table got meanwhile.
+fn answer_by_new_node(
+    rt: &impl Abort,
+    alloc: Global,
+    table: &mut Patterns,
+    pattern: PatId,
+) -> Result<(), Fail>
+    requires { pattern.0 < length table.old }
+{
+    let mut m = Matcher::new(alloc, table, pattern, b"AAB", false, 100)?;
+    let asked = m.next(table)?;
+    assert!(rt; matches!(asked, Event::Value { .. }));
+    if !m.is_waiting() {
+        return Err(Fail::from("no value is wanted"));
+    }
+    let tail = table.prim(Prim::Span, Arg::Set(b"B"))?;
+    m.answer(table, Some(tail))?;
+    let way = m.next(table)?;
+    assert_eq!(rt; way, Event::Way { start: 0, end: 3 });
+    Ok(())
+}
+
+/// SPAN('A') *E: behind the answer the table is longer, and what was found out of it before still holds.
+#[test]
+fn a_longer_table_keeps_what_was_found(rt: HostRuntime) -> Result<(), Fail> {
+    let mut table = Patterns::new(rt.alloc());
+    let span = table.prim(Prim::Span, Arg::Set(b"A"))?;
+    let value = table.defer(ExprId(0))?;
+    let pattern = table.cat(span, value)?;
+    answer_by_new_node(&rt, rt.alloc(), &mut table, pattern)
+}
