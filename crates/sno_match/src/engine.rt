@@ -97,7 +97,7 @@ impl<P: Points> Engine<P> {
     {
         let mut points = P::empty(alloc);
         points.begin(Goal::Match(pattern), 0)?;
-        let looks = Looks::new();
+        let looks = Looks::new(alloc);
         Ok(Engine {
             points,
             lent: Snapshot::of(patterns),

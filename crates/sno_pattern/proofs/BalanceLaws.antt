@@ -121,13 +121,13 @@ pub balanced-none : (s : List ℕ) (c e depth : ℕ) → length s ≤ e → IsOp
 balanced-none s c e depth h o = sym (ap (λ (es : List ℕ). slice_get es 0) (o.none_yet ∙ ends_behind-last s c e h))
 
 -- a member of a filtered count, and what stands behind it
-record IsMember (p : ℕ → Bool) (c n k e : ℕ) : Type 0 where
-  above : c ≤ e
-  below : e < c + n
+pub record IsMember (p : ℕ → Bool) (c n k e : ℕ) : Type 0 where
+  pub above : c ≤ e
+  pub below : e < c + n
   passes : p e ≡ true
   next : slice_get (filter p (count_from c n)) (suc k) ≡ slice_get (filter p (count_from (e + 1) (c + n - (e + 1)))) 0
 
-filter-member : (p : ℕ → Bool) (c n k e : ℕ) → slice_get (filter p (count_from c n)) k ≡ Some e → IsMember p c n k e
+pub filter-member : (p : ℕ → Bool) (c n k e : ℕ) → slice_get (filter p (count_from c n)) k ≡ Some e → IsMember p c n k e
 filter-member p c zero k e h = absurd (cc)
 filter-member p c (suc n) k e h = go (p c) refl k h (λ k. filter-member p (c + 1) n k e)
   where

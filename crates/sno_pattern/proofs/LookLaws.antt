@@ -1,18 +1,22 @@
 -- From each cursor of a run the first end is the same.
 use Rattle.std.proofs.Common.{◌≡◌, ◌≢◌, ℕ, zero, suc, ◌+◌, ◌-◌, ◌<◌, ◌≤◌, ◌==◌, Bool, true, false, not, if◌then◌else◌, Some, None, List, [], ◌∷◌, ◌++◌, Option, length, drop, get_or, slice_get, slice_set, refl, sym, ◌∙◌, ap, subst, arith, length-append, ◌⊎◌, inl, inr, ⊎_elim}
 use Rattle.std.specs.Prelude.{unwrap_or}
+use Rattle.std.specs.Option.{is_some}
 use Rattle.std.proofs.lemmas.Bool.{ne_eqb}
 use Rattle.std.proofs.lemmas.List.{drop-drop, get_or-set_same, get_or-set_other, length-set}
-use Rattle.sno_pattern.specs.Pattern.{Pattern, Span, Break, BreakX, Leaf}
+use Rattle.sno_pattern.specs.Pattern.{Pattern, Bal, Span, Break, BreakX, Leaf}
 use Rattle.sno_pattern.specs.Ends.{is_in, end_if, run_length, first_in, ends}
+use Rattle.sno_pattern.specs.Places.{IsFirstPlace, leaf_has_end, has_end}
 use Rattle.sno_pattern.specs.Shape.{end_of, end_of_node}
 use Rattle.sno_pattern.specs.Table.{Node, tree, tree_over, trees_onto}
 use Rattle.sno_pattern.specs.Kinds.{node_of, nodes_of, IsTable}
 use Rattle.sno_pattern.specs.declared.kind.Entry.{Entry}
 use Rattle.sno_pattern.specs.declared.kind.Kind.{Kind}
 use Rattle.sno_pattern.specs.declared.kind.Kind.TheVariants as K
-use Rattle.sno_pattern.specs.Looks.{IsTrueRun, AreTrue}
+use Rattle.sno_pattern.specs.Looks.{IsTrueRun, Found, found_of, AreTrue}
 use Rattle.sno_pattern.specs.declared.looks.Run.{Run}
+use Rattle.sno_pattern.proofs.BalanceLaws.{balanced_next}
+use Rattle.sno_pattern.proofs.PlaceLaws.{same_place, below_or_not}
 use Rattle.sno_pattern.proofs.ShapeLaws.{node-at, end_of-kind}
 use Rattle.sno_pattern.proofs.StopLaws.{all_in-first, stop_behind}
 use Rattle.sno_pattern.proofs.TableLaws.{tree-append, tree-at, length-nodes}
@@ -107,8 +111,8 @@ grown_run nodes more s run is = record {
   ends = λ c low high. ap (λ (t : Pattern). end_of t s c 0) (tree-append nodes more run.id.0 (is.known (omega (arith, low, high)))) ∙ is.ends c low high;
 }
 
-pub true_grown : (nodes more : List Node) (s : List ℕ) (runs : List Run) → AreTrue nodes s runs → AreTrue (nodes ++ more) s runs
-true_grown nodes more s runs are = record { each = λ slot other h. grown_run nodes more s (get_or runs slot other) (are.each slot other h) }
+pub true_grown : (nodes more : List Node) (s : List ℕ) (found : Found) → AreTrue nodes s found → AreTrue (nodes ++ more) s found
+true_grown nodes more s found are = record { eight = are.eight; each = λ slot other h. grown_run nodes more s (get_or found.runs slot other) (are.each slot other h); balance = are.balance }
 
 pub empty_run : (nodes : List Node) (s : List ℕ) (run : Run) → run.until < run.from → IsTrueRun nodes s run
 empty_run nodes s run h = record { known = λ some. absurd (omega arith); ends = λ c low high. absurd (omega arith) }
@@ -120,20 +124,23 @@ same_or_not (suc i) zero = inr (λ e. omega arith)
 same_or_not (suc i) (suc j) = ⊎_elim (λ e. inl (ap suc e)) (λ n. inr (λ e. n (omega arith))) (same_or_not i j)
 
 -- a true run in the place of one
-pub true_put : (nodes : List Node) (s : List ℕ) (runs : List Run) (slot : ℕ) (run : Run) → AreTrue nodes s runs → IsTrueRun nodes s run → AreTrue nodes s (slice_set runs slot run)
-true_put nodes s runs slot run are is = record {
+pub true_put : (nodes : List Node) (s first_ends : List ℕ) (runs : List Run) (slot : ℕ) (run : Run) → AreTrue nodes s (found_of runs first_ends) → IsTrueRun nodes s run → AreTrue nodes s (found_of (slice_set runs slot run) first_ends)
+true_put nodes s first_ends runs slot run are is = record {
+  eight = length-set runs slot run ∙ are.eight;
   each = λ at other h. let long = length-set runs slot run in
       ⊎_elim
       (λ same. rw (← same) (subst (IsTrueRun nodes s) (sym (get_or-set_same runs slot run other (omega (arith, h, long, same)))) is))
       (λ apart. subst (IsTrueRun nodes s) (sym (get_or-set_other runs slot at run other (λ e. apart (sym e)))) (are.each at other (omega (arith, h, long))))
       (same_or_not slot at);
+  balance = are.balance;
 }
 
 -- what a run says from one of its cursors
-pub run_tells : (nodes : List Node) (s : List ℕ) (runs : List Run) (slot : ℕ) (run : Run) (id at : ℕ) → AreTrue nodes s runs → slot < length runs → get_or runs slot run ≡ run →
-    run.id.0 ≡ id → run.from ≤ at → at ≤ run.until → run.end ≡ end_of (tree nodes id) s at 0
-run_tells nodes s runs slot run id at are h is same low high =
-    let one = subst (IsTrueRun nodes s) is (are.each slot run h) in
+pub run_tells : (nodes : List Node) (s first_ends : List ℕ) (runs : List Run) (found : Found) (slot : ℕ) (other : Run) (id at : ℕ) → found_of runs first_ends ≡ found → AreTrue nodes s found → slot < 8 →
+    (get_or runs slot other).id.0 ≡ id → (get_or runs slot other).from ≤ at → at ≤ (get_or runs slot other).until → (get_or runs slot other).end ≡ end_of (tree nodes id) s at 0
+run_tells nodes s first_ends runs found slot other id at is are h same low high =
+    let known = subst (AreTrue nodes s) (sym is) are in
+    let one = known.each slot other (omega (arith, known.eight, h)) in
     sym (one.ends at low high) ∙ ap (λ n. end_of (tree nodes n) s at 0) same
 
 -- the same where a look says whether there is an end
@@ -149,6 +156,34 @@ stop_look set s c d (Some e) at low high = stop_run set s c e d (sym at) low hig
 pub is_stop : (entries : List Entry) (id : ℕ) (entry : Entry) (set : List ℕ) → IsTable entries → id < length entries → get_or entries id entry ≡ entry → entry.kind ≡ K.BreakX set → tree (nodes_of entries) id ≡ Leaf (BreakX set)
 is_stop entries id entry set t h e is =
     tree-at (nodes_of entries) id (node_of entry.kind) t.parts (node-at entries id entry h e) ∙ ap (λ (k : Kind). tree_over (trees_onto [] (nodes_of entries)) (node_of k)) is
+
+-- an entry of BAL stands for BAL
+pub is_bal : (entries : List Entry) (id : ℕ) (entry : Entry) → IsTable entries → id < length entries → get_or entries id entry ≡ entry → entry.kind ≡ K.Bal → tree (nodes_of entries) id ≡ Leaf Bal
+is_bal entries id entry t h e is =
+    tree-at (nodes_of entries) id (node_of entry.kind) t.parts (node-at entries id entry h e) ∙ ap (λ (k : Kind). tree_over (trees_onto [] (nodes_of entries)) (node_of k)) is
+
+-- the first end of BAL is that of its number
+pub bal_first : (pattern : Pattern) (s : List ℕ) (c : ℕ) (end : Option ℕ) → pattern ≡ Leaf Bal → end ≡ slice_get (ends Bal s c) 0 → end ≡ end_of pattern s c 0
+bal_first pattern s c end is looked = looked ∙ sym (ap (λ (t : Pattern). end_of t s c 0) is)
+
+-- behind an end of BAL the next is the first from there
+pub bal_next : (pattern : Pattern) (s : List ℕ) (c i last : ℕ) (end : Option ℕ) → c ≤ length s → pattern ≡ Leaf Bal → end ≡ slice_get (ends Bal s last) 0 → end_of pattern s c i ≡ Some last → end ≡ end_of pattern s c (i + 1)
+bal_next pattern s c i last end h is looked at =
+    let more : suc i ≡ i + 1 = omega arith in
+    looked ∙ sym (balanced_next s c i last h (sym (ap (λ (t : Pattern). end_of t s c i) is) ∙ at)) ∙ ap (λ n. slice_get (ends Bal s c) n) more ∙ sym (ap (λ (t : Pattern). end_of t s c (i + 1)) is)
+
+-- the first place of BAL is that of its number
+pub bal_place : (pattern : Pattern) (s : List ℕ) (from until place : ℕ) → pattern ≡ Leaf Bal → IsFirstPlace (leaf_has_end Bal s) from until place → IsFirstPlace (has_end pattern s) from until place
+bal_place pattern s from until place is first = same_place (leaf_has_end Bal s) (has_end pattern s) from until place (λ c. sym (ap (λ (t : Pattern). has_end t s c) is)) first
+
+-- one place more from which BAL has no end
+pub no_place : (s : List ℕ) (from place : ℕ) (end : Option ℕ) → ((c : ℕ) → from ≤ c → c < place → leaf_has_end Bal s c ≡ false) → end ≡ slice_get (ends Bal s place) 0 → is_some end ≡ false →
+    (c : ℕ) → from ≤ c → c < place + 1 → leaf_has_end Bal s c ≡ false
+no_place s from place end none is fails c low high =
+    ⊎_elim
+    (λ below. none c low below)
+    (λ above. let same : place ≡ c = omega arith in ap (λ d. leaf_has_end Bal s d) (sym same) ∙ ap is_some (sym is) ∙ fails)
+    (below_or_not c place)
 
 -- behind an end of BREAKX the next is the first from the byte behind it
 pub stop_next : (pattern : Pattern) (set s : List ℕ) (c i last : ℕ) (end : Option ℕ) → pattern ≡ Leaf (BreakX set) → end ≡ end_of pattern s (last + 1) 0 → end_of pattern s c i ≡ Some last → end ≡ end_of pattern s c (i + 1)

@@ -3,6 +3,7 @@
 
 mod argument;
 mod balance;
+mod balance_table;
 mod byte_set;
 mod counts;
 mod ends;

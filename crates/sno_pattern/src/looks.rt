@@ -1,12 +1,18 @@
 //! What the looks through a subject have found out, so that a later look need not repeat them.
-ghost use Rattle.std.specs.Prelude.{◌≡◌, ℕ, List, ◌<◌, ◌≤◌, length, IfSome};
+ghost use Rattle.std.specs.Prelude.{◌≡◌, ℕ, List, ◌<◌, ◌≤◌, ◌+◌, length, slice_get, IfSome};
+ghost use Rattle.sno_pattern.specs.BalanceTable.{IsTableIfMade};
+ghost use Rattle.sno_pattern.specs.Ends.{ends};
 ghost use Rattle.sno_pattern.specs.Kinds.{node_of};
 ghost use Rattle.sno_pattern.specs.Looks.{IsTrueRun, AreTrue};
+ghost use Rattle.sno_pattern.specs.Pattern.{Bal};
+ghost use Rattle.sno_pattern.specs.Places.{IsFirstPlace, leaf_has_end};
 ghost use Rattle.sno_pattern.specs.Shape.{end_of, end_of_node};
 ghost use Rattle.sno_pattern.specs.Table.{Node, tree};
 
+use crate::balance_table::Balance;
 use crate::kind::Kind;
 use sno_value::PatId;
+use std::alloc::Global;
 use std::marker::Model;
 
 /// How many runs are remembered.
@@ -22,24 +28,25 @@ pub(crate) struct Run {
     pub end: Option<usize>,
 }
 
-/// What the looks through one subject have found out: the last runs that SPAN, BREAK and BREAKX looked through.
+/// What the looks through one subject have found out: the last runs that SPAN, BREAK and BREAKX looked through, and BAL's
+/// first ends.
 #[derive(Drop)]
 pub struct Looks {
     runs: [Run; RUNS],
+    balance: Balance,
 }
 
 impl Model for Looks {
-    ghost use Rattle.std.specs.Prelude.{List};
-    ghost use Rattle.sno_pattern.specs.declared.looks.Run.{Run};
+    ghost use Rattle.sno_pattern.specs.Looks.{Found, found_of};
 
-    ghost Value = { List Run };
+    ghost Value = { Found };
 
-    ghost view = { λ looks. looks.runs };
+    ghost view = { λ looks. found_of looks.runs looks.balance };
 }
 
 impl Looks {
-    /// Nothing was looked through. That is true of each subject.
-    pub fn new() -> Looks
+    /// Nothing was looked through. That is true of each subject. It takes no memory.
+    pub fn new(alloc: Global) -> Looks
         ensures { (nodes : List Node) (s : List ℕ) → AreTrue nodes s result }
     {
         let none = Run {
@@ -48,7 +55,10 @@ impl Looks {
             until: 0,
             end: None,
         };
-        Looks { runs: [none; RUNS] }
+        Looks {
+            runs: [none; RUNS],
+            balance: Balance::new(alloc),
+        }
     }
 
     /// The first end of a primitive from a cursor, if the run in this slot tells it.
@@ -72,6 +82,36 @@ impl Looks {
             → AreTrue nodes s self.new }
     {
         self.runs[slot] = run;
+    }
+
+    /// BAL's first end from a cursor.
+    pub(crate) fn balanced_end(&mut self, subject: &[u8], at: usize) -> Option<usize>
+        requires at { at ≤ length subject.now }
+        requires balance { IsTableIfMade subject.now self.old.first_ends }
+        ensures looks { (nodes : List Node) → AreTrue nodes subject.now self.old → AreTrue nodes subject.now self.new }
+        ensures balance { IsTableIfMade subject.now self.new.first_ends }
+        ensures value { result ≡ slice_get (ends Bal subject.now at) 0 }
+    {
+        let end = self.balance.first_end(subject, at);
+        end
+    }
+
+    /// The first place of a range from which BAL has an end, or the range's end.
+    pub(crate) fn balanced_place(&mut self, subject: &[u8], from: usize, until: usize) -> usize
+        requires range { from ≤ until }
+        requires inside { until ≤ length subject.now + 1 }
+        requires balance { IsTableIfMade subject.now self.old.first_ends }
+        ensures looks { (nodes : List Node) → AreTrue nodes subject.now self.old → AreTrue nodes subject.now self.new }
+        ensures place { IsFirstPlace (leaf_has_end Bal subject.now) from until result }
+    {
+        let mut place = from;
+        'places: while place < until {
+            if self.balanced_end(subject, place).is_some() {
+                return place;
+            }
+            place += 1;
+        }
+        place
     }
 }
 

@@ -8,7 +8,7 @@ ghost use Rattle.sno_pattern.specs.Built.{Appends};
 ghost use Rattle.sno_pattern.specs.Quiet.{IsQuiet};
 ghost use Rattle.sno_pattern.specs.NextEnd.{ends_of, next_end};
 ghost use Rattle.sno_pattern.specs.Places.{IsFirstPlace, has_end};
-ghost use Rattle.sno_pattern.specs.Looks.{AreTrue, StopsOften};
+ghost use Rattle.sno_pattern.specs.Looks.{AreTrue, IsBal, StopsOften};
 ghost use Rattle.sno_pattern.specs.Kinds.{nodes_of, node_of, IsTable};
 
 use crate::argument::{Arg, among, counted};
@@ -401,6 +401,10 @@ impl Patterns {
             → result ≡ end_of (tree self.now id.0) subject.now at (i + 1) }
         ensures inside { IfSome result (λ e. e ≤ length subject.now) }
     {
+        if self.is_bal(id) {
+            let end = looks.balanced_end(subject, last);
+            return end;
+        }
         if last < subject.len() && self.stops_often(id) {
             let end = self.look_by(looks, slot_behind(id, last), id, subject, last + 1);
             return end;
@@ -428,6 +432,10 @@ impl Patterns {
         ensures looks { AreTrue self.now subject.now looks.new }
         ensures place { IsFirstPlace (has_end (tree self.now id.0) subject.now) from until result }
     {
+        if self.is_bal(id) {
+            let place = looks.balanced_place(subject, from, until);
+            return place;
+        }
         if is_far(&self.entries[id.0 as usize].kind)
             && self.look(looks, id, subject, from).is_some()
         {
@@ -443,6 +451,14 @@ impl Patterns {
         ensures { IsTrue result → StopsOften (tree self.now id.0) }
     {
         matches!(&self.entries[id.0 as usize].kind, Kind::BreakX(_))
+    }
+
+    /// Whether a number's tree is BAL, whose end behind another is its first end from there.
+    fn is_bal(&self, id: PatId) -> bool
+        requires { id.0 < length self.now }
+        ensures { IsTrue result → IsBal (tree self.now id.0) }
+    {
+        matches!(&self.entries[id.0 as usize].kind, Kind::Bal)
     }
 
     /// The first end of a primitive. A run that is looked through is remembered in the slot.
@@ -464,6 +480,10 @@ impl Patterns {
         ensures ahead { IfSome result (λ e. at ≤ e) }
         ensures inside { IfSome result (λ e. e ≤ length subject.now) }
     {
+        if self.is_bal(id) {
+            let end = looks.balanced_end(subject, at);
+            return end;
+        }
         let kind = &self.entries[id.0 as usize].kind;
         if !is_far(kind) {
             let end = self.end_at(id, subject, at, 0);

@@ -69,6 +69,21 @@ AABBAABB: SPAN:A TEXT: TEXT: TEXT: TEXT: TEXT: TEXT: TEXT: SPAN:B |:0,8 ARBNO:9 
 A,B;A,B;: BREAKX:, TEXT: TEXT: TEXT: TEXT: TEXT: TEXT: TEXT: BREAKX:; &:0,8 TEXT:C &:9,10
 ";
 
+/// BAL at the heads of patterns, behind other parts and backed into, so that it is looked for more often than the subject is
+/// long and its ends come from the table.
+const BALANCED: &str = r"
+((((: BAL TEXT:X &:0,1
+(())(): BAL TEXT:X &:0,1
+()()): BAL TEXT:X &:0,1
+(A)(B): BAL BAL &:0,1 TEXT:X &:2,3
+(A(B)C)D)E(: BAL TEXT:X &:0,1
+A)B(C)): BAL BAL |:0,1 TEXT:X &:2,3
+((A)(B): BAL RPOS:0 &:0,1
+((A)(B))(C: LEN:1 BAL &:0,1 BAL &:2,1 TEXT:X &:3,4
+)(A)(: ARB BAL &:0,1 TEXT:X &:2,3
+(A)((B): BAL ARBNO:0 TEXT:X &:1,2
+";
+
 fn compare_all(rt: &impl Abort, alloc: Global, block: &'static str) -> Result<(), Fail> {
     for row in block.lines() {
         if !row.is_empty() {
@@ -84,6 +99,11 @@ fn compare_all(rt: &impl Abort, alloc: Global, block: &'static str) -> Result<()
 #[test]
 fn remembered_looks_change_no_event(rt: HostRuntime) -> Result<(), Fail> {
     compare_all(&rt, rt.alloc(), RUNS)
+}
+
+#[test]
+fn balanced_parts_change_no_event(rt: HostRuntime) -> Result<(), Fail> {
+    compare_all(&rt, rt.alloc(), BALANCED)
 }
 
 #[test]
@@ -142,7 +162,7 @@ fn looks_give_the_ends(rt: HostRuntime) -> Result<(), Fail> {
     let mut patterns = Patterns::new(rt.alloc());
     let span = patterns.prim(Prim::Span, Arg::Set(b"A"))?;
     let stops = patterns.prim(Prim::BreakX, Arg::Set(b","))?;
-    let mut looks = Looks::new();
+    let mut looks = Looks::new(rt.alloc());
     assert_eq!(rt; patterns.look(&mut looks, span, subject, 0), Some(2));
     assert_eq!(rt; patterns.look(&mut looks, span, subject, 1), Some(2));
     assert_eq!(rt; patterns.look(&mut looks, span, subject, 2), None);
