@@ -25,6 +25,9 @@ use std::marker::Model;
 /// How many nodes a table holds at most (this profile).
 pub(crate) const MOST_NODES: usize = 4_000_000;
 
+/// From how many bytes on a run is remembered: a shorter one is looked through again sooner than it is written down.
+const WORTH_KEEPING: usize = 8;
+
 /// Why a builder refuses. The first that fits is told.
 #[derive(Clone, Copy, Debug, Drop, PartialEq, Eq)]
 pub enum BuildError {
@@ -494,7 +497,7 @@ impl Patterns {
         }
         let end = self.end_at(id, subject, at, 0);
         let until = last_with_end(kind, subject, at, end);
-        if at < until {
+        if at + WORTH_KEEPING <= until {
             looks.remember(
                 slot,
                 Run {
