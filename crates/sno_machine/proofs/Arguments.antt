@@ -43,6 +43,7 @@ primitive_at_once kind nodes (stored.Expr id) isnt = absurd (isnt id refl)
 primitive_at_once kind nodes (stored.Name target) isnt = refl
 primitive_at_once kind nodes (stored.Array id) isnt = refl
 primitive_at_once kind nodes (stored.Table id) isnt = refl
+primitive_at_once kind nodes (stored.Data id) isnt = refl
 
 -- a pattern over that of a value
 pub body_refused : (over : Pattern → Pattern) (x : Value) (a b : State) (e : Exit) → Does {X = PatId} tree_of IsPatternOf (as_pattern x) a b (Err e) → Does {X = Stored} shown IsValueOf (and_then (as_pattern x) (λ p. makes_value (over p))) a b (Err e)

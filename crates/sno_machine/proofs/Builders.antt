@@ -42,13 +42,14 @@ made node a b id known only h =
     ap (λ (c : State). shown_objects b.nodes c.store.objects) only ∙ shown_objects_stay a.nodes b.nodes a.store.objects (node ∷ [], h.1) known.objects
     in
     let symbols : b.store.symbols ≡ a.store.symbols = ap (λ (c : State). c.store.symbols) only in
-    let definitions : b.store.definitions ≡ a.store.definitions = ap (λ (c : State). c.store.definitions) only in
+    let types : b.store.types ≡ a.store.types = ap (λ (c : State). c.store.types) only in
+    let functions : b.store.functions ≡ a.store.functions = ap (λ (c : State). c.store.functions) only in
     let calls : b.store.calls ≡ a.store.calls = ap (λ (c : State). c.store.calls) only in
     let held : b.reading.held ≡ a.reading.held = ap (λ (c : State). c.reading.held) only in
     let keywords : b.keywords ≡ a.keywords = ap (λ (c : State). c.keywords) only in
     record {
       grows = (node ∷ [], h.1);
-      meets = λ more. rw (room, count, same, values, objects, symbols, definitions, calls, held, keywords) refl;
+      meets = λ more. rw (room, count, same, values, objects, symbols, types, functions, calls, held, keywords) refl;
       answer = omega arith;
       unread = ap untouched only;
     }

@@ -7,7 +7,9 @@ use Rattle.sno_value.specs.declared.value.Value.TheVariants as stored
 use Rattle.sno_pattern.specs.Table.{Node}
 use Rattle.sno_store.specs.Calls.{saved, saved_symbols, function_value}
 use Rattle.sno_store.specs.Contents.{Contents}
-use Rattle.sno_store.specs.Definitions.{Definition, with_definition}
+use Rattle.sno_store.specs.declared.functions.Function.{Function}
+use Rattle.sno_store.specs.Definitions.{Definition}
+use Rattle.sno_store.specs.Functions.{with_definition}
 use Rattle.sno_store.specs.Outcomes.{IsDefined, IsEntered}
 use Rattle.sno_store.specs.declared.error.StoreError.{StoreError}
 use Rattle.sno_store.specs.declared.error.StoreError.TheVariants.{NullName, Full, WrongType, BadPrototype, CallLevel, NoMemory}
@@ -31,21 +33,21 @@ saved_shown nodes function d values = saved_map (shown nodes) (stored.Str []) fu
 
 -- DEFINE
 
-nulls_shown : (nodes : List Node) (n : ℕ) → map (shown nodes) (replicate n (stored.Str [])) ≡ replicate n (Str [])
+pub nulls_shown : (nodes : List Node) (n : ℕ) → map (shown nodes) (replicate n (stored.Str [])) ≡ replicate n (Str [])
 nulls_shown nodes zero = refl
 nulls_shown nodes (suc n) = ap (λ vs. Str [] ∷ vs) (nulls_shown nodes n)
 
-more_shown : (nodes : List Node) (values : List Stored) (n : ℕ) → map (shown nodes) (values ++ replicate n (stored.Str [])) ≡ map (shown nodes) values ++ replicate n (Str [])
+pub more_shown : (nodes : List Node) (values : List Stored) (n : ℕ) → map (shown nodes) (values ++ replicate n (stored.Str [])) ≡ map (shown nodes) values ++ replicate n (Str [])
 more_shown nodes values n = map-append (shown nodes) values (replicate n (stored.Str [])) ∙ ap (λ vs. map (shown nodes) values ++ vs) (nulls_shown nodes n)
 
 pub defined : (s : State) (new : Contents) (text entry : List ℕ) (done : Unit {0}) → IsDefined text entry s.store new (Ok done) → Does itself any (defines text entry) s (record s { store = new }) (Ok done)
 defined s new text entry done h = record {
   grows = grows_none s.nodes;
   meets = λ more.
-      ap (λ (r : Result (List (List ℕ) × List (Option Definition)) ℕ). after_definition r (world s more)) h.0
+      ap (λ (r : Result (List (List ℕ) × List Function) ℕ). after_definition r (world s more)) h.0
       ∙ ((λ i. record {
         ending = Got tt;
-        world = record (world s more) { symbols = new.symbols; definitions = new.definitions; values = sym (more_shown s.nodes s.store.values (length new.symbols - length s.store.symbols)) i };
+        world = record (world s more) { symbols = new.symbols; functions = new.functions; values = sym (more_shown s.nodes s.store.values (length new.symbols - length s.store.symbols)) i };
         wrote = [];
       })
       ∙ ap (λ (c : Contents). record { ending = Got tt; world = world (record s { store = c }) more; wrote = [] }) (sym h.1));
@@ -53,11 +55,11 @@ defined s new text entry done h = record {
   unread = calls_untouched s new (ap (λ (c : Contents). c.calls) h.1);
 }
 
-refused_with : (s : State) (new : Contents) (text entry : List ℕ) (code : ℕ) → new ≡ s.store → with_definition text entry s.store.symbols s.store.definitions ≡ Err code
+refused_with : (s : State) (new : Contents) (text entry : List ℕ) (code : ℕ) → new ≡ s.store → with_definition text entry s.store.symbols s.store.functions ≡ Err code
     → Does {X = Unit {0}} itself any (defines text entry) s (record s { store = new }) (Err (Halt (HasError code)))
 refused_with s new text entry code same is =
     let ended : (more : List ℕ) → defines text entry (world s more) ≡ record { ending = Stops (Error code); world = world s more; wrote = [] } =
-    λ more. ap (λ (r : Result (List (List ℕ) × List (Option Definition)) ℕ). after_definition r (world s more)) is
+    λ more. ap (λ (r : Result (List (List ℕ) × List Function) ℕ). after_definition r (world s more)) is
     in
     record {
       grows = grows_none s.nodes;
@@ -76,10 +78,11 @@ not_defined s new text entry NoMemory h = no_memory_does itself any (defines tex
 
 pub defined_known : (nodes : List Node) (old new : Contents) (text entry : List ℕ) (done : Unit {0}) → length text ≤ 1_000_000 → IsKnown nodes old → IsDefined text entry old new (Ok done) → IsKnown nodes new
 defined_known nodes old new text entry done short k h = subst (IsKnown nodes) (sym h.1) (record {
-  symbols = defined_short 1_000_000 text entry old.symbols old.definitions (new.symbols, new.definitions) h.0 short k.symbols;
-  numbered = defined_numbered text entry old.symbols old.definitions (new.symbols, new.definitions) h.0 k.numbered;
+  symbols = defined_short 1_000_000 text entry old.symbols old.functions (new.symbols, new.functions) h.0 short k.symbols;
+  numbered = defined_numbered text entry old.symbols old.functions (new.symbols, new.functions) h.0 k.numbered;
   values = all_append (IsValueOf nodes) old.values (replicate (length new.symbols - length old.symbols) (stored.Str [])) k.values (all_same (IsValueOf nodes) (length new.symbols - length old.symbols) (stored.Str []) (omega arith));
   objects = k.objects;
+  types = k.types;
   calls = k.calls;
 })
 

@@ -56,6 +56,7 @@ module _ (nodes : List Node) where
     numbered = k.numbered;
     values = arguments_known d.formals arguments (with_nulls (stored.Str []) (function ∷ d.locals) old.values) a (nulls_known (function ∷ d.locals) old.values k.values);
     objects = k.objects;
+    types = k.types;
     calls = all_end AllSaved old.calls (saved (stored.Str []) function d old.values) k.calls (saved_known (saved_symbols function d) old.values k.values);
   })
 
@@ -65,4 +66,4 @@ module _ (nodes : List Node) where
   pub left_known : (calls : List (List (ℕ × Stored))) (call : List (ℕ × Stored)) (old new : Contents) → IsKnown nodes old → old.calls ≡ calls ++ call ∷ [] → new ≡ without_call calls call old → IsKnown nodes new
   left_known calls call old new k has is =
       let parts = all_front AllSaved calls call (subst (AllByRecursion AllSaved) has k.calls) in
-      subst (IsKnown nodes) (sym is) (record { symbols = k.symbols; numbered = k.numbered; values = restored_known call old.values parts.1 k.values; objects = k.objects; calls = parts.0 })
+      subst (IsKnown nodes) (sym is) (record { symbols = k.symbols; numbered = k.numbered; values = restored_known call old.values parts.1 k.values; objects = k.objects; types = k.types; calls = parts.0 })

@@ -95,6 +95,7 @@ text_there nodes (stored.Expr id) h none = cc
 text_there nodes (stored.Name target) h none = cc
 text_there nodes (stored.Array id) h none = cc
 text_there nodes (stored.Table id) h none = cc
+text_there nodes (stored.Data id) h none = cc
 
 pub text_none : (nodes : List Node) (v : Stored) → has_text v ≡ false → text_of (shown nodes v) ≡ None
 text_none nodes (stored.Str bytes) h = absurd (cc)
@@ -104,6 +105,7 @@ text_none nodes (stored.Expr id) h = refl
 text_none nodes (stored.Name target) h = refl
 text_none nodes (stored.Array id) h = refl
 text_none nodes (stored.Table id) h = refl
+text_none nodes (stored.Data id) h = refl
 
 pub concatenation_else : (x y : Value) → is_null x ≡ false → is_null y ≡ false → concatenation x y ≡ joined (text_of x) (text_of y) x y
 concatenation_else x y h k = rw (h, k) refl

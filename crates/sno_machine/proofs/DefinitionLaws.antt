@@ -4,7 +4,10 @@ use Rattle.std.specs.List.{AllByRecursion, slice_split, onto_first}
 use Rattle.std.proofs.lemmas.List.{length-drop}
 use Rattle.sno_store.specs.Arrays.{is_comma}
 use Rattle.sno_store.specs.Contents.{place, is_symbol}
-use Rattle.sno_store.specs.Definitions.{Definition, Prototype, prototype, prototype_in, lists_of, listed, names, with_names, is_sound, definition, defined, definition_by, definition_in, with_definition}
+use Rattle.sno_store.specs.declared.functions.Function.{Function}
+use Rattle.sno_store.specs.declared.functions.Function.TheVariants.{Defined}
+use Rattle.sno_store.specs.Definitions.{Prototype, prototype, prototype_in, lists_of, listed, names, with_names, is_sound, definition}
+use Rattle.sno_store.specs.Functions.{with_function, definition_by, definition_in, with_definition}
 use Rattle.sno_machine.proofs.Members.{all_end, all_append}
 use Rattle.sno_machine.proofs.Numbered.{IsNumbered, numbered_with}
 
@@ -12,7 +15,7 @@ use Rattle.sno_machine.proofs.Numbered.{IsNumbered, numbered_with}
 abbrev pub AreShort : ℕ → List (List ℕ) → Type 0
 AreShort n texts = AllByRecursion (λ text. length text ≤ n) texts
 
-short_more : (n m : ℕ) (texts : List (List ℕ)) → n ≤ m → AreShort n texts → AreShort m texts
+pub short_more : (n m : ℕ) (texts : List (List ℕ)) → n ≤ m → AreShort n texts → AreShort m texts
 short_more n m [] le h = tt
 short_more n m (text ∷ texts) le h = (let short = h.0 in omega arith, short_more n m texts le h.1)
 
@@ -62,12 +65,12 @@ names_in_text n text p (Some k) h is =
     names_in_lists n (take k text) (drop (k + 1) text) p (position (λ b. b == 41) (drop (k + 1) text)) (omega arith) (omega arith) is
 
 -- the names of a prototype
-names_short : (n : ℕ) (text : List ℕ) (p : Prototype) → length text ≤ n → prototype text ≡ Some p → AreShort n (names p)
+pub names_short : (n : ℕ) (text : List ℕ) (p : Prototype) → length text ≤ n → prototype text ≡ Some p → AreShort n (names p)
 names_short n text p h is = names_in_text n text p (position (λ b. b == 40) text) h is
 
 -- names that join
 
-joined_numbered : (ns symbols : List (List ℕ)) → IsNumbered symbols → IsNumbered (with_names ns symbols)
+pub joined_numbered : (ns symbols : List (List ℕ)) → IsNumbered symbols → IsNumbered (with_names ns symbols)
 joined_numbered [] symbols k = k
 joined_numbered (name ∷ ns) symbols k = joined_numbered ns (if is_symbol name symbols then symbols else symbols ++ name ∷ []) (by (is_symbol name symbols) refl)
   where
@@ -75,7 +78,7 @@ joined_numbered (name ∷ ns) symbols k = joined_numbered ns (if is_symbol name 
     by true is = k
     by false is = numbered_with name symbols is k
 
-joined_short : (n : ℕ) (ns symbols : List (List ℕ)) → AreShort n ns → AreShort n symbols → AreShort n (with_names ns symbols)
+pub joined_short : (n : ℕ) (ns symbols : List (List ℕ)) → AreShort n ns → AreShort n symbols → AreShort n (with_names ns symbols)
 joined_short n [] symbols h k = k
 joined_short n (name ∷ ns) symbols h k = joined_short n ns (if is_symbol name symbols then symbols else symbols ++ name ∷ []) h.1 (by (is_symbol name symbols))
   where
@@ -88,37 +91,37 @@ data HasNames (text : List ℕ) (symbols new : List (List ℕ)) : Type 0 where
   has_names : (p : Prototype) → prototype text ≡ Some p → new ≡ with_names (names p) symbols → HasNames text symbols new
 
 abbrev Told : Type 0
-Told = Result (List (List ℕ) × List (Option Definition)) ℕ
+Told = Result (List (List ℕ) × List Function) ℕ
 
-abbrev made_by : List ℕ → List (List ℕ) → List (Option Definition) → Prototype → List (List ℕ) × List (Option Definition)
-made_by entry symbols definitions p = (with_names (names p) symbols, defined (place p.function (with_names (names p) symbols)) (definition entry p (with_names (names p) symbols)) definitions)
+abbrev made_by : List ℕ → List (List ℕ) → List Function → Prototype → List (List ℕ) × List Function
+made_by entry symbols functions p = (with_names (names p) symbols, with_function (place p.function (with_names (names p) symbols)) (Defined (definition entry p (with_names (names p) symbols))) functions)
 
-defined_names : (text entry : List ℕ) (symbols : List (List ℕ)) (definitions : List (Option Definition)) (new : List (List ℕ) × List (Option Definition)) → with_definition text entry symbols definitions ≡ Ok new → HasNames text symbols new.0
-defined_names text entry symbols definitions new is = by (prototype text) refl is
+defined_names : (text entry : List ℕ) (symbols : List (List ℕ)) (functions : List Function) (new : List (List ℕ) × List Function) → with_definition text entry symbols functions ≡ Ok new → HasNames text symbols new.0
+defined_names text entry symbols functions new is = by (prototype text) refl is
   where
-    within : (p : Prototype) (many : Bool) → prototype text ≡ Some p → if◌then◌else◌ {A = Told} many (Err 9) (Ok (made_by entry symbols definitions p)) ≡ Ok new → HasNames text symbols new.0
+    within : (p : Prototype) (many : Bool) → prototype text ≡ Some p → if◌then◌else◌ {A = Told} many (Err 9) (Ok (made_by entry symbols functions p)) ≡ Ok new → HasNames text symbols new.0
     within p true has is = absurd (cc is)
     within p false has is =
-        let same : made_by entry symbols definitions p ≡ new = cc is in
-        has_names p has (sym (ap (λ (made : List (List ℕ) × List (Option Definition)). made.0) same))
+        let same : made_by entry symbols functions p ≡ new = cc is in
+        has_names p has (sym (ap (λ (made : List (List ℕ) × List Function). made.0) same))
 
-    sound : (p : Prototype) (b : Bool) → prototype text ≡ Some p → if◌then◌else◌ {A = Told} b (definition_in entry p (with_names (names p) symbols) definitions) (Err 12) ≡ Ok new → HasNames text symbols new.0
+    sound : (p : Prototype) (b : Bool) → prototype text ≡ Some p → if◌then◌else◌ {A = Told} b (definition_in entry p (with_names (names p) symbols) functions) (Err 12) ≡ Ok new → HasNames text symbols new.0
     sound p true has is = within p (nat_lt 1_000_000 (length (with_names (names p) symbols))) has is
     sound p false has is = absurd (cc is)
 
-    by : (o : Option Prototype) → prototype text ≡ o → definition_by entry symbols definitions o ≡ Ok new → HasNames text symbols new.0
+    by : (o : Option Prototype) → prototype text ≡ o → definition_by entry symbols functions o ≡ Ok new → HasNames text symbols new.0
     by None has is = absurd (cc is)
     by (Some p) has is = sound p (is_sound p) has is
 
-pub defined_numbered : (text entry : List ℕ) (symbols : List (List ℕ)) (definitions : List (Option Definition)) (new : List (List ℕ) × List (Option Definition)) → with_definition text entry symbols definitions ≡ Ok new → IsNumbered symbols → IsNumbered new.0
-defined_numbered text entry symbols definitions new is k = by (defined_names text entry symbols definitions new is)
+pub defined_numbered : (text entry : List ℕ) (symbols : List (List ℕ)) (functions : List Function) (new : List (List ℕ) × List Function) → with_definition text entry symbols functions ≡ Ok new → IsNumbered symbols → IsNumbered new.0
+defined_numbered text entry symbols functions new is k = by (defined_names text entry symbols functions new is)
   where
     by : HasNames text symbols new.0 → IsNumbered new.0
     by (has_names p has same) = subst IsNumbered (sym same) (joined_numbered (names p) symbols k)
 
-pub defined_short : (n : ℕ) (text entry : List ℕ) (symbols : List (List ℕ)) (definitions : List (Option Definition)) (new : List (List ℕ) × List (Option Definition)) → with_definition text entry symbols definitions ≡ Ok new → length text ≤ n
+pub defined_short : (n : ℕ) (text entry : List ℕ) (symbols : List (List ℕ)) (functions : List Function) (new : List (List ℕ) × List Function) → with_definition text entry symbols functions ≡ Ok new → length text ≤ n
     → AreShort n symbols → AreShort n new.0
-defined_short n text entry symbols definitions new is short k = by (defined_names text entry symbols definitions new is)
+defined_short n text entry symbols functions new is short k = by (defined_names text entry symbols functions new is)
   where
     by : HasNames text symbols new.0 → AreShort n new.0
     by (has_names p has same) = subst (AreShort n) (sym same) (joined_short n (names p) symbols (names_short n text p short has) k)

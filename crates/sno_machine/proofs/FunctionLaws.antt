@@ -7,13 +7,9 @@ use Rattle.std.proofs.lemmas.List.{length-append, length-map}
 use Rattle.sno_value.specs.Strings.{trimmed, copies, duplicate, can_replace, replacement, replaced}
 use Rattle.sno_value.specs.declared.strings.TextError.TheVariants.{TooLong}
 use Rattle.sno_value.specs.declared.arithmetic.Arith.{Arith}
-use Rattle.sno_value.specs.declared.value.Value.{Value as Stored}
-use Rattle.sno_value.specs.declared.value.Value.TheVariants as stored
-use Rattle.sno_pattern.specs.Table.{Node}
 use Rattle.sno_machine.specs.Action.{Action, either}
-use Rattle.sno_machine.specs.Values.{Value, shown}
+use Rattle.sno_machine.specs.Values.{Value}
 use Rattle.sno_machine.specs.Numbers.{on_numbers}
-use Rattle.sno_machine.specs.Functions.{type_name}
 use Rattle.sno_machine.specs.Variables.{wrong_type}
 
 pub absent : {A : Type 0} (x : Option A) (some : A → Action Value) → x ≡ None → either wrong_type some x ≡ wrong_type
@@ -64,12 +60,3 @@ replaced_where false f text bytes is = absurd (cc)
 pub length-replaced : (text froms tos bytes : List ℕ) → replaced text froms tos ≡ Some bytes → length bytes ≡ length text
 unfolding replaced
 length-replaced text froms tos bytes is = replaced_where (can_replace froms tos) (replacement froms tos) text bytes is
-
-pub length-type_name : (nodes : List Node) (v : Stored) → length (type_name (shown nodes v)) ≤ 1_000_000
-length-type_name nodes (stored.Str bytes) = omega arith
-length-type_name nodes (stored.Int number) = omega arith
-length-type_name nodes (stored.Pat id) = omega arith
-length-type_name nodes (stored.Expr id) = omega arith
-length-type_name nodes (stored.Name target) = omega arith
-length-type_name nodes (stored.Array id) = omega arith
-length-type_name nodes (stored.Table id) = omega arith

@@ -121,6 +121,7 @@ no_item nodes (stored.Expr id) subscripts a t = refl
 no_item nodes (stored.Name target) subscripts a t = refl
 no_item nodes (stored.Array id) subscripts a t = absurd (a id refl)
 no_item nodes (stored.Table id) subscripts a t = absurd (t id refl)
+no_item nodes (stored.Data id) subscripts a t = refl
 
 pub no_item_name : (nodes : List Node) (x : Stored) (subscripts : List Value) → ((id : ObjId) → x ≡ stored.Array id → ⊥) → ((id : ObjId) → x ≡ stored.Table id → ⊥) → item_named (shown nodes x) subscripts ≡ wrong_type
 no_item_name nodes (stored.Str bytes) subscripts a t = refl
@@ -130,3 +131,4 @@ no_item_name nodes (stored.Expr id) subscripts a t = refl
 no_item_name nodes (stored.Name target) subscripts a t = refl
 no_item_name nodes (stored.Array id) subscripts a t = absurd (a id refl)
 no_item_name nodes (stored.Table id) subscripts a t = absurd (t id refl)
+no_item_name nodes (stored.Data id) subscripts a t = refl

@@ -12,6 +12,8 @@ pub mod CallLaws
 pub mod CallsKnown
 pub mod DefinitionLaws
 pub mod Calls
+pub mod TypeLaws
+pub mod FieldLaws
 pub mod Reading
 pub mod InputLaws
 pub mod Performing

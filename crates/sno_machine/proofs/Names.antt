@@ -29,6 +29,7 @@ named_by_text nodes (stored.Expr id) isnt = refl
 named_by_text nodes (stored.Name target) isnt = absurd (isnt target refl)
 named_by_text nodes (stored.Array id) isnt = refl
 named_by_text nodes (stored.Table id) isnt = refl
+named_by_text nodes (stored.Data id) isnt = refl
 
 pub unnamed : (o : Option (List ℕ)) → o ≡ None → either wrong_type variable_named o ≡ wrong_type
 unnamed o h = rw h refl

@@ -6,7 +6,7 @@ use Rattle.std.proofs.lemmas.Slice.Eq.{bytes_eq-Decides}
 use Rattle.std.proofs.Math.ListN.{get_or-append}
 use Rattle.std.proofs.Math.Seq.{get_or-append_seam}
 use Rattle.std.proofs.lemmas.List.{length-append, get_or_past}
-use Rattle.sno_store.specs.Contents.{Contents, place, is_symbol, new_contents}
+use Rattle.sno_store.specs.Contents.{place, is_symbol, new_contents}
 
 abbrev pub IsNumbered : List (List ℕ) → Type 0
 IsNumbered symbols = (i : ℕ) → i < length symbols → place (slice_index_or symbols i []) symbols ≡ i

@@ -32,6 +32,7 @@ null_shown nodes (stored.Expr id) = refl
 null_shown nodes (stored.Name target) = refl
 null_shown nodes (stored.Array id) = refl
 null_shown nodes (stored.Table id) = refl
+null_shown nodes (stored.Data id) = refl
 
 key_shown : (nodes : List Node) (v : Stored) → may_be_key (shown nodes v) ≡ is_key v
 key_shown nodes (stored.Str bytes) = refl
@@ -41,6 +42,7 @@ key_shown nodes (stored.Expr id) = refl
 key_shown nodes (stored.Name target) = refl
 key_shown nodes (stored.Array id) = refl
 key_shown nodes (stored.Table id) = refl
+key_shown nodes (stored.Data id) = refl
 
 same_shown : (nodes : List Node) (v w : Stored) → is_key v ≡ true → is_same_key (shown nodes v) (shown nodes w) ≡ same_key v w
 same_shown nodes (stored.Str x) (stored.Str y) is = refl
@@ -50,6 +52,7 @@ same_shown nodes (stored.Str x) (stored.Expr y) is = refl
 same_shown nodes (stored.Str x) (stored.Name y) is = refl
 same_shown nodes (stored.Str x) (stored.Array y) is = refl
 same_shown nodes (stored.Str x) (stored.Table y) is = refl
+same_shown nodes (stored.Str x) (stored.Data y) is = refl
 same_shown nodes (stored.Int x) (stored.Str y) is = refl
 same_shown nodes (stored.Int x) (stored.Int y) is = refl
 same_shown nodes (stored.Int x) (stored.Pat y) is = refl
@@ -57,6 +60,7 @@ same_shown nodes (stored.Int x) (stored.Expr y) is = refl
 same_shown nodes (stored.Int x) (stored.Name y) is = refl
 same_shown nodes (stored.Int x) (stored.Array y) is = refl
 same_shown nodes (stored.Int x) (stored.Table y) is = refl
+same_shown nodes (stored.Int x) (stored.Data y) is = refl
 same_shown nodes (stored.Pat x) w is = absurd (cc is)
 same_shown nodes (stored.Expr x) w is = absurd (cc is)
 same_shown nodes (stored.Name x) (stored.Str y) is = refl
@@ -66,6 +70,7 @@ same_shown nodes (stored.Name x) (stored.Expr y) is = refl
 same_shown nodes (stored.Name x) (stored.Name y) is = refl
 same_shown nodes (stored.Name x) (stored.Array y) is = refl
 same_shown nodes (stored.Name x) (stored.Table y) is = refl
+same_shown nodes (stored.Name x) (stored.Data y) is = refl
 same_shown nodes (stored.Array x) (stored.Str y) is = refl
 same_shown nodes (stored.Array x) (stored.Int y) is = refl
 same_shown nodes (stored.Array x) (stored.Pat y) is = refl
@@ -73,6 +78,7 @@ same_shown nodes (stored.Array x) (stored.Expr y) is = refl
 same_shown nodes (stored.Array x) (stored.Name y) is = refl
 same_shown nodes (stored.Array x) (stored.Array y) is = refl
 same_shown nodes (stored.Array x) (stored.Table y) is = refl
+same_shown nodes (stored.Array x) (stored.Data y) is = refl
 same_shown nodes (stored.Table x) (stored.Str y) is = refl
 same_shown nodes (stored.Table x) (stored.Int y) is = refl
 same_shown nodes (stored.Table x) (stored.Pat y) is = refl
@@ -80,6 +86,15 @@ same_shown nodes (stored.Table x) (stored.Expr y) is = refl
 same_shown nodes (stored.Table x) (stored.Name y) is = refl
 same_shown nodes (stored.Table x) (stored.Array y) is = refl
 same_shown nodes (stored.Table x) (stored.Table y) is = refl
+same_shown nodes (stored.Table x) (stored.Data y) is = refl
+same_shown nodes (stored.Data x) (stored.Str y) is = refl
+same_shown nodes (stored.Data x) (stored.Int y) is = refl
+same_shown nodes (stored.Data x) (stored.Pat y) is = refl
+same_shown nodes (stored.Data x) (stored.Expr y) is = refl
+same_shown nodes (stored.Data x) (stored.Name y) is = refl
+same_shown nodes (stored.Data x) (stored.Array y) is = refl
+same_shown nodes (stored.Data x) (stored.Table y) is = refl
+same_shown nodes (stored.Data x) (stored.Data y) is = refl
 
 pub shown_agrees : (nodes : List Node) → Agrees (shown nodes) stored_notions notions
 shown_agrees nodes = record { null = refl; is_null = null_shown nodes; is_key = key_shown nodes; same = same_shown nodes }
@@ -128,7 +143,7 @@ left_known nodes x objects r is h = subst (λ r. Leaves nodes r) is h
 pub done_known : {X : Type 0} (nodes : List Node) (old new : Contents) (operation : List (Object Stored) → Result (X × List (Object Stored)) ℕ) (r : Result X StoreError)
     → IsKnown nodes old → Leaves nodes (operation old.objects) → IsDone as_told operation old new r → IsKnown nodes new
 done_known nodes old new operation (Ok x) k leaves h =
-    subst (IsKnown nodes) (sym h.1) (record { symbols = k.symbols; numbered = k.numbered; values = k.values; objects = left_known nodes x new.objects (operation old.objects) h.0 leaves; calls = k.calls })
+    subst (IsKnown nodes) (sym h.1) (record { symbols = k.symbols; numbered = k.numbered; values = k.values; objects = left_known nodes x new.objects (operation old.objects) h.0 leaves; types = k.types; calls = k.calls })
 done_known nodes old new operation (Err e) k leaves h = subst (IsKnown nodes) (sym h.1) k
 
 -- a question to the objects

@@ -1,16 +1,16 @@
 -- Operations on arrays and tables, of values that are turned into others.
-use Rattle.std.proofs.Common.{◌≡◌, ℕ, zero, suc, ◌+◌, ◌==◌, nat_lt, ℤ, pos, Bool, true, false, not, cond, List, [], ◌∷◌, ◌++◌, codes, if◌then◌else◌, length, map, filter, position, replicate, option_map, refl, ap, sym, ◌∙◌, Option, None, Some, Result, Ok, Err}
+use Rattle.std.proofs.Common.{◌≡◌, ℕ, zero, suc, ◌+◌, ◌==◌, nat_lt, ℤ, Bool, true, false, not, cond, List, [], ◌∷◌, ◌++◌, codes, if◌then◌else◌, length, map, position, replicate, slice_get, option_map, refl, ap, ◌∙◌, Option, None, Some, Result, Ok, Err}
 use Rattle.std.specs.Fmt.{decimal}
 use Rattle.std.specs.List.{position_or_len, prefix_len}
 use Rattle.std.proofs.lemmas.List.{length-map}
 use Rattle.sno_value.specs.declared.ids.ObjId.{ObjId}
-use Rattle.sno_value.specs.declared.value.Name.{Name as Target}
-use Rattle.sno_value.specs.declared.value.Name.TheVariants.{Elem, Entry}
-use Rattle.sno_store.specs.Objects.{Dimensions, Elements, Object, ArrayOf, TableOf, array_at, table_at, changed, joined}
-use Rattle.sno_store.specs.Arrays.{dimensions_of, element_count, element_place, array_from, filled_array, new_array, element_of, element_name, text_of, prototype_of}
+use Rattle.sno_value.specs.declared.value.Name.TheVariants.{Entry, Field}
+use Rattle.sno_store.specs.Objects.{Dimensions, Elements, Object, ArrayOf, TableOf, DataOf, array_at, table_at, changed, joined}
+use Rattle.sno_store.specs.Arrays.{dimensions_of, element_count, array_from, filled_array, new_array, element_of, element_name, text_of, prototype_of}
 use Rattle.sno_store.specs.Tables.{Notions, up_to, new_table, rows, some_id, array_of_rows, entry_place, entries_for, entry_in, find_entry, entry_or_new, entry_into, make_entry, filled, array_of_table, table_to_array}
+use Rattle.sno_store.specs.Types.{DataType, type_fields, type_with, type_text, field_name, type_name, field_values, new_data}
 use Rattle.sno_machine.specs.Values.{map_elements, map_entry, map_object}
-use Rattle.sno_machine.proofs.Objects.{mapped, map_made, array_at_map, table_at_map, changed_map, joined_map}
+use Rattle.sno_machine.proofs.Objects.{mapped, map_made, array_at_map, table_at_map, type_at_map, changed_map, joined_map}
 
 -- tables ask the same of both kinds of values
 pub record Agrees {V W : Type 0} (f : V → W) (a : Notions V) (b : Notions W) : Type 0 where
@@ -58,6 +58,24 @@ module _ {V W : Type 0} (f : V → W) where
 
   pub new_table_map : (objects : List (Object V)) → new_table (mapped f objects) ≡ map_made f (new_table objects)
   new_table_map objects = joined_map f (TableOf []) objects
+
+  -- objects of a program's own types
+
+  field_values_map : (null : V) (n : ℕ) (values : List V) → field_values (f null) n (map f values) ≡ map f (field_values null n values)
+  field_values_map null zero values = refl
+  field_values_map null (suc n) [] = ap (λ vs. f null ∷ vs) (field_values_map null n [])
+  field_values_map null (suc n) (value ∷ values) = ap (λ vs. f value ∷ vs) (field_values_map null n values)
+
+  pub new_data_map : (null : V) (types : List DataType) (number : ℕ) (values : List V) (objects : List (Object V)) → new_data (f null) types number (map f values) (mapped f objects) ≡ map_made f (new_data null types number values objects)
+  new_data_map null types number values objects =
+      let n = length (type_fields (slice_get types number)) in
+      ap (λ vs. joined (DataOf number vs) (mapped f objects)) (field_values_map null n values) ∙ joined_map f (DataOf number (field_values null n values)) objects
+
+  pub field_name_map : (types : List DataType) (objects : List (Object V)) (id : ObjId) (symbol : ℕ) → field_name types (mapped f objects) id symbol ≡ field_name types objects id symbol
+  field_name_map types objects id symbol = ap (λ o. option_map (Field id) (position (λ field. field == symbol) (type_fields (type_with types o)))) (type_at_map f objects id)
+
+  pub type_name_map : (types : List DataType) (objects : List (Object V)) (id : ObjId) → type_name types (mapped f objects) id ≡ type_name types objects id
+  type_name_map types objects id = ap (λ o. type_text (type_with types o)) (type_at_map f objects id)
 
   module _ (a : Notions V) (b : Notions W) (agrees : Agrees f a b) where
     passed_map : (t : W → Bool) (u : V → Bool) → ((v : V) → t (f v) ≡ u v) → (entries : List (V × V)) → prefix_len t (map (λ entry. entry.0) (map (map_entry f) entries)) ≡ prefix_len u (map (λ entry. entry.0) entries)

@@ -10,11 +10,12 @@ use Rattle.sno_value.specs.declared.ids.ObjId.{ObjId}
 use Rattle.sno_value.specs.declared.value.Value.{Value as Stored}
 use Rattle.sno_value.specs.declared.value.Value.TheVariants as stored
 use Rattle.sno_pattern.specs.Table.{Node}
-use Rattle.sno_store.specs.Objects.{Dimensions, Elements, Object, ArrayOf, TableOf, object_number, as_array, as_table, array_at, table_at, element_value, entry_value, with_value_at, with_element, with_entry_value, changed_at, changed, joined}
+use Rattle.sno_store.specs.Objects.{Dimensions, Object, ArrayOf, TableOf, DataOf, object_number, as_array, as_table, as_fields, array_at, table_at, fields_at, element_value, entry_value, field_value, with_value_at, with_element, with_entry_value, with_field, changed_at, changed, joined}
 use Rattle.sno_value.specs.declared.value.Name.TheVariants.{Entry}
 use Rattle.sno_store.specs.Arrays.{dimensions_of, element_count, array_from, filled_array, new_array, text_of, prototype_of}
 use Rattle.sno_store.specs.Stored.{is_null, is_key, stored_notions}
 use Rattle.sno_store.specs.Tables.{up_to, new_table, rows, some_id, array_of_rows, entry_place, entries_for, entry_or_new, entry_into, make_entry, filled, array_of_table, table_to_array}
+use Rattle.sno_store.specs.Types.{DataType, type_fields, field_values, new_data}
 use Rattle.sno_machine.specs.Values.{IsValueOf, IsEntryOf, IsObjectOf}
 use Rattle.sno_machine.proofs.Members.{IfThere, member, all_at, all_set, all_end, all_same}
 
@@ -28,6 +29,7 @@ module _ (nodes : List Node) where
   element_of None k h = omega arith
   element_of (Some (ArrayOf elements)) k h = all_at (IsValueOf nodes) elements.values k (stored.Str []) h.1 (omega arith)
   element_of (Some (TableOf entries)) k h = omega arith
+  element_of (Some (DataOf number fields)) k h = omega arith
 
   pub element_known : (objects : List (Object Stored)) (id : ObjId) (k : ℕ) → AllKnown objects → IsValueOf nodes (element_value (stored.Str []) (array_at objects id) k)
   element_known objects id k h = element_of _ k (member (IsObjectOf nodes) objects id.0 h)
@@ -40,9 +42,19 @@ module _ (nodes : List Node) where
   entry_of None k h = omega arith
   entry_of (Some (ArrayOf elements)) k h = omega arith
   entry_of (Some (TableOf entries)) k h = all_at (IsValueOf nodes) (map (λ entry. entry.1) entries) k (stored.Str []) (values_known entries h) (omega arith)
+  entry_of (Some (DataOf number fields)) k h = omega arith
 
   pub entry_known : (objects : List (Object Stored)) (id : ObjId) (k : ℕ) → AllKnown objects → IsValueOf nodes (entry_value (stored.Str []) (table_at objects id) k)
   entry_known objects id k h = entry_of _ k (member (IsObjectOf nodes) objects id.0 h)
+
+  field_of : (o : Option (Object Stored)) (k : ℕ) → IfThere (IsObjectOf nodes) o → IsValueOf nodes (field_value (stored.Str []) (as_fields o) k)
+  field_of None k h = omega arith
+  field_of (Some (ArrayOf elements)) k h = omega arith
+  field_of (Some (TableOf entries)) k h = omega arith
+  field_of (Some (DataOf number fields)) k h = all_at (IsValueOf nodes) fields k (stored.Str []) h (omega arith)
+
+  pub field_known : (objects : List (Object Stored)) (id : ObjId) (k : ℕ) → AllKnown objects → IsValueOf nodes (field_value (stored.Str []) (fields_at objects id) k)
+  field_known objects id k h = field_of _ k (member (IsObjectOf nodes) objects id.0 h)
 
   -- what is changed of them
 
@@ -54,6 +66,7 @@ module _ (nodes : List Node) where
   with_element_known : (k : ℕ) (v : Stored) (o : Object Stored) → IsValueOf nodes v → IsObjectOf nodes o → IsObjectOf nodes (with_element k v o)
   with_element_known k v (ArrayOf elements) p h = (h.0, all_set (IsValueOf nodes) elements.values k v h.1 p)
   with_element_known k v (TableOf entries) p h = h
+  with_element_known k v (DataOf number fields) p h = h
 
   with_value_known : (k : ℕ) (v : Stored) (entries : List (Stored × Stored)) → IsValueOf nodes v → AllByRecursion (IsEntryOf nodes) entries → AllByRecursion (IsEntryOf nodes) (with_value_at k v entries)
   with_value_known k v [] p h = tt
@@ -63,12 +76,21 @@ module _ (nodes : List Node) where
   with_entry_known : (k : ℕ) (v : Stored) (o : Object Stored) → IsValueOf nodes v → IsObjectOf nodes o → IsObjectOf nodes (with_entry_value k v o)
   with_entry_known k v (ArrayOf elements) p h = h
   with_entry_known k v (TableOf entries) p h = with_value_known k v entries p h
+  with_entry_known k v (DataOf number fields) p h = h
+
+  with_field_known : (k : ℕ) (v : Stored) (o : Object Stored) → IsValueOf nodes v → IsObjectOf nodes o → IsObjectOf nodes (with_field k v o)
+  with_field_known k v (ArrayOf elements) p h = h
+  with_field_known k v (TableOf entries) p h = h
+  with_field_known k v (DataOf number fields) p h = all_set (IsValueOf nodes) fields k v h p
 
   pub element_set_known : (k : ℕ) (v : Stored) (objects : List (Object Stored)) (id : ObjId) → IsValueOf nodes v → AllKnown objects → AllKnown (changed (with_element k v) objects id)
   element_set_known k v objects id p h = changed_known (with_element k v) (λ o. with_element_known k v o p) objects id.0 h
 
   pub entry_set_known : (k : ℕ) (v : Stored) (objects : List (Object Stored)) (id : ObjId) → IsValueOf nodes v → AllKnown objects → AllKnown (changed (with_entry_value k v) objects id)
   entry_set_known k v objects id p h = changed_known (with_entry_value k v) (λ o. with_entry_known k v o p) objects id.0 h
+
+  pub field_set_known : (k : ℕ) (v : Stored) (objects : List (Object Stored)) (id : ObjId) → IsValueOf nodes v → AllKnown objects → AllKnown (changed (with_field k v) objects id)
+  field_set_known k v objects id p h = changed_known (with_field k v) (λ o. with_field_known k v o p) objects id.0 h
 
   -- what an operation leaves
 
@@ -98,6 +120,15 @@ module _ (nodes : List Node) where
   pub new_table_leaves : (objects : List (Object Stored)) → AllKnown objects → Leaves (new_table objects)
   new_table_leaves objects h = joined_leaves (TableOf []) objects tt h
 
+  values_of_fields : (n : ℕ) (values : List Stored) → AllByRecursion (IsValueOf nodes) values → AllByRecursion (IsValueOf nodes) (field_values (stored.Str []) n values)
+  values_of_fields zero values h = tt
+  values_of_fields (suc n) [] h = (omega arith, values_of_fields n [] h)
+  values_of_fields (suc n) (value ∷ values) h = (h.0, values_of_fields n values h.1)
+
+  pub new_data_leaves : (types : List DataType) (number : ℕ) (values : List Stored) (objects : List (Object Stored)) → AllByRecursion (IsValueOf nodes) values → AllKnown objects → Leaves (new_data (stored.Str []) types number values objects)
+  new_data_leaves types number values objects p h =
+      let n = length (type_fields (slice_get types number)) in joined_leaves (DataOf number (field_values (stored.Str []) n values)) objects (values_of_fields n values p) h
+
   added_by : (full : Bool) (id : ObjId) (key : Stored) (objects : List (Object Stored)) (entries : List (Stored × Stored)) → IsValueOf nodes key → AllByRecursion (IsEntryOf nodes) entries → AllKnown objects
       → Leaves (if full then Err 9 else Ok (Entry id (length entries), changed (λ _. TableOf (entries ++ (key, stored.Str []) ∷ [])) objects id))
   added_by true id key objects entries p e h = tt
@@ -116,6 +147,7 @@ module _ (nodes : List Node) where
   make_leaves id key objects None p e h = tt
   make_leaves id key objects (Some (ArrayOf elements)) p e h = tt
   make_leaves id key objects (Some (TableOf entries)) p e h = into_leaves (is_key key) id key objects entries p e h
+  make_leaves id key objects (Some (DataOf number fields)) p e h = tt
 
   pub make_entry_leaves : (id : ObjId) (key : Stored) (objects : List (Object Stored)) → IsValueOf nodes key → AllKnown objects → Leaves (make_entry stored_notions id key objects)
   make_entry_leaves id key objects p h = make_leaves id key objects (slice_get objects id.0) p (member (IsObjectOf nodes) objects id.0 h) h
@@ -156,6 +188,7 @@ module _ (nodes : List Node) where
   to_array_leaves objects None e h = tt
   to_array_leaves objects (Some (ArrayOf elements)) e h = tt
   to_array_leaves objects (Some (TableOf entries)) e h = array_of_rows_leaves (filled stored_notions entries) objects (filled_known entries e) h
+  to_array_leaves objects (Some (DataOf number fields)) e h = tt
 
   pub table_to_array_leaves : (id : ObjId) (objects : List (Object Stored)) → AllKnown objects → Leaves (table_to_array stored_notions id objects)
   table_to_array_leaves id objects h = to_array_leaves objects (slice_get objects id.0) (member (IsObjectOf nodes) objects id.0 h) h
@@ -166,6 +199,7 @@ module _ (nodes : List Node) where
   prototype_short None text is h = absurd (cc is)
   prototype_short (Some (ArrayOf elements)) text is h = let same : elements.prototype ≡ text = cc is in subst (λ t. length t ≤ 1_000_000) same h.0
   prototype_short (Some (TableOf entries)) text is h = absurd (cc is)
+  prototype_short (Some (DataOf number fields)) text is h = absurd (cc is)
 
   pub prototype_known : (objects : List (Object Stored)) (id : ObjId) (text : List ℕ) → prototype_of objects id ≡ Ok text → AllKnown objects → length text ≤ 1_000_000
   prototype_known objects id text is h = prototype_short (slice_get objects id.0) text is (member (IsObjectOf nodes) objects id.0 h)

@@ -11,7 +11,7 @@ use Rattle.sno_machine.specs.declared.machine.Exit.TheVariants.{Failure, Halt}
 use Rattle.sno_machine.specs.declared.machine.Stop.{Stop}
 use Rattle.sno_machine.specs.declared.machine.Stop.TheVariants.{Error as HasError, ErrorIn as HasErrorIn, NoMemory, ReadFault, WriteFault, Ended as HasEnded}
 use Rattle.sno_machine.specs.World.{World}
-use Rattle.sno_store.specs.Objects.{Object, ArrayOf, TableOf}
+use Rattle.sno_store.specs.Objects.{Object, ArrayOf, TableOf, DataOf}
 use Rattle.sno_machine.specs.Values.{Pat, shown, shown_objects, map_entry, map_object, IsValueOf, IsEntryOf, IsObjectOf}
 use Rattle.sno_machine.specs.Action.{Error, Got, Outcome, Action, settled, settles, either, and_then, gives, fails, stops}
 use Rattle.sno_machine.specs.State.{State, world, untouched, Meets, Grows, Does}
@@ -33,6 +33,7 @@ shown_more nodes more (stored.Expr id) h = refl
 shown_more nodes more (stored.Name target) h = refl
 shown_more nodes more (stored.Array id) h = refl
 shown_more nodes more (stored.Table id) h = refl
+shown_more nodes more (stored.Data id) h = refl
 
 value_more : (nodes more : List Node) (v : Stored) → IsValueOf nodes v → IsValueOf (nodes ++ more) v
 value_more nodes more (stored.Str bytes) h = h
@@ -42,6 +43,7 @@ value_more nodes more (stored.Expr id) h = tt
 value_more nodes more (stored.Name target) h = tt
 value_more nodes more (stored.Array id) h = tt
 value_more nodes more (stored.Table id) h = tt
+value_more nodes more (stored.Data id) h = tt
 
 -- a value that is known stays what it is
 pub shown_stays : (old new : List Node) (v : Stored) → Grows old new → IsValueOf old v → shown new v ≡ shown old v
@@ -69,10 +71,12 @@ entries_stay old new (e ∷ es) g h = ((value_stays old new e.0 g h.0.0, value_s
 object_shown_stays : (old new : List Node) (o : Object Stored) → Grows old new → IsObjectOf old o → map_object (shown new) o ≡ map_object (shown old) o
 object_shown_stays old new (ArrayOf elements) g h = ap (λ vs. ArrayOf (record { prototype = elements.prototype; dimensions = elements.dimensions; values = vs })) (all_shown_stay old new elements.values g h.1)
 object_shown_stays old new (TableOf entries) g h = ap TableOf (entries_shown_stay old new entries g h)
+object_shown_stays old new (DataOf number fields) g h = ap (DataOf number) (all_shown_stay old new fields g h)
 
 object_stays : (old new : List Node) (o : Object Stored) → Grows old new → IsObjectOf old o → IsObjectOf new o
 object_stays old new (ArrayOf elements) g h = (h.0, all_values_stay old new elements.values g h.1)
 object_stays old new (TableOf entries) g h = entries_stay old new entries g h
+object_stays old new (DataOf number fields) g h = all_values_stay old new fields g h
 
 -- objects whose values are known stay what they are
 pub shown_objects_stay : (old new : List Node) (os : List (Object Stored)) → Grows old new → AllByRecursion (IsObjectOf old) os → shown_objects new os ≡ shown_objects old os

@@ -5,7 +5,7 @@ use Rattle.std.proofs.lemmas.List.{map-append, map-set}
 use Rattle.std.proofs.Math.ListN.{get_or-map}
 use Rattle.sno_value.specs.declared.ids.SymId.{SymId}
 use Rattle.sno_value.specs.declared.value.Name.{Name as Target}
-use Rattle.sno_value.specs.declared.value.Name.TheVariants.{Var, Elem, Entry}
+use Rattle.sno_value.specs.declared.value.Name.TheVariants.{Var, Elem, Entry, Field}
 use Rattle.sno_value.specs.declared.value.Value.{Value as Stored}
 use Rattle.sno_value.specs.declared.value.Value.TheVariants as stored
 use Rattle.sno_pattern.specs.Table.{Node}
@@ -22,14 +22,14 @@ use Rattle.sno_machine.specs.Variables.{symbol, variable_named, joins, value_in,
 use Rattle.sno_machine.specs.State.{State, world, untouched, Grows, Does, itself, any, IsKnown, exit_of_store}
 use Rattle.sno_machine.proofs.Members.{all_end, all_set, all_at}
 use Rattle.sno_machine.proofs.Numbered.{numbered_with, numbered_place, new_numbered}
-use Rattle.sno_machine.proofs.Objects.{element_held, entry_held, element_set, entry_set}
-use Rattle.sno_machine.proofs.ObjectsKnown.{element_known, entry_known, element_set_known, entry_set_known}
+use Rattle.sno_machine.proofs.Objects.{element_held, entry_held, field_held, element_set, entry_set, field_set}
+use Rattle.sno_machine.proofs.ObjectsKnown.{element_known, entry_known, field_known, element_set_known, entry_set_known, field_set_known}
 use Rattle.sno_machine.proofs.Outcomes.{grows_none, no_memory_does, all_values_stay, all_objects_stay, all_calls_stay}
 
 -- what is known of a store
 
 pub known_grown : (old new : List Node) (store : Contents) → Grows old new → IsKnown old store → IsKnown new store
-known_grown old new store g k = record { symbols = k.symbols; numbered = k.numbered; values = all_values_stay old new store.values g k.values; objects = all_objects_stay old new store.objects g k.objects; calls = all_calls_stay old new store.calls g k.calls }
+known_grown old new store g k = record { symbols = k.symbols; numbered = k.numbered; values = all_values_stay old new store.values g k.values; objects = all_objects_stay old new store.objects g k.objects; types = k.types; calls = all_calls_stay old new store.calls g k.calls }
 
 pub known_joined : (nodes : List Node) (name : List ℕ) (store : Contents) → length name ≤ 1_000_000 → IsKnown nodes store → IsKnown nodes (with_symbol name store)
 known_joined nodes name store short k = by (is_symbol name store.symbols) refl
@@ -41,13 +41,15 @@ known_joined nodes name store short k = by (is_symbol name store.symbols) refl
       symbols = all_end (λ symbol. length symbol ≤ 1_000_000) store.symbols name k.symbols short;
       values = all_end (IsValueOf nodes) store.values (stored.Str []) k.values (omega arith);
       objects = k.objects;
+      types = k.types;
       calls = k.calls;
     }
 
 pub known_set : (nodes : List Node) (name : Target) (value : Stored) (store : Contents) → IsValueOf nodes value → IsKnown nodes store → IsKnown nodes (with_stored name value store)
-known_set nodes (Var id) value store v k = record { symbols = k.symbols; numbered = k.numbered; values = all_set (IsValueOf nodes) store.values id.0 value k.values v; objects = k.objects; calls = k.calls }
-known_set nodes (Elem object i) value store v k = record { symbols = k.symbols; numbered = k.numbered; values = k.values; objects = element_set_known nodes i value store.objects object v k.objects; calls = k.calls }
-known_set nodes (Entry object i) value store v k = record { symbols = k.symbols; numbered = k.numbered; values = k.values; objects = entry_set_known nodes i value store.objects object v k.objects; calls = k.calls }
+known_set nodes (Var id) value store v k = record { symbols = k.symbols; numbered = k.numbered; values = all_set (IsValueOf nodes) store.values id.0 value k.values v; objects = k.objects; types = k.types; calls = k.calls }
+known_set nodes (Elem object i) value store v k = record { symbols = k.symbols; numbered = k.numbered; values = k.values; objects = element_set_known nodes i value store.objects object v k.objects; types = k.types; calls = k.calls }
+known_set nodes (Entry object i) value store v k = record { symbols = k.symbols; numbered = k.numbered; values = k.values; objects = entry_set_known nodes i value store.objects object v k.objects; types = k.types; calls = k.calls }
+known_set nodes (Field object i) value store v k = record { symbols = k.symbols; numbered = k.numbered; values = k.values; objects = field_set_known nodes i value store.objects object v k.objects; types = k.types; calls = k.calls }
 
 -- a new store
 begins_known : IsKnown first_patterns new_contents
@@ -56,6 +58,7 @@ begins_known = record {
   numbered = new_numbered;
   values = (omega arith, (omega arith, (omega arith, (omega arith, (omega arith, (omega arith, (omega arith, (omega arith, (omega arith, tt)))))))));
   objects = tt;
+  types = tt;
   calls = tt;
 }
 
@@ -168,11 +171,13 @@ value_seen : (s : State) (name : Target) (more : List ℕ) → value_in (world s
 value_seen s (Var id) more = get_or-map (shown s.nodes) s.store.values id.0 (stored.Str [])
 value_seen s (Elem object i) more = element_held (shown s.nodes) (stored.Str []) s.store.objects object i
 value_seen s (Entry object i) more = entry_held (shown s.nodes) (stored.Str []) s.store.objects object i
+value_seen s (Field object i) more = field_held (shown s.nodes) (stored.Str []) s.store.objects object i
 
 value_known : (s : State) (name : Target) → IsKnown s.nodes s.store → IsValueOf s.nodes (value_of s.store name)
 value_known s (Var id) k = all_at (IsValueOf s.nodes) s.store.values id.0 (stored.Str []) k.values (omega arith)
 value_known s (Elem object i) k = element_known s.nodes s.store.objects object i k.objects
 value_known s (Entry object i) k = entry_known s.nodes s.store.objects object i k.objects
+value_known s (Field object i) k = field_known s.nodes s.store.objects object i k.objects
 
 pub holds_does : (s : State) (name : Target) (v : Stored) → IsKnown s.nodes s.store → v ≡ value_of s.store name → Does shown IsValueOf (holds name) s s (Ok v)
 holds_does s name v k same = record {
@@ -198,8 +203,10 @@ pub set_seen : (s : State) (name : Target) (value : Stored) (more : List ℕ) �
 set_seen s (Var id) value more = ap (λ vs. record (world s more) { values = vs }) (map-set (shown s.nodes) s.store.values id.0 value)
 set_seen s (Elem object i) value more = ap (λ os. record (world s more) { objects = os }) (sym (element_set (shown s.nodes) i value s.store.objects object))
 set_seen s (Entry object i) value more = ap (λ os. record (world s more) { objects = os }) (sym (entry_set (shown s.nodes) i value s.store.objects object))
+set_seen s (Field object i) value more = ap (λ os. record (world s more) { objects = os }) (sym (field_set (shown s.nodes) i value s.store.objects object))
 
 pub set_untouched : (s : State) (name : Target) (value : Stored) → untouched (record s { store = with_stored name value s.store }) ≡ untouched s
 set_untouched s (Var id) value = refl
 set_untouched s (Elem object i) value = refl
 set_untouched s (Entry object i) value = refl
+set_untouched s (Field object i) value = refl

@@ -3,10 +3,10 @@ use Rattle.std.specs.Prelude.{ℕ, List, [], ◌∷◌, Option, Some, None, code
 use Rattle.std.specs.Str.{bytes_eq}
 use Rattle.sno_value.specs.declared.kind.PrimitiveKind.TheVariants.{Len, Pos, Rpos, Tab, Rtab, Any, NotAny, Span, Break, BreakX}
 use Rattle.sno_machine.specs.declared.builtins.Builtin.{Builtin}
-use Rattle.sno_machine.specs.declared.builtins.Builtin.TheVariants.{Primitive, Arbno, Cut, Convert, MakeArray, MakeTable, Prototype, Define, Plain}
+use Rattle.sno_machine.specs.declared.builtins.Builtin.TheVariants.{Primitive, Arbno, Cut, Convert, MakeArray, MakeTable, Prototype, Define, Data, Datatype, Plain}
 use Rattle.sno_machine.specs.declared.builtins.Conversion.{Conversion}
 use Rattle.sno_machine.specs.declared.builtins.Conversion.TheVariants.{ToString, ToInteger, ToPattern, ToArray}
-use Rattle.sno_machine.specs.declared.builtins.Plain.TheVariants.{Compare, Remdr, Ident, Differ, Lgt, Integer, Size, Trim, Dupl, Replace, Datatype}
+use Rattle.sno_machine.specs.declared.builtins.Plain.TheVariants.{Compare, Remdr, Ident, Differ, Lgt, Integer, Size, Trim, Dupl, Replace}
 use Rattle.sno_machine.specs.declared.builtins.Relation.TheVariants.{Equal, Unequal, Less, AtMost, Greater, AtLeast}
 
 -- what stands beside a name in a table
@@ -31,12 +31,13 @@ number_functions =
 abbrev pub text_functions : List (List ℕ × Builtin)
 text_functions =
     (codes "IDENT", Plain Ident) ∷ (codes "DIFFER", Plain Differ) ∷ (codes "LGT", Plain Lgt) ∷ (codes "INTEGER", Plain Integer) ∷ (codes "SIZE", Plain Size)
-    ∷ (codes "TRIM", Plain Trim) ∷ (codes "DUPL", Plain Dupl) ∷ (codes "REPLACE", Plain Replace) ∷ (codes "DATATYPE", Plain Datatype) ∷ []
+    ∷ (codes "TRIM", Plain Trim) ∷ (codes "DUPL", Plain Dupl) ∷ (codes "REPLACE", Plain Replace) ∷ (codes "DATATYPE", Datatype) ∷ []
 
--- the functions of arrays and tables, and DEFINE
+-- the functions of arrays and tables, and those that make functions and types
 abbrev pub object_functions : List (List ℕ × Builtin)
 object_functions =
-    (codes "CONVERT", Convert) ∷ (codes "ARRAY", MakeArray) ∷ (codes "TABLE", MakeTable) ∷ (codes "PROTOTYPE", Prototype) ∷ (codes "DEFINE", Define) ∷ []
+    (codes "CONVERT", Convert) ∷ (codes "ARRAY", MakeArray) ∷ (codes "TABLE", MakeTable) ∷ (codes "PROTOTYPE", Prototype) ∷ (codes "DEFINE", Define)
+    ∷ (codes "DATA", Data) ∷ []
 
 -- the types to which CONVERT converts
 abbrev pub conversions : List (List ℕ × Conversion)

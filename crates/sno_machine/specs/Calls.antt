@@ -7,7 +7,9 @@ use Rattle.sno_value.specs.declared.value.Value.{Value as Stored}
 use Rattle.sno_value.specs.declared.value.Value.TheVariants as stored
 use Rattle.sno_pattern.specs.Table.{Node}
 use Rattle.sno_store.specs.Calls.{saved, entered, restored, function_value}
-use Rattle.sno_store.specs.Definitions.{Definition, definition_at, with_definition}
+use Rattle.sno_store.specs.declared.functions.Function.{Function}
+use Rattle.sno_store.specs.Definitions.{Definition}
+use Rattle.sno_store.specs.Functions.{definition_at, with_definition}
 use Rattle.sno_machine.specs.declared.machine.Exit.{Exit}
 use Rattle.sno_machine.specs.declared.machine.Exit.TheVariants.{Halt}
 use Rattle.sno_machine.specs.declared.machine.Stop.TheVariants.{Error as HasError, NoMemory}
@@ -18,24 +20,24 @@ use Rattle.sno_machine.specs.Functions.{with_text}
 use Rattle.sno_machine.specs.State.{State, world}
 
 -- DEFINE: the prototype's names join the symbols, and the function has this definition from then on
-abbrev pub after_definition : Result (List (List ℕ) × List (Option Definition)) ℕ → Action Unit
-after_definition (Ok new) w = record { ending = Got tt; world = record w { symbols = new.0; definitions = new.1; values = w.values ++ replicate (length new.0 - length w.symbols) (Str []) }; wrote = [] }
+abbrev pub after_definition : Result (List (List ℕ) × List Function) ℕ → Action Unit
+after_definition (Ok new) w = record { ending = Got tt; world = record w { symbols = new.0; functions = new.1; values = w.values ++ replicate (length new.0 - length w.symbols) (Str []) }; wrote = [] }
 after_definition (Err code) w = stops (Error code) w
 
 abbrev pub defines : List ℕ → List ℕ → Action Unit
-defines prototype entry w = after_definition (with_definition prototype entry w.symbols w.definitions) w
+defines prototype entry w = after_definition (with_definition prototype entry w.symbols w.functions) w
 
 -- DEFINE(p,e)
 abbrev pub define : Value → Value → Action Value
 define p e = with_text p (λ prototype. with_text e (λ entry. and_then (defines prototype entry) (λ done. gives (Str []))))
 
 -- the definition of the function with a name
-abbrev pub definition_named : List (Option Definition) → Target → Option Definition
-definition_named definitions (Var id) = definition_at definitions id.0
-definition_named definitions other = None
+abbrev pub definition_named : List Function → Target → Option Definition
+definition_named functions (Var id) = definition_at functions id.0
+definition_named functions other = None
 
 abbrev pub definition_of : World → Target → Option Definition
-definition_of w name = definition_named w.definitions name
+definition_of w name = definition_named w.functions name
 
 -- a call of function f begins: its variables are set, and one more call is open
 abbrev pub entered_world : ℕ → Definition → List Value → World → World

@@ -5,9 +5,8 @@ use Rattle.sno_value.specs.declared.value.Name.{Name as Target}
 use Rattle.sno_store.specs.Objects.{Object, object_number}
 use Rattle.sno_store.specs.Arrays.{new_array, element_name, prototype_of}
 use Rattle.sno_store.specs.Tables.{Notions, new_table, find_entry, make_entry, table_to_array}
-use Rattle.sno_machine.specs.World.{World}
 use Rattle.sno_machine.specs.Values.{Value, Str, Pat, Expr, Array, Table, is_null}
-use Rattle.sno_machine.specs.Action.{Error, Got, Outcome, Action, gives, fails, stops, either, and_then}
+use Rattle.sno_machine.specs.Action.{Error, Got, Action, gives, fails, stops, either, and_then}
 use Rattle.sno_machine.specs.Variables.{wrong_type, holds}
 use Rattle.sno_machine.specs.Numbers.{number_of}
 use Rattle.sno_machine.specs.Functions.{same, with_text}

@@ -1,5 +1,5 @@
 -- What the functions of numbers, texts and types give. They change nothing.
-use Rattle.std.specs.Prelude.{ℕ, ◌==◌, ◌&&◌, Bool, false, not, List, codes, [], length, Option, None, Some, is_some, Result, Ok, Err, ℤ, pos, int_le, int_lt, if◌then◌else◌}
+use Rattle.std.specs.Prelude.{ℕ, ◌==◌, Bool, false, not, List, [], length, Option, None, Some, is_some, Result, Ok, Err, ℤ, pos, int_le, int_lt, if◌then◌else◌}
 use Rattle.std.specs.Ordering.{int_eq}
 use Rattle.std.specs.Str.{bytes_eq}
 use Rattle.sno_value.specs.Arithmetic.{remainder_of}
@@ -9,8 +9,8 @@ use Rattle.sno_store.specs.Stored.{same_name}
 use Rattle.sno_machine.specs.declared.builtins.Relation.{Relation}
 use Rattle.sno_machine.specs.declared.builtins.Relation.TheVariants.{Equal, Unequal, Less, AtMost, Greater, AtLeast}
 use Rattle.sno_machine.specs.declared.builtins.Plain.{Plain}
-use Rattle.sno_machine.specs.declared.builtins.Plain.TheVariants.{Compare, Remdr, Ident, Differ, Lgt, Integer, Size, Trim, Dupl, Replace, Datatype}
-use Rattle.sno_machine.specs.Values.{Value, Str, Int, Pat, Expr, Name, Array, Table}
+use Rattle.sno_machine.specs.declared.builtins.Plain.TheVariants.{Compare, Remdr, Ident, Differ, Lgt, Integer, Size, Trim, Dupl, Replace}
+use Rattle.sno_machine.specs.Values.{Value, Str, Int, Pat, Expr, Name, Array, Table, Data}
 use Rattle.sno_machine.specs.Action.{Error, Action, gives, fails, stops, either}
 use Rattle.sno_machine.specs.Variables.{wrong_type, text_of}
 use Rattle.sno_machine.specs.Numbers.{number_of, arithmetic}
@@ -42,13 +42,15 @@ comparison relation x y = with_number x (λ m. with_number y (λ n. null_where (
 abbrev pub remdr : Value → Value → Action Value
 remdr x y = arithmetic remainder_of x y
 
--- Whether two values are equal in type and value. Two patterns aren't compared, and neither are two expressions.
+-- Whether two values are equal in type and value. An object is equal to itself alone. Two patterns aren't compared, and
+-- neither are two expressions.
 abbrev pub same : Value → Value → Option Bool
 same (Str x) (Str y) = Some (bytes_eq x y)
 same (Int x) (Int y) = Some (int_eq x y)
 same (Name x) (Name y) = Some (same_name x y)
 same (Array x) (Array y) = Some (x == y)
 same (Table x) (Table y) = Some (x == y)
+same (Data x) (Data y) = Some (x == y)
 same (Pat x) (Pat y) = None
 same (Expr x) (Expr y) = None
 same x y = Some false
@@ -94,19 +96,6 @@ dupl x n = with_text x (λ bytes. with_number n (λ count. short_text (duplicate
 abbrev pub replace : Value → Value → Value → Action Value
 replace x y z = with_text x (λ bytes. with_text y (λ froms. with_text z (λ tos. text_or_failure (replaced bytes froms tos))))
 
-abbrev pub type_name : Value → List ℕ
-type_name (Str bytes) = codes "STRING"
-type_name (Int number) = codes "INTEGER"
-type_name (Pat pattern) = codes "PATTERN"
-type_name (Expr expression) = codes "EXPRESSION"
-type_name (Name target) = codes "NAME"
-type_name (Array object) = codes "ARRAY"
-type_name (Table object) = codes "TABLE"
-
--- DATATYPE(x)
-abbrev pub datatype : Value → Action Value
-datatype x = gives (Str (type_name x))
-
 -- a function that changes nothing, on its arguments
 abbrev pub plain : Plain → Value → Value → Value → Action Value
 plain (Compare relation) x y z = comparison relation x y
@@ -119,4 +108,3 @@ plain Size x y z = size x
 plain Trim x y z = trim x
 plain Dupl x y z = dupl x y
 plain Replace x y z = replace x y z
-plain Datatype x y z = datatype x

@@ -9,6 +9,8 @@ pub mod Functions
 pub mod Containers
 pub mod State
 pub mod Calls
+pub mod Types
+pub mod Fields
 pub mod Operators
 pub mod Lines
 pub mod Session

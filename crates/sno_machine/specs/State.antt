@@ -38,15 +38,16 @@ new_state keywords = record { nodes = first_patterns; store = new_contents; read
 
 -- the world that a state shows, where `more` input may come behind what is held
 abbrev pub world : State → List ℕ → World
-world s more = record { nodes = length s.nodes; symbols = s.store.symbols; values = map (shown s.nodes) s.store.values; objects = shown_objects s.nodes s.store.objects; definitions = s.store.definitions; level = length s.store.calls; input = s.reading.held ++ more; keywords = s.keywords }
+world s more = record { nodes = length s.nodes; symbols = s.store.symbols; values = map (shown s.nodes) s.store.values; objects = shown_objects s.nodes s.store.objects; types = s.store.types; functions = s.store.functions; level = length s.store.calls; input = s.reading.held ++ more; keywords = s.keywords }
 
--- No symbol has more than 1,000,000 bytes, and each stands once; the values are of this table, those that calls have saved
--- too.
+-- No symbol and no name of a type has more than 1,000,000 bytes, and each symbol stands once; the values are of this
+-- table, those that calls have saved too.
 pub record IsKnown (nodes : List Node) (store : Contents) : Type 0 where
   pub symbols : AllByRecursion (λ symbol. length symbol ≤ 1_000_000) store.symbols
   pub numbered : (i : ℕ) → i < length store.symbols → place (slice_index_or store.symbols i []) store.symbols ≡ i
   pub values : AllByRecursion (IsValueOf nodes) store.values
   pub objects : AllByRecursion (IsObjectOf nodes) store.objects
+  pub types : AllByRecursion (λ data_type. length data_type.name ≤ 1_000_000) store.types
   pub calls : AllByRecursion (AllByRecursion (λ saved. IsValueOf nodes saved.1)) store.calls
 
 -- how what the code answers meets the outcome of an action that writes nothing

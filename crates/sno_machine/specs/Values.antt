@@ -6,7 +6,7 @@ use Rattle.sno_value.specs.declared.value.Value.{Value as Stored}
 use Rattle.sno_value.specs.declared.value.Value.TheVariants as stored
 use Rattle.sno_pattern.specs.Pattern.{Pattern}
 use Rattle.sno_pattern.specs.Table.{Node, tree}
-use Rattle.sno_store.specs.Objects.{Elements, Object, ArrayOf, TableOf}
+use Rattle.sno_store.specs.Objects.{Elements, Object, ArrayOf, TableOf, DataOf}
 
 pub data Value : Type 0 where
   Str : (bytes : List ℕ) → Value
@@ -17,6 +17,8 @@ pub data Value : Type 0 where
   Name : (target : Target) → Value
   Array : (object : ℕ) → Value
   Table : (object : ℕ) → Value
+  -- an object of a type that the program made
+  Data : (object : ℕ) → Value
 
 abbrev pub is_null : Value → Bool
 is_null (Str []) = true
@@ -31,6 +33,7 @@ shown nodes (stored.Expr id) = Expr id.0
 shown nodes (stored.Name target) = Name target
 shown nodes (stored.Array id) = Array id.0
 shown nodes (stored.Table id) = Table id.0
+shown nodes (stored.Data id) = Data id.0
 
 -- the value has at most 1,000,000 bytes, and a number of these nodes
 abbrev pub IsValueOf : List Node → Stored → Type 0
@@ -48,15 +51,17 @@ map_entry f entry = (f entry.0, f entry.1)
 abbrev pub map_object : {V W : Type 0} → (V → W) → Object V → Object W
 map_object f (ArrayOf elements) = ArrayOf (map_elements f elements)
 map_object f (TableOf entries) = TableOf (map (map_entry f) entries)
+map_object f (DataOf number fields) = DataOf number (map f fields)
 
--- the arrays and tables that are stored
+-- the objects that are stored
 abbrev pub shown_objects : List Node → List (Object Stored) → List (Object Value)
 shown_objects nodes objects = map (map_object (shown nodes)) objects
 
--- what an array or a table holds is of these nodes, and an array's prototype is no longer than a string
+-- what an object holds is of these nodes, and an array's prototype is no longer than a string
 abbrev pub IsEntryOf : List Node → Stored × Stored → Type 0
 IsEntryOf nodes entry = IsValueOf nodes entry.0 × IsValueOf nodes entry.1
 
 abbrev pub IsObjectOf : List Node → Object Stored → Type 0
 IsObjectOf nodes (ArrayOf elements) = (length elements.prototype ≤ 1_000_000) × AllByRecursion (IsValueOf nodes) elements.values
 IsObjectOf nodes (TableOf entries) = AllByRecursion (IsEntryOf nodes) entries
+IsObjectOf nodes (DataOf number fields) = AllByRecursion (IsValueOf nodes) fields

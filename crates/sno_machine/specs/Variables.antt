@@ -3,9 +3,9 @@ use Rattle.std.specs.Prelude.{ℕ, zero, ℤ, pos, nat_lt, ◌==◌, Bool, false
 use Rattle.std.specs.Fmt.{signed_decimal}
 use Rattle.sno_value.specs.declared.ids.SymId.{SymId}
 use Rattle.sno_value.specs.declared.value.Name.{Name as Target}
-use Rattle.sno_value.specs.declared.value.Name.TheVariants.{Var, Elem, Entry}
+use Rattle.sno_value.specs.declared.value.Name.TheVariants.{Var, Elem, Entry, Field}
 use Rattle.sno_store.specs.Contents.{place, is_symbol}
-use Rattle.sno_store.specs.Objects.{array_at, table_at, element_value, entry_value, with_element, with_entry_value, changed}
+use Rattle.sno_store.specs.Objects.{array_at, table_at, fields_at, element_value, entry_value, field_value, with_element, with_entry_value, with_field, changed}
 use Rattle.sno_machine.specs.World.{World}
 use Rattle.sno_machine.specs.Values.{Value, Str, Int, Name}
 use Rattle.sno_value.specs.Strings.{trimmed}
@@ -70,6 +70,7 @@ abbrev pub value_in : World → Target → Value
 value_in w (Var id) = slice_index_or w.values id.0 (Str [])
 value_in w (Elem object k) = element_value (Str []) (array_at w.objects object) k
 value_in w (Entry object k) = entry_value (Str []) (table_at w.objects object) k
+value_in w (Field object k) = field_value (Str []) (fields_at w.objects object) k
 
 -- the next line of the input; at its end there is none, and a line of more than 1,000,000 bytes is error 8
 abbrev pub line_read : Option (List ℕ × List ℕ) → Action Value
@@ -93,6 +94,7 @@ abbrev pub with_value : Target → Value → World → World
 with_value (Var id) v w = record w { values = slice_set w.values id.0 v }
 with_value (Elem object k) v w = record w { objects = changed (with_element k v) w.objects object }
 with_value (Entry object k) v w = record w { objects = changed (with_entry_value k v) w.objects object }
+with_value (Field object k) v w = record w { objects = changed (with_field k v) w.objects object }
 
 abbrev pub stores : Target → Value → Action Unit
 stores name v w = record { ending = Got tt; world = with_value name v w; wrote = [] }

@@ -17,7 +17,7 @@ use crate::convert::{as_pattern, null, number_of, text_of};
 use crate::machine::{Exit, Machine, UNDEFINED_FUNCTION, error};
 use crate::numbers::{comparison, remainder};
 use crate::texts::{copies, is_after, replaced, size, trimmed};
-use crate::types::{datatype, differ, ident, integer};
+use crate::types::{datatype, define_type, differ, ident, integer};
 use sno_pattern::Arg;
 use sno_value::{PatId, Prim, Text, Value};
 use std::alloc::Global;
@@ -65,6 +65,14 @@ pub fn called(
             let e = argument(machine.alloc(), operands, 1);
             define(machine, p, e)
         }
+        Some(Builtin::Data) => {
+            let p = argument(machine.alloc(), operands, 0);
+            define_type(machine, p)
+        }
+        Some(Builtin::Datatype) => {
+            let x = argument(machine.alloc(), operands, 0);
+            datatype(machine, &x)
+        }
         Some(Builtin::Plain(function)) => {
             let alloc = machine.alloc();
             let x = argument(alloc, operands, 0);
@@ -90,7 +98,6 @@ fn plain(alloc: Global, function: Plain, x: Value, y: Value, z: Value) -> Result
         Plain::Trim => trimmed(alloc, x),
         Plain::Dupl => copies(alloc, x, &y),
         Plain::Replace => replaced(alloc, x, y, z),
-        Plain::Datatype => datatype(alloc, &x),
     }
 }
 

@@ -1,6 +1,6 @@
 //! The keywords.
 ghost use Rattle.std.specs.Prelude.{◌≡◌, ◌≤◌, ◌<◌, Bool, true, false, Option, Some, None, IfSome, IfNone};
-ghost use Rattle.sno_machine.specs.World.{Keywords, new_keywords};
+ghost use Rattle.sno_machine.specs.World.{Keywords, new_keywords, listing_keywords};
 ghost use Rattle.sno_machine.specs.Builtins.{found};
 ghost use Rattle.sno_machine.specs.Keywords.{keyword_numbers, is_anchored, is_settable, with_keyword, with_limit, with_begun};
 
@@ -23,6 +23,8 @@ pub struct Keywords {
     cap: u64,
     /// The most steps of a match.
     steps: u32,
+    /// Whether DATA is a function.
+    has_data: bool,
 }
 
 impl Model for Keywords {
@@ -31,7 +33,7 @@ impl Model for Keywords {
 
     ghost Value = { Known };
 
-    ghost view = { λ k. record { anchor = k.anchor; trim = k.trim; limit = k.limit; begun = k.begun; statement = k.statement; cap = k.cap; steps = k.steps } };
+    ghost view = { λ k. record { anchor = k.anchor; trim = k.trim; limit = k.limit; begun = k.begun; statement = k.statement; cap = k.cap; steps = k.steps; has_data = k.has_data } };
 
     ghost invariant = { λ k. (k.begun ≤ k.cap) × (k.limit ≤ k.cap) × (k.cap ≤ 1_000_000_000_000) };
 }
@@ -50,6 +52,18 @@ impl Keywords {
             statement: 0,
             cap,
             steps,
+            has_data: true,
+        }
+    }
+
+    /// The same for a listing, in which DATA is no function: it assigns to variables alone.
+    pub fn for_listing(anchored: bool, cap: u64, steps: u32) -> Keywords
+        requires { cap ≤ 1_000_000_000_000 }
+        ensures { result ≡ listing_keywords anchored cap steps }
+    {
+        Keywords {
+            has_data: false,
+            ..Keywords::new(anchored, cap, steps)
         }
     }
 
@@ -72,6 +86,13 @@ impl Keywords {
         ensures { result ≡ self.now.steps }
     {
         self.steps
+    }
+
+    /// Whether DATA is a function.
+    pub fn has_data(&self) -> bool
+        ensures { result ≡ self.now.has_data }
+    {
+        self.has_data
     }
 
     /// The keyword with a name that is a number, where `level` calls are open.

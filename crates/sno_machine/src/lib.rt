@@ -5,6 +5,7 @@
 mod builtins;
 mod containers;
 mod convert;
+mod fields;
 mod functions;
 mod items;
 mod keywords;
@@ -19,6 +20,7 @@ mod unary_operators;
 
 pub use builtins::{Builtin, Plain, Relation, function_named};
 pub use convert::{as_pattern, null, number_of, text_of};
+pub use fields::{ask_field, construct, field_as_name, field_value};
 pub use functions::{answer, argument, called};
 pub use items::{item, item_name};
 pub use keywords::{Keywords, is_settable};

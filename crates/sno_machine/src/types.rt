@@ -2,11 +2,12 @@
 ghost use Rattle.std.specs.Prelude.{◌≡◌, List};
 ghost use Rattle.sno_pattern.specs.Table.{Node};
 ghost use Rattle.sno_machine.specs.Values.{shown, IsValueOf};
-ghost use Rattle.sno_machine.specs.Functions.{ident, differ, same, integer, datatype, type_name};
+ghost use Rattle.sno_machine.specs.Functions.{ident, differ, same, integer};
+ghost use Rattle.sno_machine.specs.Types.{data_called, type_made, datatype};
 ghost use Rattle.sno_machine.specs.State.{State, Does};
 
-use crate::convert::{null_where, number};
-use crate::machine::{DATA_TYPE, Exit, error};
+use crate::convert::{null, null_where, number, text_of};
+use crate::machine::{DATA_TYPE, Exit, Machine, UNDEFINED_FUNCTION, error};
 use sno_value::{Text, Value};
 use std::alloc::Global;
 
@@ -30,7 +31,8 @@ pub fn differ(alloc: Global, x: &Value, y: &Value) -> Result<Value, Exit>
     }
 }
 
-/// Whether two values are equal in type and value. Two patterns aren't compared, and neither are two expressions.
+/// Whether two values are equal in type and value. An object is equal to itself alone. Two patterns aren't compared, and
+/// neither are two expressions.
 fn same(x: &Value, y: &Value) -> Option<bool>
     ensures { (nodes : List Node) → result ≡ same (shown nodes x.now) (shown nodes y.now) }
 {
@@ -48,24 +50,30 @@ pub fn integer(alloc: Global, x: &Value) -> Result<Value, Exit>
 }
 
 /// DATATYPE: the name of the value's type.
-pub fn datatype(alloc: Global, x: &Value) -> Result<Value, Exit>
-    ensures { (s : State) → Does shown IsValueOf (datatype (shown s.nodes x.now)) s s result }
+pub fn datatype(machine: &Machine, x: &Value) -> Result<Value, Exit>
+    ensures { Does shown IsValueOf (datatype (shown machine.now.nodes x.now)) machine.now machine.now result }
 {
-    let name = type_name(x).to_vec(alloc)?;
+    let name = machine.type_name(x).to_vec(machine.alloc())?;
     Ok(Value::Str(Text::new(name)))
 }
 
-/// The name of a value's type.
-fn type_name(value: &Value) -> &'static [u8]
-    ensures { (nodes : List Node) → result.now ≡ type_name (shown nodes value.now) }
+/// DATA(P), which is error 4 where DATA is no function.
+pub fn define_type(machine: &mut Machine, prototype: Value) -> Result<Value, Exit>
+    requires { IsValueOf machine.old.nodes prototype }
+    ensures { Does shown IsValueOf (data_called (shown machine.old.nodes prototype)) machine.old machine.new result }
 {
-    match value {
-        Value::Str(_) => b"STRING",
-        Value::Int(_) => b"INTEGER",
-        Value::Pat(_) => b"PATTERN",
-        Value::Expr(_) => b"EXPRESSION",
-        Value::Name(_) => b"NAME",
-        Value::Array(_) => b"ARRAY",
-        Value::Table(_) => b"TABLE",
+    if !machine.has_data() {
+        return Err(error(UNDEFINED_FUNCTION));
     }
+    type_made(machine, prototype)
+}
+
+/// The type of a prototype is made.
+fn type_made(machine: &mut Machine, prototype: Value) -> Result<Value, Exit>
+    requires { IsValueOf machine.old.nodes prototype }
+    ensures { Does shown IsValueOf (type_made (shown machine.old.nodes prototype)) machine.old machine.new result }
+{
+    let prototype = text_of(machine.alloc(), prototype)?;
+    machine.define_data(&prototype)?;
+    Ok(null(machine.alloc()))
 }

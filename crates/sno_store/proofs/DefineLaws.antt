@@ -1,5 +1,5 @@
 -- What DEFINE makes of a prototype's names.
-use Rattle.std.proofs.Common.{◌≡◌, ℕ, ◌<◌, ◌≤◌, Bool, true, false, not, ◌&&◌, leb, List, [], ◌∷◌, ◌++◌, ◌-◌, length, map, take, replicate, ltb, if◌then◌else◌, Vec, Option, Some, Result, Ok, Err, IsErrAnd, is_ok, refl, sym, ap, subst, ◌∙◌, arith}
+use Rattle.std.proofs.Common.{◌≡◌, ℕ, ◌<◌, ◌≤◌, Bool, true, false, not, ◌&&◌, leb, List, [], ◌∷◌, ◌++◌, ◌-◌, length, map, take, replicate, ltb, if◌then◌else◌, Vec, Some, Result, Ok, Err, IsErrAnd, is_ok, refl, sym, ap, subst, ◌∙◌, arith}
 use Rattle.std.specs.List.{list_all}
 use Rattle.std.specs.declared.alloc.Global.{Global}
 use Rattle.std.proofs.lemmas.Bool.{and_parts, leb-true, ltb-true, ltb-false, lt-ltb}
@@ -11,7 +11,10 @@ use Rattle.std.proofs.lemmas.List.{take_at}
 use Rattle.sno_store.specs.declared.error.StoreError.{StoreError}
 use Rattle.sno_store.specs.declared.error.StoreError.TheVariants.{NullName, Full, WrongType, BadPrototype, CallLevel, NoMemory}
 use Rattle.sno_store.specs.Contents.{Contents, place, is_symbol, IsJoined}
-use Rattle.sno_store.specs.Definitions.{Definition, Prototype, is_name, is_device, names, is_sound, entry_label, with_names, definition, defined, definition_in, definition_by, with_definition, prototype}
+use Rattle.sno_store.specs.Definitions.{Definition, Prototype, is_name, is_device, names, is_sound, entry_label, with_names, definition, prototype}
+use Rattle.sno_store.specs.declared.functions.Function.{Function}
+use Rattle.sno_store.specs.declared.functions.Function.TheVariants.{Defined}
+use Rattle.sno_store.specs.Functions.{with_function, definition_in, definition_by, with_definition}
 use Rattle.sno_store.specs.Outcomes.{IsError}
 use Rattle.sno_store.specs.Symbols.{HasMore, AreTooMany, AreJoined, IsDefinedByParts}
 use Rattle.sno_store.proofs.NameLaws.{with_name, place_kept, is_joined, given_number, added, with_names-append, placed, grown, has_both, has_one, with_symbol_symbols, too_many_more, too_many_behind, too_many_same}
@@ -72,7 +75,7 @@ label_null [] function h = refl
 label_null (byte ∷ bytes) function h = absurd (omega arith)
 
 -- the function's name joined
-begun_symbols : (p : Prototype) (old one : Contents) (f : SymId) → IsJoined p.function old one (Ok f) → one.symbols ≡ with_name p.function old.symbols
+pub begun_symbols : (p : Prototype) (old one : Contents) (f : SymId) → IsJoined p.function old one (Ok f) → one.symbols ≡ with_name p.function old.symbols
 begun_symbols p old one f h = ap (λ (c : Contents). c.symbols) h.1 ∙ with_symbol_symbols p.function old
 
 pub begun_more : (p : Prototype) (old one : Contents) (f : SymId) → IsJoined p.function old one (Ok f) → HasMore old one
@@ -112,24 +115,24 @@ module _ (p : Prototype) (entry : List ℕ) (old one two three : Contents) (f : 
   pub more_all : HasMore old three
   more_all = has_both old one three (begun_more p old one f h1) (has_both one two three h2.1 h3.1)
 
-  same_definitions : three.definitions ≡ old.definitions
-  same_definitions = ap (λ (c : Contents). c.definitions) more_all.others
+  same_functions : three.functions ≡ old.functions
+  same_functions = ap (λ (c : Contents). c.functions) more_all.others
 
-  pub parts_done : (new : Contents) (d : Definition) (ds : List (Option Definition)) → new ≡ record three { definitions = ds } → ds ≡ defined f.0 d three.definitions
+  pub parts_done : (new : Contents) (d : Definition) (ds : List Function) → new ≡ record three { functions = ds } → ds ≡ with_function f.0 (Defined d) three.functions
       → d ≡ record { entry = entry_label entry p.function; formals = map (λ id. id.0) formals.items; locals = map (λ id. id.0) locals.items }
       → IsDefinedByParts p entry old new (Ok tt)
   parts_done new d ds en eds ed =
       let symbols : new.symbols ≡ three.symbols = ap (λ (c : Contents). c.symbols) en in
-      let kept : three ≡ record new { definitions = old.definitions } =
-      (λ i. record three { definitions = same_definitions i }) ∙ sym (ap (λ (c : Contents). record c { definitions = old.definitions }) en) in
+      let kept : three ≡ record new { functions = old.functions } =
+      (λ i. record three { functions = same_functions i }) ∙ sym (ap (λ (c : Contents). record c { functions = old.functions }) en) in
       let its : d ≡ definition entry p three.symbols =
       ed ∙ (λ i. record { entry = entry_label entry p.function; formals = its_formals i; locals = h3.2 i }) in
-      let all : new.definitions ≡ defined (place p.function three.symbols) (definition entry p three.symbols) old.definitions =
-      ap (λ (c : Contents). c.definitions) en ∙ eds ∙ (λ i. defined (its_place i) (its i) (same_definitions i)) in (
+      let all : new.functions ≡ with_function (place p.function three.symbols) (Defined (definition entry p three.symbols)) old.functions =
+      ap (λ (c : Contents). c.functions) en ∙ eds ∙ (λ i. with_function (its_place i) (Defined (its i)) (same_functions i)) in (
         symbols ∙ all_symbols,
         subst (λ ss. length ss ≤ 1_000_000) (sym symbols) h3.3,
         subst (HasMore old) kept more_all,
-        all ∙ ap (λ ss. defined (place p.function ss) (definition entry p ss) old.definitions) (sym symbols),
+        all ∙ ap (λ ss. with_function (place p.function ss) (Defined (definition entry p ss)) old.functions) (sym symbols),
       )
 
 -- a refusal of the parts that is passed on
@@ -139,17 +142,17 @@ parts_passed p entry old new e (Ok done) is h = absurd is
 parts_passed p entry old new e (Err r) is h = (subst (AreTooMany (names p) old.symbols) (sym is) h.0, h.1)
 
 -- a refusal where the symbols would not be too many
-pub define_refused : (text entry : List ℕ) (p : Prototype) (symbols : List (List ℕ)) (definitions : List (Option Definition)) (e : StoreError) → Some p ≡ prototype text → is_sound p ≡ true
-    → ltb 1_000_000 (length (with_names (names p) symbols)) ≡ false → AreTooMany (names p) symbols e → IsError (with_definition text entry symbols definitions) e
-define_refused text entry p symbols definitions e is sound room why = by e why
+pub define_refused : (text entry : List ℕ) (p : Prototype) (symbols : List (List ℕ)) (functions : List Function) (e : StoreError) → Some p ≡ prototype text → is_sound p ≡ true
+    → ltb 1_000_000 (length (with_names (names p) symbols)) ≡ false → AreTooMany (names p) symbols e → IsError (with_definition text entry symbols functions) e
+define_refused text entry p symbols functions e is sound room why = by e why
   where
-    meant : with_definition text entry symbols definitions ≡ Ok (with_names (names p) symbols, defined (place p.function (with_names (names p) symbols)) (definition entry p (with_names (names p) symbols)) definitions)
+    meant : with_definition text entry symbols functions ≡ Ok (with_names (names p) symbols, with_function (place p.function (with_names (names p) symbols)) (Defined (definition entry p (with_names (names p) symbols))) functions)
     meant =
-        ap (definition_by entry symbols definitions) (sym is)
-        ∙ ap (λ b. if b then definition_in entry p (with_names (names p) symbols) definitions else Err 12) sound
-        ∙ ap (λ b. if b then Err 9 else Ok (with_names (names p) symbols, defined (place p.function (with_names (names p) symbols)) (definition entry p (with_names (names p) symbols)) definitions)) room
+        ap (definition_by entry symbols functions) (sym is)
+        ∙ ap (λ b. if b then definition_in entry p (with_names (names p) symbols) functions else Err 12) sound
+        ∙ ap (λ b. if b then Err 9 else Ok (with_names (names p) symbols, with_function (place p.function (with_names (names p) symbols)) (Defined (definition entry p (with_names (names p) symbols))) functions)) room
 
-    by : (e : StoreError) → AreTooMany (names p) symbols e → IsError (with_definition text entry symbols definitions) e
+    by : (e : StoreError) → AreTooMany (names p) symbols e → IsError (with_definition text entry symbols functions) e
     by NoMemory h = ap is_ok meant
     by Full h = absurd (omega (arith, h, ltb-false 1_000_000 (length (with_names (names p) symbols)) room))
     by NullName h = absurd h

@@ -2,8 +2,8 @@
 use Rattle.std.proofs.Common.{◌≡◌, ℕ, zero, suc, ◌*◌, ◌≤◌, Bool, true, false, cond, not, List, [], ◌∷◌, length, map, filter, position, refl, ap, arith}
 use Rattle.indexmap.specs.IndexMap.{set_value_at}
 use Rattle.sno_value.specs.declared.value.Value.{Value}
-use Rattle.sno_value.specs.declared.value.Name.TheVariants.{Var, Elem, Entry}
-use Rattle.sno_value.specs.declared.value.Value.TheVariants.{Str, Int, Pat, Expr, Name, Array, Table}
+use Rattle.sno_value.specs.declared.value.Name.TheVariants.{Var, Elem, Entry, Field}
+use Rattle.sno_value.specs.declared.value.Value.TheVariants.{Str, Int, Pat, Expr, Name, Array, Table, Data}
 use Rattle.sno_value.specs.contracts.value.ValuePartialEq.TheImpl.{ghosts}
 use Rattle.sno_store.specs.Objects.{with_value_at}
 use Rattle.sno_store.specs.Stored.{is_null, is_key, same_key, stored_notions}
@@ -37,16 +37,24 @@ is_same (Expr id) value h = absurd (cc)
 is_same (Name (Var a)) (Name (Var b)) h = refl
 is_same (Name (Var a)) (Name (Elem b j)) h = refl
 is_same (Name (Var a)) (Name (Entry b j)) h = refl
+is_same (Name (Var a)) (Name (Field b j)) h = refl
 is_same (Name (Elem a i)) (Name (Var b)) h = refl
 is_same (Name (Elem a i)) (Name (Elem b j)) h = refl
 is_same (Name (Elem a i)) (Name (Entry b j)) h = refl
+is_same (Name (Elem a i)) (Name (Field b j)) h = refl
 is_same (Name (Entry a i)) (Name (Var b)) h = refl
 is_same (Name (Entry a i)) (Name (Elem b j)) h = refl
 is_same (Name (Entry a i)) (Name (Entry b j)) h = refl
+is_same (Name (Entry a i)) (Name (Field b j)) h = refl
+is_same (Name (Field a i)) (Name (Var b)) h = refl
+is_same (Name (Field a i)) (Name (Elem b j)) h = refl
+is_same (Name (Field a i)) (Name (Entry b j)) h = refl
+is_same (Name (Field a i)) (Name (Field b j)) h = refl
 is_same (Str a) (Str b) h = refl
 is_same (Int m) (Int n) h = refl
 is_same (Array a) (Array b) h = refl
 is_same (Table a) (Table b) h = refl
+is_same (Data a) (Data b) h = refl
 is_same key value h = refl
 
 -- the place of a key's entry

@@ -8,3 +8,4 @@ pub mod ObjectLaws
 pub mod Places
 pub mod Prototypes
 pub mod SymbolLaws
+pub mod TypeLaws

@@ -10,11 +10,12 @@ use Rattle.sno_value.specs.declared.value.Value.TheVariants.{Str}
 use Rattle.sno_store.specs.declared.error.StoreError.{StoreError}
 use Rattle.sno_store.specs.declared.error.StoreError.TheVariants.{NullName, Full, WrongType, BadPrototype, CallLevel, NoMemory}
 use Rattle.sno_store.specs.declared.object.Object.{Object as Kept}
-use Rattle.sno_store.specs.declared.object.Object.TheVariants.{Array, Table}
-use Rattle.sno_store.specs.Objects.{Elements, Object, ArrayOf, TableOf, as_table, element_value, entry_value, changed_at, changed}
+use Rattle.sno_store.specs.declared.object.Object.TheVariants.{Array, Table, Data}
+use Rattle.sno_store.specs.Objects.{Elements, Object, TableOf, as_table, element_value, entry_value, field_value, changed_at, changed}
 use Rattle.sno_store.specs.Outcomes.{IsError}
 use Rattle.sno_store.specs.Seen.{seen, Does, with_key, IsEntry}
 use Rattle.sno_store.specs.Stored.{is_key, stored_notions}
+use Rattle.sno_store.specs.Types.{field_values}
 use Rattle.sno_store.specs.Tables.{entry_place, entries_for, entry_into, entry_or_new, make_entry}
 
 -- an object that is changed in its place
@@ -43,6 +44,18 @@ element_is null array elements k value is found = ap (λ v. unwrap_or v null) fo
 pub entry_is : (null : Value) (table : Option (List (Value × Value))) (entries : List (Value × Value)) (k : ℕ) (value : Option Value) → Some entries ≡ table → value ≡ slice_get (map (λ e. e.1) entries) k
     → unwrap_or value null ≡ entry_value null table k
 entry_is null table entries k value is found = ap (λ v. unwrap_or v null) found ∙ unwrap_or-slice_get (map (λ e. e.1) entries) k null ∙ ap (λ t. entry_value null t k) is
+
+pub field_is : (null : Value) (fields : Option (List Value)) (values : List Value) (k : ℕ) (value : Option Value) → Some values ≡ fields → value ≡ slice_get values k
+    → unwrap_or value null ≡ field_value null fields k
+field_is null fields values k value is found = ap (λ v. unwrap_or v null) found ∙ unwrap_or-slice_get values k null ∙ ap (λ f. field_value null f k) is
+
+-- the values of fields, one after another: a value is taken, or is missing
+pub field_taken : (null : Value) (n m : ℕ) (value : Value) (old new : List Value) → n ≡ suc m → old ≡ value ∷ new → field_values null n old ≡ value ∷ field_values null m new
+field_taken null n m value old new e f = ap (λ k. field_values null k old) e ∙ ap (field_values null (suc m)) f
+
+pub field_missing : (null : Value) (n m : ℕ) (value : Value) (old new : List Value) → n ≡ suc m → old ≡ [] → new ≡ [] → value ≡ null → field_values null n old ≡ value ∷ field_values null m new
+field_missing null n m value old new e f g h =
+    ap (λ k. field_values null k old) e ∙ ap (field_values null (suc m)) f ∙ sym (λ i. h i ∷ field_values null m (g i))
 
 -- the table that a number is
 pub table_is : (objects : List Kept) (i : ℕ) (entries : List (Value × Value)) (old : Kept) → i < length objects → old ≡ get_or objects i old → Table entries ≡ old
@@ -124,14 +137,17 @@ module _ (id : ObjId) (key : Value) (objects : List Kept) (shown : List (Object 
       ap (λ os. changed (λ _. TableOf new) os id) (sym view) ∙ sym (changed_is (λ _. TableOf new) objects id.0 (Table new) old within was refl) in
       subst (λ os. Does (make_entry stored_notions id key) shown os (named id result)) same (entry_done id key shown entries new table may result h)
 
-  -- of an array there is no entry, and it is put back
-  pub no_entry : (elements : Elements Value) → old ≡ Array elements → (make_entry stored_notions id key shown ≡ Err 1) × (map seen (set objects id.0 old) ≡ shown)
-  no_entry elements is =
-      let array : slice_get shown id.0 ≡ Some (ArrayOf elements) =
-      ap (λ os. slice_get os id.0) (sym view) ∙ slice_get-map seen objects id.0 ∙ ap (option_map seen) (slice_get-get_or objects id.0 old within) ∙ ap (λ o. Some (seen o)) (sym was ∙ is) in (
-        ap (λ o. entry_into stored_notions id key shown (entries_for stored_notions key (as_table o))) array,
-        ap (λ o. map seen (set objects id.0 o)) was ∙ ap (map seen) (set-get_or objects id.0 old) ∙ view,
-      )
+  -- where the object is no table there is no entry, and it is put back
+  pub no_entry : ((entries : List (Value × Value)) → old ≡ Table entries → ⊥) → (make_entry stored_notions id key shown ≡ Err 1) × (map seen (set objects id.0 old) ≡ shown)
+  no_entry other = (by old refl, ap (λ o. map seen (set objects id.0 o)) was ∙ ap (map seen) (set-get_or objects id.0 old) ∙ view)
+    where
+      found : (o : Kept) → old ≡ o → slice_get shown id.0 ≡ Some (seen o)
+      found o is = ap (λ os. slice_get os id.0) (sym view) ∙ slice_get-map seen objects id.0 ∙ ap (option_map seen) (slice_get-get_or objects id.0 old within) ∙ ap (λ x. Some (seen x)) (sym was ∙ is)
+
+      by : (o : Kept) → old ≡ o → make_entry stored_notions id key shown ≡ Err 1
+      by (Array elements) is = ap (λ o. entry_into stored_notions id key shown (entries_for stored_notions key (as_table o))) (found (Array elements) is)
+      by (Data instance) is = ap (λ o. entry_into stored_notions id key shown (entries_for stored_notions key (as_table o))) (found (Data instance) is)
+      by (Table entries) is = absurd (other entries is)
 
 -- a refusal that is passed on
 pub passed_on : {X : Type 0} (call : List (Object Value) → Result (X × List (Object Value)) ℕ) (old new : List (Object Value)) (refusal : StoreError) (result : Result X StoreError)

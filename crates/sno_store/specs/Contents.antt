@@ -1,15 +1,16 @@
 -- What a store holds, and what its calls do with that.
-use Rattle.std.specs.Prelude.{◌≡◌, ℕ, ◌==◌, List, [], ◌∷◌, ◌++◌, codes, length, slice_index_or, slice_set, Option, Result, Ok, Err, IsOk, if◌then◌else◌}
+use Rattle.std.specs.Prelude.{◌≡◌, ℕ, ◌==◌, List, [], ◌∷◌, ◌++◌, codes, length, slice_index_or, slice_set, Result, Ok, Err, IsOk, if◌then◌else◌}
 use Rattle.sno_value.specs.declared.ids.SymId.{SymId}
 use Rattle.sno_value.specs.declared.value.Name.{Name}
-use Rattle.sno_value.specs.declared.value.Name.TheVariants.{Var, Elem, Entry}
+use Rattle.sno_value.specs.declared.value.Name.TheVariants.{Var, Elem, Entry, Field}
 use Rattle.sno_value.specs.declared.value.Value.{Value}
 use Rattle.sno_value.specs.declared.value.Value.TheVariants.{Str, Pat}
 use Rattle.sno_store.specs.declared.error.StoreError.{StoreError}
 use Rattle.sno_store.specs.declared.error.StoreError.TheVariants.{NullName, Full, NoMemory}
-use Rattle.sno_store.specs.Definitions.{Definition}
+use Rattle.sno_store.specs.declared.functions.Function.{Function}
 pub use Rattle.sno_store.specs.Names.{place, is_symbol}
-use Rattle.sno_store.specs.Objects.{Object, array_at, table_at, element_value, entry_value, with_element, with_entry_value, changed}
+use Rattle.sno_store.specs.Objects.{Object, array_at, table_at, fields_at, element_value, entry_value, field_value, with_element, with_entry_value, with_field, changed}
+use Rattle.sno_store.specs.Types.{DataType}
 
 -- What a store holds.
 pub record Contents : Type 0 where
@@ -17,10 +18,12 @@ pub record Contents : Type 0 where
   pub symbols : List (List ℕ)
   -- the values of the variables, by the symbols' numbers
   pub values : List Value
-  -- the arrays and tables, by their numbers
+  -- the arrays, the tables and the objects of a program's own types, by their numbers
   pub objects : List (Object Value)
-  -- the definitions of functions, by the numbers of their symbols; there is none behind the list's end
-  pub definitions : List (Option Definition)
+  -- these types, by their numbers
+  pub types : List DataType
+  -- what the names of functions are, by the numbers of their symbols; nothing behind the list's end
+  pub functions : List Function
   -- what the open calls have saved, the innermost call last: the symbols, each with the value that its variable had
   pub calls : List (List (ℕ × Value))
 
@@ -45,12 +48,14 @@ abbrev pub value_of : Contents → Name → Value
 value_of c (Var symbol) = slice_index_or c.values symbol.0 (Str [])
 value_of c (Elem object k) = element_value (Str []) (array_at c.objects object) k
 value_of c (Entry object k) = entry_value (Str []) (table_at c.objects object) k
+value_of c (Field object k) = field_value (Str []) (fields_at c.objects object) k
 
 -- what is named is given a value; nothing changes where the store has no such name
 abbrev pub with_value : Name → Value → Contents → Contents
 with_value (Var symbol) value c = record c { values = slice_set c.values symbol.0 value }
 with_value (Elem object k) value c = record c { objects = changed (with_element k value) c.objects object }
 with_value (Entry object k) value c = record c { objects = changed (with_entry_value k value) c.objects object }
+with_value (Field object k) value c = record c { objects = changed (with_field k value) c.objects object }
 
 abbrev pub pattern : ℕ → Value
 pattern n = Pat (record { 0 = n })
@@ -61,6 +66,7 @@ new_contents = record {
   symbols = codes "ARB" ∷ codes "BAL" ∷ codes "REM" ∷ codes "FAIL" ∷ codes "FENCE" ∷ codes "ABORT" ∷ codes "SUCCEED" ∷ codes "INPUT" ∷ codes "OUTPUT" ∷ [];
   values = pattern 0 ∷ pattern 1 ∷ pattern 2 ∷ pattern 3 ∷ pattern 4 ∷ pattern 5 ∷ pattern 6 ∷ Str [] ∷ Str [] ∷ [];
   objects = [];
-  definitions = [];
+  types = [];
+  functions = [];
   calls = [];
 }

@@ -1,5 +1,5 @@
--- Functions that a program defines: what a prototype says, and the definitions by the symbols' numbers.
-use Rattle.std.specs.Prelude.{ℕ, zero, suc, ◌+◌, ◌==◌, nat_le, nat_lt, Bool, false, not, ◌&&◌, ◌||◌, List, [], ◌∷◌, ◌++◌, codes, length, map, take, drop, position, option_map, slice_index_or, Option, None, Some, Result, Ok, Err, if◌then◌else◌}
+-- Functions that a program defines: what a prototype says, and what it defines.
+use Rattle.std.specs.Prelude.{ℕ, ◌+◌, ◌==◌, nat_le, Bool, false, not, ◌&&◌, ◌||◌, List, [], ◌∷◌, ◌++◌, codes, length, map, take, drop, position, option_map, Option, None, Some, if◌then◌else◌}
 use Rattle.std.specs.List.{list_all, slice_split}
 use Rattle.std.specs.Str.{bytes_eq}
 use Rattle.sno_store.specs.Arrays.{is_comma}
@@ -80,29 +80,3 @@ definition entry p symbols = record {
   formals = map (λ name. place name symbols) p.formals;
   locals = map (λ name. place name symbols) p.locals;
 }
-
-module _ {D : Type 0} where
-  -- function n has this definition, and the others have theirs
-  abbrev pub defined : ℕ → D → List (Option D) → List (Option D)
-  defined zero d [] = Some d ∷ []
-  defined zero d (old ∷ ds) = Some d ∷ ds
-  defined (suc n) d [] = None ∷ defined n d []
-  defined (suc n) d (old ∷ ds) = old ∷ defined n d ds
-
-  -- the definition of function n, if it has one
-  abbrev pub definition_at : List (Option D) → ℕ → Option D
-  definition_at ds n = slice_index_or ds n None
-
--- the symbols with the names, and the definitions with the function's; more than 1,000,000 symbols are error 9 (this profile)
-abbrev pub definition_in : List ℕ → Prototype → List (List ℕ) → List (Option Definition) → Result (List (List ℕ) × List (Option Definition)) ℕ
-definition_in entry p symbols definitions =
-    if nat_lt 1_000_000 (length symbols) then Err 9
-    else Ok (symbols, defined (place p.function symbols) (definition entry p symbols) definitions)
-
-abbrev pub definition_by : List ℕ → List (List ℕ) → List (Option Definition) → Option Prototype → Result (List (List ℕ) × List (Option Definition)) ℕ
-definition_by entry symbols definitions (Some p) = if is_sound p then definition_in entry p (with_names (names p) symbols) definitions else Err 12
-definition_by entry symbols definitions None = Err 12
-
--- the symbols and the definitions behind DEFINE; another text than a sound prototype is error 12
-abbrev pub with_definition : List ℕ → List ℕ → List (List ℕ) → List (Option Definition) → Result (List (List ℕ) × List (Option Definition)) ℕ
-with_definition text entry symbols definitions = definition_by entry symbols definitions (prototype text)

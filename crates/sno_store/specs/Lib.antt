@@ -7,6 +7,7 @@ pub mod Calls
 pub mod Contents
 pub mod Definitions
 pub mod First
+pub mod Functions
 pub mod Names
 pub mod Objects
 pub mod Outcomes
@@ -14,3 +15,4 @@ pub mod Seen
 pub mod Stored
 pub mod Symbols
 pub mod Tables
+pub mod Types

@@ -7,8 +7,10 @@ use Rattle.sno_store.specs.declared.error.StoreError.{StoreError}
 use Rattle.sno_store.specs.declared.error.StoreError.TheVariants.{NullName, Full, WrongType, BadPrototype, CallLevel, NoMemory}
 use Rattle.sno_store.specs.Calls.{saved, entered}
 use Rattle.sno_store.specs.Contents.{Contents}
-use Rattle.sno_store.specs.Definitions.{Definition, with_definition}
+use Rattle.sno_store.specs.Definitions.{Definition}
+use Rattle.sno_store.specs.Functions.{with_definition}
 use Rattle.sno_store.specs.Objects.{Object}
+use Rattle.sno_store.specs.Types.{with_type}
 
 -- the error that is meant is told by its name; that memory was refused is told only where a success is meant
 abbrev pub IsError : {A : Type 0} → Result A ℕ → StoreError → Type 0
@@ -36,9 +38,16 @@ itself x = x
 -- What DEFINE did: the names joined, the variables of the new ones begin with null, and the function has its definition.
 abbrev pub IsDefined : List ℕ → List ℕ → Contents → Contents → Result (Unit {0}) StoreError → Type 0
 IsDefined text entry old new (Ok done) =
-    (with_definition text entry old.symbols old.definitions ≡ Ok (new.symbols, new.definitions)) ×
-    (new ≡ record old { symbols = new.symbols; definitions = new.definitions; values = old.values ++ replicate (length new.symbols - length old.symbols) (Str []) })
-IsDefined text entry old new (Err refusal) = IsError (with_definition text entry old.symbols old.definitions) refusal × (new ≡ old)
+    (with_definition text entry old.symbols old.functions ≡ Ok (new.symbols, new.functions)) ×
+    (new ≡ record old { symbols = new.symbols; functions = new.functions; values = old.values ++ replicate (length new.symbols - length old.symbols) (Str []) })
+IsDefined text entry old new (Err refusal) = IsError (with_definition text entry old.symbols old.functions) refusal × (new ≡ old)
+
+-- What DATA did: the names joined, the variables of the new ones begin with null, and the names have their type.
+abbrev pub IsTyped : List ℕ → Contents → Contents → Result (Unit {0}) StoreError → Type 0
+IsTyped text old new (Ok done) =
+    (with_type text old.symbols old.types old.functions ≡ Ok (new.symbols, new.types, new.functions)) ×
+    (new ≡ record old { symbols = new.symbols; types = new.types; functions = new.functions; values = old.values ++ replicate (length new.symbols - length old.symbols) (Str []) })
+IsTyped text old new (Err refusal) = IsError (with_type text old.symbols old.types old.functions) refusal × (new ≡ old)
 
 -- What the begin of a call of a function with this definition did. There are at most 200 open calls (this profile).
 abbrev pub IsEntered : SymId → Definition → List Value → Contents → Contents → Result (Unit {0}) StoreError → Type 0

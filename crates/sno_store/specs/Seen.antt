@@ -1,14 +1,14 @@
 -- What private calls say of objects, of calls and of prototypes. Private contracts alone cite it.
-use Rattle.std.specs.Prelude.{◌≡◌, ℕ, ◌==◌, List, [], ◌∷◌, ◌++◌, length, map, slice_index_or, slice_set, Option, None, Some, Result, Ok, Err, if◌then◌else◌}
+use Rattle.std.specs.Prelude.{◌≡◌, ℕ, ◌+◌, max, ◌==◌, List, [], ◌∷◌, ◌++◌, length, map, slice_index_or, slice_set, Option, None, Some, Result, Ok, Err, if◌then◌else◌}
 use Rattle.sno_value.specs.declared.ids.SymId.{SymId}
 use Rattle.sno_value.specs.declared.value.Value.{Value}
 use Rattle.sno_value.specs.declared.value.Value.TheVariants.{Str}
 use Rattle.sno_store.specs.declared.error.StoreError.{StoreError}
 use Rattle.sno_store.specs.declared.function_prototype.FunctionPrototype.{FunctionPrototype}
 use Rattle.sno_store.specs.declared.object.Object.{Object as Kept}
-use Rattle.sno_store.specs.declared.object.Object.TheVariants.{Array, Table}
+use Rattle.sno_store.specs.declared.object.Object.TheVariants.{Array, Table, Data}
 use Rattle.sno_store.specs.Definitions.{Prototype, listed}
-use Rattle.sno_store.specs.Objects.{Object, ArrayOf, TableOf}
+use Rattle.sno_store.specs.Objects.{Object, ArrayOf, TableOf, DataOf}
 use Rattle.sno_store.specs.Outcomes.{IsError}
 use Rattle.sno_store.specs.Stored.{stored_notions}
 use Rattle.sno_store.specs.Tables.{entry_place}
@@ -17,6 +17,7 @@ use Rattle.sno_store.specs.Tables.{entry_place}
 abbrev pub seen : Kept → Object Value
 seen (Array elements) = ArrayOf elements
 seen (Table entries) = TableOf entries
+seen (Data instance) = DataOf instance.data_type instance.fields.items
 
 -- what a call on the objects did
 abbrev pub Does : {X : Type 0} → (List (Object Value) → Result (X × List (Object Value)) ℕ) → List (Object Value) → List (Object Value) → Result X StoreError → Type 0
@@ -37,6 +38,11 @@ IsEntry key old new (Err refusal) = IsError (with_key key old (entry_place store
 -- what the parts of a prototype say
 abbrev pub prototype_seen : FunctionPrototype → Prototype
 prototype_seen p = record { function = p.function.now; formals = listed p.formals.now; locals = listed p.locals.now }
+
+-- how long a list is that has a place for each of these symbols
+abbrev pub reach : List SymId → ℕ
+reach [] = 0
+reach (symbol ∷ symbols) = max (symbol.0 + 1) (reach symbols)
 
 -- Values are moved out of variables, which are null from then on: of a symbol that stands more than once, the value goes
 -- with the first.

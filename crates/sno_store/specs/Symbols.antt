@@ -7,7 +7,10 @@ use Rattle.sno_value.specs.declared.value.Value.TheVariants.{Str}
 use Rattle.sno_store.specs.declared.error.StoreError.{StoreError}
 use Rattle.sno_store.specs.declared.error.StoreError.TheVariants.{Full, NoMemory}
 use Rattle.sno_store.specs.Contents.{Contents, place, is_symbol, pattern}
-use Rattle.sno_store.specs.Definitions.{Prototype, names, with_names, definition, defined}
+use Rattle.sno_store.specs.declared.functions.Function.TheVariants.{Constructs, Defined}
+use Rattle.sno_store.specs.Definitions.{Prototype, names, with_names, definition}
+use Rattle.sno_store.specs.Functions.{with_function}
+use Rattle.sno_store.specs.Types.{data_type, with_fields}
 
 -- the number of a name, if it is a symbol
 abbrev pub found : List ℕ → List (List ℕ) → Option ℕ
@@ -20,14 +23,15 @@ appended name value c = record c { symbols = c.symbols ++ name ∷ []; values = 
 -- a new store by stages: nothing, then with the variables of the patterns that search for an end, then with those of the
 -- patterns that steer the search
 abbrev pub no_contents : Contents
-no_contents = record { symbols = []; values = []; objects = []; definitions = []; calls = [] }
+no_contents = record { symbols = []; values = []; objects = []; types = []; functions = []; calls = [] }
 
 abbrev pub with_searches : Contents
 with_searches = record {
   symbols = codes "ARB" ∷ codes "BAL" ∷ codes "REM" ∷ codes "FAIL" ∷ [];
   values = pattern 0 ∷ pattern 1 ∷ pattern 2 ∷ pattern 3 ∷ [];
   objects = [];
-  definitions = [];
+  types = [];
+  functions = [];
   calls = [];
 }
 
@@ -36,7 +40,8 @@ with_controls = record {
   symbols = codes "ARB" ∷ codes "BAL" ∷ codes "REM" ∷ codes "FAIL" ∷ codes "FENCE" ∷ codes "ABORT" ∷ codes "SUCCEED" ∷ [];
   values = pattern 0 ∷ pattern 1 ∷ pattern 2 ∷ pattern 3 ∷ pattern 4 ∷ pattern 5 ∷ pattern 6 ∷ [];
   objects = [];
-  definitions = [];
+  types = [];
+  functions = [];
   calls = [];
 }
 
@@ -62,6 +67,16 @@ abbrev pub IsDefinedByParts : Prototype → List ℕ → Contents → Contents �
 IsDefinedByParts p entry old new (Ok done) =
     (new.symbols ≡ with_names (names p) old.symbols) ×
     (length new.symbols ≤ 1_000_000) ×
-    HasMore old (record new { definitions = old.definitions }) ×
-    (new.definitions ≡ defined (place p.function new.symbols) (definition entry p new.symbols) old.definitions)
+    HasMore old (record new { functions = old.functions }) ×
+    (new.functions ≡ with_function (place p.function new.symbols) (Defined (definition entry p new.symbols)) old.functions)
 IsDefinedByParts p entry old new (Err refusal) = AreTooMany (names p) old.symbols refusal × HasMore old new
+
+-- what the call that makes a type by the parts of its prototype did
+abbrev pub IsTypedByParts : Prototype → Contents → Contents → Result (Unit {0}) StoreError → Type 0
+IsTypedByParts p old new (Ok done) =
+    (new.symbols ≡ with_names (names p) old.symbols) ×
+    (length new.symbols ≤ 1_000_000) ×
+    HasMore old (record new { types = old.types; functions = old.functions }) ×
+    (new.types ≡ old.types ++ data_type p new.symbols ∷ []) ×
+    (new.functions ≡ with_fields (map (λ name. place name new.symbols) p.formals) (with_function (place p.function new.symbols) (Constructs (length old.types)) old.functions))
+IsTypedByParts p old new (Err refusal) = AreTooMany (names p) old.symbols refusal × HasMore old new

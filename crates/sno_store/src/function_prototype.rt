@@ -2,7 +2,7 @@
 ghost use Rattle.std.specs.Prelude.{◌≡◌, ◌==◌, ◌<◌, ◌&&◌, not, length, option_map, position, take, IfSome};
 ghost use Rattle.std.specs.List.{list_all, list_any};
 ghost use Rattle.std.specs.Str.{bytes_eq};
-ghost use Rattle.sno_store.specs.Definitions.{cut_at, is_device, is_letter, is_name, is_name_byte, is_sound, listed, prototype};
+ghost use Rattle.sno_store.specs.Definitions.{cut_at, entry_label, is_device, is_letter, is_name, is_name_byte, is_sound, listed, prototype};
 ghost use Rattle.sno_store.specs.Seen.{prototype_seen};
 
 /// How many names a prototype has at most (this profile).
@@ -40,6 +40,13 @@ impl<'a> FunctionPrototype<'a> {
             && all_may_be(self.formals)
             && all_may_be(self.locals)
     }
+}
+
+/// The label at which calls of a function begin: the function's name where the label is null.
+pub(crate) fn entry_label<'a>(entry: &'a [u8], function: &'a [u8]) -> &'a [u8]
+    ensures { result.now ≡ entry_label entry.now function.now }
+{
+    if entry.is_empty() { function } else { entry }
 }
 
 /// A text cut at the first of a byte, into what stands before it and behind it.
@@ -93,8 +100,15 @@ fn may_be(name: &[u8]) -> bool
     is_name(name) && name != b"INPUT".as_slice() && name != b"OUTPUT".as_slice()
 }
 
+/// Whether each text of a list is a name.
+pub(crate) fn are_names(list: &[u8]) -> bool
+    ensures { result ≡ list_all is_name (listed list.now) }
+{
+    list.is_empty() || list.split(|byte| *byte == b',').all(is_name)
+}
+
 /// Whether a text is a letter, and then letters, digits, dots and underscores.
-fn is_name(name: &[u8]) -> bool
+pub(crate) fn is_name(name: &[u8]) -> bool
     ensures { result ≡ is_name name.now }
 {
     match name {

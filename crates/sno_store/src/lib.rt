@@ -1,8 +1,9 @@
-//! What a program's run keeps: the symbols, the values of the variables, the arrays and tables, and the functions that the
-//! program defines with their open calls.
+//! What a program's run keeps: the symbols, the values of the variables, the arrays, the tables and the objects of the types
+//! that the program makes, and the functions that the program defines with their open calls.
 #![tactic(auto)]
 
 mod call;
+mod data_type;
 mod definition;
 mod dimension;
 mod elements;
@@ -10,11 +11,13 @@ mod entries;
 mod error;
 mod function_prototype;
 mod functions;
+mod instance;
 mod object;
 mod objects;
 mod prototype;
 mod store;
 mod symbols;
+mod type_prototype;
 mod values;
 
 pub use definition::Definition;

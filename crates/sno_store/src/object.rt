@@ -1,17 +1,19 @@
-//! An array or a table.
+//! Arrays, tables and objects of the types that a program makes.
 ghost use Rattle.std.specs.Prelude.{◌≡◌, Some, option_map, option_copied};
-ghost use Rattle.sno_store.specs.Objects.{as_array, as_table, with_element, with_entry_value};
+ghost use Rattle.sno_store.specs.Objects.{as_array, as_fields, as_table, as_type, with_element, with_entry_value, with_field};
 ghost use Rattle.sno_store.specs.Seen.{seen};
 
 use crate::elements::Elements;
 use crate::entries::Entries;
+use crate::instance::Instance;
 use sno_value::Value;
 
-/// An array or a table.
+/// An array, a table, or an object of a type that the program made.
 #[derive(Drop)]
 pub(crate) enum Object {
     Array(Elements),
     Table(Entries),
+    Data(Instance),
 }
 
 impl Object {
@@ -21,7 +23,7 @@ impl Object {
     {
         match self {
             Object::Array(elements) => Some(elements),
-            Object::Table(_entries) => None,
+            Object::Table(_) | Object::Data(_) => None,
         }
     }
 
@@ -31,7 +33,18 @@ impl Object {
     {
         match self {
             Object::Table(entries) => Some(entries),
-            Object::Array(_elements) => None,
+            Object::Array(_) | Object::Data(_) => None,
+        }
+    }
+
+    /// The object of a type that the program made, if it is one.
+    pub(crate) fn instance(&self) -> Option<&Instance>
+        ensures number { option_map (λ instance. instance.data_type) (option_copied result) ≡ as_type (Some (seen self.now)) }
+        ensures fields { option_map (λ instance. instance.fields.items) (option_copied result) ≡ as_fields (Some (seen self.now)) }
+    {
+        match self {
+            Object::Data(instance) => Some(instance),
+            Object::Array(_) | Object::Table(_) => None,
         }
     }
 
@@ -50,6 +63,15 @@ impl Object {
     {
         if let Object::Table(entries) = self {
             entries.set(entry, value);
+        }
+    }
+
+    /// A field is given a value. Nothing changes where there is none with this number.
+    pub(crate) fn set_field(&mut self, field: u32, value: Value)
+        ensures { seen self.new ≡ with_field field value (seen self.old) }
+    {
+        if let Object::Data(instance) = self {
+            instance.set(field, value);
         }
     }
 }

@@ -1,26 +1,28 @@
-//! Arrays and tables by their numbers.
-ghost use Rattle.std.specs.Prelude.{◌≡◌, ◌<◌, [], length, option_copied, unwrap_or};
+//! Arrays, tables and objects by their numbers.
+ghost use Rattle.std.specs.Prelude.{◌≡◌, ◌<◌, [], length, option_copied, option_map, unwrap_or};
 ghost use Rattle.sno_value.specs.declared.value.Value.TheVariants.{Str};
 ghost use Rattle.sno_store.specs.Arrays.{new_array, element_name, prototype_of};
-ghost use Rattle.sno_store.specs.Objects.{array_at, table_at, changed, element_value, entry_value, joined, with_element, with_entry_value};
+ghost use Rattle.sno_store.specs.Objects.{DataOf, array_at, table_at, fields_at, type_at, changed, element_value, entry_value, field_value, joined, with_element, with_entry_value, with_field};
 ghost use Rattle.sno_store.specs.Outcomes.{IsAnswered, itself};
 ghost use Rattle.sno_store.specs.Seen.{seen, Does};
 ghost use Rattle.sno_store.specs.Stored.{stored_notions};
 ghost use Rattle.sno_store.specs.Tables.{new_table, find_entry, make_entry, table_to_array};
+ghost use Rattle.sno_store.specs.Types.{field_values};
 
 use crate::elements::{Elements, of_rows, uniform};
 use crate::entries::{Entries, entry_in, is_key};
 use crate::error::StoreError;
+use crate::instance::{Instance, field_values};
 use crate::object::Object;
 use crate::prototype::{MOST_ELEMENTS, count_of};
 use sno_value::{Name, ObjId, Value};
 use std::alloc::Global;
 use std::marker::Model;
 
-/// How many arrays and tables a store holds at most (this profile).
+/// How many arrays, tables and objects of a program's own types a store holds at most (this profile).
 const MOST_OBJECTS: usize = 1_000_000;
 
-/// Arrays and tables, numbered from 0.
+/// Arrays, tables and objects of the types that a program makes, numbered from 0.
 #[derive(Drop)]
 pub(crate) struct Objects {
     alloc: Global,
@@ -79,6 +81,29 @@ impl Objects {
         self.table(id)?.get(entry)
     }
 
+    /// The object of a type that the program made with this number, if it is one's.
+    fn instance(&self, id: ObjId) -> Option<&Instance>
+        ensures number { option_map (λ instance. instance.data_type) (option_copied result) ≡ type_at self.now id }
+        ensures fields { option_map (λ instance. instance.fields.items) (option_copied result) ≡ fields_at self.now id }
+    {
+        self.objects.get(id.0 as usize)?.instance()
+    }
+
+    /// The number of the type of such an object, if it is one's.
+    pub(crate) fn data_type(&self, id: ObjId) -> Option<u32>
+        ensures { result ≡ type_at self.now id }
+    {
+        let instance = self.instance(id)?;
+        Some(instance.data_type)
+    }
+
+    /// The value of a field, if there is one.
+    pub(crate) fn field_value(&self, id: ObjId, field: u32) -> Option<&Value>
+        ensures { unwrap_or (option_copied result) (Str []) ≡ field_value (Str []) (fields_at self.now id) field }
+    {
+        self.instance(id)?.get(field)
+    }
+
     /// An element is given a value. Nothing changes where there is no such element.
     pub(crate) fn set_element(&mut self, id: ObjId, element: u32, value: Value)
         ensures { self.new ≡ changed (with_element element value) self.old id }
@@ -98,6 +123,17 @@ impl Objects {
         if place < self.objects.len() {
             let object = &mut self.objects[place];
             object.set_entry(entry, value);
+        }
+    }
+
+    /// A field is given a value. Nothing changes where there is no such field.
+    pub(crate) fn set_field(&mut self, id: ObjId, field: u32, value: Value)
+        ensures { self.new ≡ changed (with_field field value) self.old id }
+    {
+        let place = id.0 as usize;
+        if place < self.objects.len() {
+            let object = &mut self.objects[place];
+            object.set_field(field, value);
         }
     }
 
@@ -133,6 +169,24 @@ impl Objects {
         ensures { Does new_table self.old self.new result }
     {
         let id = self.add(Object::Table(Entries::new(self.alloc)))?;
+        Ok(id)
+    }
+
+    /// A new object of the type with this number, which has so many fields.
+    pub(crate) fn new_data(
+        &mut self,
+        data_type: u32,
+        count: usize,
+        values: Vec<Value>,
+    ) -> Result<ObjId, StoreError>
+        ensures { Does (joined (DataOf data_type (field_values (Str []) count values.items))) self.old self.new result }
+    {
+        let room = MOST_OBJECTS - self.objects.len();
+        if room == 0 {
+            return Err(StoreError::Full);
+        }
+        let fields = field_values(self.alloc, count, values)?;
+        let id = self.add(Object::Data(Instance { data_type, fields }))?;
         Ok(id)
     }
 

@@ -1,25 +1,29 @@
-//! The store: symbols, variables, arrays and tables, and functions with their calls.
-ghost use Rattle.std.specs.Prelude.{◌≡◌, ◌<◌, ◌≤◌, ℕ, List, [], ◌∷◌, ◌++◌, length, nat_lt, true, false, slice_index_or, Some, option_copied, IfOk, OnOk, OnErr, IsOkAnd};
+//! The store: symbols, variables, arrays, tables and objects of a program's own types, and functions with their calls.
+ghost use Rattle.std.specs.Prelude.{◌≡◌, ◌<◌, ◌≤◌, ℕ, List, [], ◌∷◌, ◌++◌, length, take, nat_lt, true, false, slice_index_or, Some, option_copied, option_map, IfOk, OnOk, OnErr, IsOkAnd};
 ghost use Rattle.std.specs.List.{list_all};
 ghost use Rattle.sno_value.specs.declared.value.Value.TheVariants.{Str};
 ghost use Rattle.sno_store.specs.Arrays.{new_array, element_name, prototype_of};
 ghost use Rattle.sno_store.specs.Calls.{function_value, restored};
 ghost use Rattle.sno_store.specs.Contents.{Contents, new_contents, is_symbol, IsJoined, value_of, with_value};
-ghost use Rattle.sno_store.specs.Definitions.{Definition as Defined, definition_at, is_name, is_sound, listed, names, with_names};
+ghost use Rattle.sno_store.specs.Definitions.{Definition as Shown, is_name, is_sound, listed, names, with_names};
+ghost use Rattle.sno_store.specs.Functions.{constructor_at, definition_at, is_field_at};
 ghost use Rattle.sno_store.specs.First.{first_patterns, search_patterns, IsBeginning};
-ghost use Rattle.sno_store.specs.Outcomes.{IsAnswered, IsDefined, IsDone, IsEntered, itself};
+ghost use Rattle.sno_store.specs.Outcomes.{IsAnswered, IsDefined, IsDone, IsEntered, IsTyped, itself};
 ghost use Rattle.sno_store.specs.Seen.{prototype_seen};
 ghost use Rattle.sno_store.specs.Stored.{stored_notions};
-ghost use Rattle.sno_store.specs.Symbols.{appended, no_contents, with_searches, with_controls, AreJoined, IsDefinedByParts};
+ghost use Rattle.sno_store.specs.Symbols.{appended, found, no_contents, with_searches, with_controls, AreJoined, IsDefinedByParts, IsTypedByParts};
 ghost use Rattle.sno_store.specs.Tables.{new_table, find_entry, make_entry, table_to_array};
+ghost use Rattle.sno_store.specs.Types.{field_name, makes_type, new_data, object_type, type_name};
 
 use crate::call::Call;
+use crate::data_type::DataType;
 use crate::definition::Definition;
 use crate::error::StoreError;
-use crate::function_prototype::{FunctionPrototype, MOST_NAMES};
+use crate::function_prototype::{FunctionPrototype, MOST_NAMES, entry_label};
 use crate::functions::Functions;
 use crate::objects::Objects;
 use crate::symbols::{MOST_SYMBOLS, Symbols};
+use crate::type_prototype::makes_type;
 use crate::values::null;
 use sno_pattern::{BuildError, Patterns};
 use sno_value::{Name, ObjId, PatId, SymId, Value};
@@ -29,17 +33,22 @@ use std::marker::Model;
 /// How many calls are open at most (this profile).
 const MOST_CALLS: usize = 200;
 
-/// The symbols of a program, the values of its variables, its arrays and tables, and its functions with their open calls.
+/// How many types a program makes at most (this profile).
+const MOST_TYPES: usize = 100_000;
+
+/// The symbols of a program, the values of its variables, its arrays, tables and objects of its own types, and its functions
+/// with their open calls.
 ///
 /// Each symbol has a number, and names a variable, which begins with the null string (the book). Numbers are counted from
-/// 0 in the order in which the symbols joined. Arrays and tables have numbers of their own, in the order in which they
-/// were made; they stay as long as the store. A function has the number of its name's symbol.
+/// 0 in the order in which the symbols joined. Arrays, tables and objects have numbers of their own, in the order in which
+/// they were made; they stay as long as the store, and so do types. A function has the number of its name's symbol.
 #[derive(Drop)]
 pub struct Store {
     alloc: Global,
     symbols: Symbols,
     values: Vec<Value>,
     objects: Objects,
+    types: Vec<DataType>,
     functions: Functions,
     // the open calls, the innermost last
     calls: Vec<Call>,
@@ -55,9 +64,9 @@ impl Model for Store {
 
     ghost Value = { Contents };
 
-    ghost view = { λ s. record { symbols = s.symbols; values = s.values.items; objects = s.objects; definitions = s.functions; calls = s.calls.items } };
+    ghost view = { λ s. record { symbols = s.symbols; values = s.values.items; objects = s.objects; types = s.types.items; functions = s.functions; calls = s.calls.items } };
 
-    ghost invariant = { λ s. (length s.values.items ≡ length s.symbols) × (s.null ≡ Str []) × (length s.calls.items ≤ 200) };
+    ghost invariant = { λ s. (length s.values.items ≡ length s.symbols) × (s.null ≡ Str []) × (length s.calls.items ≤ 200) × (length s.types.items ≤ 100_000) };
 }
 
 impl Store {
@@ -75,6 +84,7 @@ impl Store {
             symbols: Symbols::new(alloc),
             values: Vec::new(alloc),
             objects: Objects::new(alloc),
+            types: Vec::new(alloc),
             functions: Functions::new(alloc),
             calls: Vec::new(alloc),
             null: null(alloc),
@@ -105,6 +115,13 @@ impl Store {
         Ok(symbol)
     }
 
+    /// The number of the symbol with this text, if it is one. It takes expected constant time beside the text's length.
+    pub fn find_symbol(&self, name: &[u8]) -> Option<SymId>
+        ensures { option_map (λ id. id.0) result ≡ found name.now self.now.symbols }
+    {
+        self.symbols.find(name)
+    }
+
     /// The text of a symbol. It is empty where the store has no symbol with this number.
     pub fn symbol_text(&self, symbol: SymId) -> &[u8]
         ensures { result.now ≡ slice_index_or self.now.symbols symbol.0 [] }
@@ -129,6 +146,10 @@ impl Store {
                 Some(value) => value,
                 None => &self.null,
             },
+            Name::Field(object, field) => match self.objects.field_value(object, field) {
+                Some(value) => value,
+                None => &self.null,
+            },
         }
     }
 
@@ -145,6 +166,7 @@ impl Store {
             }
             Name::Elem(array, element) => self.objects.set_element(array, element, value),
             Name::Entry(table, entry) => self.objects.set_entry(table, entry, value),
+            Name::Field(object, field) => self.objects.set_field(object, field, value),
         }
     }
 
@@ -153,7 +175,7 @@ impl Store {
     /// profile).
     ///
     /// Another text is `BadPrototype`, and so are a bound that doesn't fit 64 bits, an n less than 1 and a u less than l.
-    /// More than 1,000,000 elements are `Full`, and so is an array beside 1,000,000 arrays and tables.
+    /// More than 1,000,000 elements are `Full`, and so is an array beside 1,000,000 arrays, tables and objects.
     pub fn new_array(&mut self, prototype: &[u8], value: &Value) -> Result<ObjId, StoreError>
         ensures { IsDone itself (new_array prototype.now value.now) self.old self.new result }
     {
@@ -161,7 +183,7 @@ impl Store {
         Ok(id)
     }
 
-    /// A new table without entries. Beside 1,000,000 arrays and tables it is `Full`.
+    /// A new table without entries. Beside 1,000,000 arrays, tables and objects it is `Full`.
     pub fn new_table(&mut self) -> Result<ObjId, StoreError>
         ensures { IsDone itself new_table self.old self.new result }
     {
@@ -187,7 +209,8 @@ impl Store {
         self.objects.prototype(array)
     }
 
-    /// The entry of a table with this key, if there is one. Keys are equal where their types and values are. It takes
+    /// The entry of a table with this key, if there is one. Keys are equal where their types and values are,
+    /// and an object is equal to itself alone. It takes
     /// expected constant time beside the length of the key's text, and no memory.
     ///
     /// It is `WrongType` where the number is no table's, and where the key is a pattern or an expression.
@@ -218,7 +241,7 @@ impl Store {
         Ok(array)
     }
 
-    /// Defines a function, in place of the definition that it may have. A prototype `F(A,B)L,M` has the function's name, then
+    /// Defines a function, in place of what its name may be. A prototype `F(A,B)L,M` has the function's name, then
     /// its formals in parentheses, and then its locals, without blanks; `F()` has neither. A name is a letter, and then
     /// letters, digits, dots and underscores. The names join the symbols in this order. Calls begin at the label `entry`, or
     /// at the one that is named as the function where `entry` is empty.
@@ -239,8 +262,7 @@ impl Store {
         }
         let count = self.symbols.len();
         if let Err(refusal) = self.define_parts(prototype, entry) {
-            self.symbols.truncate(count);
-            self.values.truncate(count);
+            self.take_back(count);
             return Err(refusal);
         }
         Ok(())
@@ -248,9 +270,92 @@ impl Store {
 
     /// The definition of a function, if it has one. It takes no memory.
     pub fn definition(&self, function: SymId) -> Option<&Definition>
-        ensures { option_copied result ≡ definition_at self.now.definitions function.0 }
+        ensures { option_copied result ≡ definition_at self.now.functions function.0 }
     {
-        self.functions.get(function)
+        self.functions.definition(function)
+    }
+
+    /// Makes a type. A prototype `T(F,G)` has its name, and then 1 to 99 fields in parentheses, without blanks; each is a
+    /// letter, and then letters, digits, dots and underscores. The names join the symbols in this order. As functions T is the
+    /// constructor from now on, and F and G are fields, in place of what they may be; types that were made before stay.
+    ///
+    /// Another text is `BadPrototype`, and so are a name that stands twice, and STRING, INTEGER, PATTERN, ARRAY, TABLE, NAME
+    /// or EXPRESSION as T (this profile). Beside 100,000 types it is `Full`, and so are more than 1,000,000 symbols.
+    pub fn define_data(&mut self, prototype: &[u8]) -> Result<(), StoreError>
+        ensures { IsTyped prototype.now self.old self.new result }
+    {
+        let Some(parts) = FunctionPrototype::read(prototype) else {
+            return Err(StoreError::BadPrototype)
+        };
+        if !makes_type(parts) {
+            return Err(StoreError::BadPrototype);
+        }
+        if self.types.len() == MOST_TYPES || self.is_full_with(parts) {
+            return Err(StoreError::Full);
+        }
+        let known = self.symbols.len();
+        if let Err(refusal) = self.make_type(parts) {
+            self.take_back(known);
+            return Err(refusal);
+        }
+        Ok(())
+    }
+
+    /// The number of the type whose constructor a function is, if it is one. It takes no memory, and constant time.
+    pub fn constructor(&self, function: SymId) -> Option<u32>
+        ensures { result ≡ constructor_at self.now.functions function.0 }
+    {
+        self.functions.constructor(function)
+    }
+
+    /// Whether a function is a field. It takes no memory, and constant time.
+    pub fn is_field(&self, function: SymId) -> bool
+        ensures { result ≡ is_field_at self.now.functions function.0 }
+    {
+        self.functions.is_field(function)
+    }
+
+    /// A new object of the type with this number, whose fields have the values in the prototype's order: missing ones are
+    /// null, and extra ones are dropped. An object of no type has no fields.
+    ///
+    /// Beside 1,000,000 arrays, tables and objects it is `Full` (this profile).
+    pub fn new_data(&mut self, data_type: u32, values: Vec<Value>) -> Result<ObjId, StoreError>
+        ensures { IsDone itself (new_data (Str []) self.old.types data_type values.items) self.old self.new result }
+    {
+        let count = match self.types.get(data_type as usize) {
+            Some(declared) => declared.count(),
+            None => 0,
+        };
+        let id = self.objects.new_data(data_type, count, values)?;
+        Ok(id)
+    }
+
+    /// The field of an object that a symbol names, if the object's type has one. It takes no memory, and time for the fields
+    /// of this type alone.
+    pub fn field(&self, object: ObjId, symbol: SymId) -> Option<Name>
+        ensures { result ≡ field_name self.now.types self.now.objects object symbol.0 }
+    {
+        let declared = self.type_of(object)?;
+        let field = declared.field(symbol)?;
+        Some(Name::Field(object, field))
+    }
+
+    /// The name of an object's type. It is empty where the number is no object's. It takes no memory.
+    pub fn type_name(&self, object: ObjId) -> &[u8]
+        ensures { result.now ≡ type_name self.now.types self.now.objects object }
+    {
+        match self.type_of(object) {
+            Some(declared) => declared.name(),
+            None => b"",
+        }
+    }
+
+    /// The type of an object, if the number is one's.
+    fn type_of(&self, object: ObjId) -> Option<&DataType>
+        ensures { option_copied result ≡ object_type self.now.types self.now.objects object }
+    {
+        let number = self.objects.data_type(object)?;
+        self.types.get(number as usize)
     }
 
     /// Begins a call of a function that has a definition. The values of its variable, of its formals and of its locals are
@@ -259,9 +364,9 @@ impl Store {
     ///
     /// Beside 200 open calls it is `CallLevel` (this profile).
     pub fn enter(&mut self, function: SymId, arguments: Vec<Value>) -> Result<(), StoreError>
-        ensures { (d : Defined) → definition_at self.old.definitions function.0 ≡ Some d → IsEntered function d arguments.items self.old self.new result }
+        ensures { (d : Shown) → definition_at self.old.functions function.0 ≡ Some d → IsEntered function d arguments.items self.old self.new result }
     {
-        let Some(definition) = self.functions.get(function) else {
+        let Some(definition) = self.functions.definition(function) else {
             return Ok(())
         };
         if self.calls.len() == MOST_CALLS {
@@ -301,7 +406,7 @@ impl Store {
     /// Whether the symbols would be too many, had the names of a prototype joined them. It takes no memory, so that this is
     /// told before any is asked for.
     fn is_full_with(&self, parts: FunctionPrototype) -> bool
-        requires sound { is_sound (prototype_seen parts) ≡ true }
+        requires few { length (names (prototype_seen parts)) ≤ 100 }
         ensures { result ≡ nat_lt 1_000_000 (length (with_names (names (prototype_seen parts.entry)) self.now.symbols)) }
     {
         self.symbols.len() + MOST_NAMES > MOST_SYMBOLS
@@ -314,18 +419,38 @@ impl Store {
         requires few { length self.old.symbols ≤ 1_000_000 }
         ensures { IsDefinedByParts (prototype_seen parts.entry) entry.now self.old self.new result }
     {
-        let label = if entry.is_empty() {
-            parts.function
-        } else {
-            entry
-        };
-        let label = Vec::from_slice(self.alloc, label)?;
+        let label = Vec::from_slice(self.alloc, entry_label(entry, parts.function))?;
         let function = self.symbol(parts.function)?;
         let formals = self.join(parts.formals)?;
         let locals = self.join(parts.locals)?;
         self.functions
             .define(function, Definition::new(label, formals, locals))?;
         Ok(())
+    }
+
+    /// A type is made by the parts of its prototype. Where that is refused, some of its names may be new symbols.
+    fn make_type(&mut self, parts: FunctionPrototype) -> Result<(), StoreError>
+        requires sound { makes_type (prototype_seen parts) ≡ true }
+        requires few { length self.old.symbols ≤ 1_000_000 }
+        requires room { length self.old.types < 100_000 }
+        ensures { IsTypedByParts (prototype_seen parts.entry) self.old self.new result }
+    {
+        let name = Vec::from_slice(self.alloc, parts.function)?;
+        let constructor = self.symbol(parts.function)?;
+        let fields = self.join(parts.formals)?;
+        self.types.reserve(1)?;
+        let number = self.types.len() as u32;
+        self.functions.construct(constructor, number, &fields)?;
+        self.types.push(DataType::new(name, fields)).unwrap();
+        Ok(())
+    }
+
+    /// Only so many symbols and their variables stay, the first ones.
+    fn take_back(&mut self, count: usize)
+        ensures { self.new ≡ record self.old { symbols = take count self.old.symbols; values = take count self.old.values } }
+    {
+        self.symbols.truncate(count);
+        self.values.truncate(count);
     }
 
     /// The numbers of the names in a list, each of which joins the symbols where it is none of them. Where that is refused,

@@ -5,13 +5,14 @@ use crate::ids::{ExprId, ObjId, PatId, SymId};
 use crate::text::Text;
 use std::alloc::{AllocError, Global};
 
-/// What can be assigned to: a variable, an element of an array, or an entry of a table. Elements and entries are
-/// counted from 0.
+/// What can be assigned to: a variable, an element of an array, an entry of a table, or a field of an object. Elements
+/// and entries are counted from 0, and so are fields, in the order in which the object's type names them.
 #[derive(Clone, Copy, Debug, PartialEq, Eq, Hash)]
 pub enum Name {
     Var(SymId),
     Elem(ObjId, u32),
     Entry(ObjId, u32),
+    Field(ObjId, u32),
 }
 
 /// A value of a program.
@@ -24,6 +25,8 @@ pub enum Value {
     Name(Name),
     Array(ObjId),
     Table(ObjId),
+    /// An object of a type that the program made.
+    Data(ObjId),
 }
 
 impl Value {
@@ -40,6 +43,7 @@ impl Value {
             Value::Name(name) => Value::Name(*name),
             Value::Array(array) => Value::Array(*array),
             Value::Table(table) => Value::Table(*table),
+            Value::Data(object) => Value::Data(*object),
         })
     }
 }

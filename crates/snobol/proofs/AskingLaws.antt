@@ -1,5 +1,5 @@
 -- A machine that is asked: what its calls answer, and why there is none.
-use Rattle.std.proofs.Common.{◌≡◌, if◌then◌else◌, ℕ, suc, ◌-◌, drop, ◌==◌, ◌<◌, ◌≤◌, ◌⊎◌, inl, inr, sym, slice_get, arith, nat_lt, Bool, true, false, List, [], ◌∷◌, length, refl, ap, subst, Option, None, Some, Result, Ok, Err, IfOk, IfSome}
+use Rattle.std.proofs.Common.{◌≡◌, if◌then◌else◌, ℕ, suc, ◌-◌, drop, ◌==◌, ◌<◌, ◌≤◌, inl, inr, sym, slice_get, arith, nat_lt, Bool, true, false, List, [], ◌∷◌, length, refl, ap, subst, Option, None, Some, Result, Ok, Err, IfOk, IfSome}
 use Rattle.std.proofs.lemmas.List.{length-append, length-take, length-drop}
 use Rattle.std.specs.Result.{result_err}
 use Rattle.sno_io.specs.declared.jobs.Limits.{Limits}

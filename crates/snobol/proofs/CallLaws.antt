@@ -12,7 +12,8 @@ use Rattle.sno_text.specs.declared.node.Node.{Node as Form}
 use Rattle.sno_text.specs.declared.node.Node.TheVariants.{Literal, Integer, Variable, Unary, Binary, Call, Keyword, Item}
 use Rattle.sno_text.specs.declared.node.Span.{Span}
 use Rattle.sno_store.specs.Calls.{saved, function_value}
-use Rattle.sno_store.specs.Definitions.{Definition, definition_at}
+use Rattle.sno_store.specs.Definitions.{Definition}
+use Rattle.sno_store.specs.Functions.{definition_at}
 use Rattle.sno_store.specs.Names.{place, is_symbol}
 use Rattle.sno_machine.specs.declared.machine.Exit.{Exit}
 use Rattle.sno_machine.specs.declared.machine.Exit.TheVariants.{Failure, Halt}
@@ -20,7 +21,7 @@ use Rattle.sno_machine.specs.declared.machine.Stop.{Stop}
 use Rattle.sno_machine.specs.declared.machine.Stop.TheVariants.{Error as HasError, ErrorIn as HasErrorIn, NoMemory, ReadFault, WriteFault, Ended as HasEnded}
 use Rattle.sno_machine.specs.World.{World, Keywords}
 use Rattle.sno_machine.specs.Action.{Error, Got, Fails, Outcome, Action, settled, settles, either, and_then, gives, fails, stops}
-use Rattle.sno_machine.specs.Calls.{definition_named, shown_saved, left_world, Entered, Enters, Leaves}
+use Rattle.sno_machine.specs.Calls.{shown_saved, left_world, Entered, Enters, Leaves}
 use Rattle.sno_machine.specs.State.{State, world, Does, Grows, OnGoing, OnAnswer, itself, any}
 use Rattle.sno_machine.specs.Values.{Value, Str, shown, IsValueOf}
 use Rattle.sno_machine.specs.Variables.{variable_named, symbol, joins}
@@ -29,7 +30,7 @@ use Rattle.sno_machine.proofs.Outcomes.{gives_does, no_memory_does, grows_none, 
 use Rattle.snobol.specs.declared.forms.Wanted.{Wanted}
 use Rattle.snobol.specs.declared.forms.Wanted.TheVariants as wanted
 use Rattle.snobol.specs.Calling.{RunsAt}
-use Rattle.snobol.specs.Evaluate.{Caller, number_of, function_of, function_called}
+use Rattle.snobol.specs.Evaluate.{Caller, made_function, function_of, function_called}
 use Rattle.snobol.specs.Forms.{token}
 use Rattle.snobol.specs.Meaning.{label_number, chain, leaves, performs_function, performs_call, call_at}
 use Rattle.snobol.specs.Running.{Devices, CanRun, Goes, Runs, MeetsRunning, HasFault}
@@ -47,6 +48,7 @@ no_value_wanted text (Some (Binary operator a b)) wants other = refl
 no_value_wanted text (Some (Call function arguments)) wanted.Value other = absurd (other refl)
 no_value_wanted text (Some (Call function arguments)) wanted.Name other = refl
 no_value_wanted text (Some (Call function arguments)) wanted.Holder other = refl
+no_value_wanted text (Some (Call function arguments)) wanted.Field other = refl
 no_value_wanted text (Some (Keyword span)) wants other = refl
 no_value_wanted text (Some (Item function subscripts)) wants other = refl
 
@@ -66,7 +68,7 @@ unnamed text o node function arguments wants a b e at is value did =
     rw (form_called text o node function arguments wants at is value) (then_err {X = Target} {Y = Option SymId} itself any itself any (variable_named (token text function)) function_of a b e did)
 
 pub named : (text : List ℕ) (o : Option Form) (node : Form) (function : Span) (arguments : Vec ExprId Global) (wants : Wanted) (a b : State) (name : Target) (r : Option SymId) → o ≡ Some node → node ≡ Call function arguments → wants ≡ wanted.Value
-    → Does itself any (variable_named (token text function)) a b (Ok name) → r ≡ number_of name (definition_named b.store.definitions name) → Does itself any (function_called text o wants) a b (Ok r)
+    → Does itself any (variable_named (token text function)) a b (Ok name) → r ≡ made_function b.store.functions name → Does itself any (function_called text o wants) a b (Ok r)
 named text o node function arguments wants a b name r at is value did found =
     let look : Does {X = Option SymId} itself any (function_of name) b b (Ok r) = record { grows = grows_none b.nodes; meets = λ more. ap (λ (q : Option SymId). record { ending = Got q; world = world b more; wrote = [] }) (sym found); answer = tt; unread = refl } in
     rw (form_called text o node function arguments wants at is value) (then_got itself any itself any (variable_named (token text function)) function_of a b b name (Ok r) did look)
@@ -88,7 +90,7 @@ named_or_error name a b e did is = never_fails name (world a []) (ap (λ (o : Ou
 -- the entry of the function
 
 -- a function whose entry label the program lacks
-pub unlabelled : (source : Source) (f levels : ℕ) (xs : List Value) (d : Definition) (s : State) → length s.store.calls < 200 → levels + length s.store.calls ≡ 200 → definition_at s.store.definitions f ≡ Some d → label_number source d.entry ≡ None
+pub unlabelled : (source : Source) (f levels : ℕ) (xs : List Value) (d : Definition) (s : State) → length s.store.calls < 200 → levels + length s.store.calls ≡ 200 → definition_at s.store.functions f ≡ Some d → label_number source d.entry ≡ None
     → Does {X = Stored} shown IsValueOf (call_at source levels f xs) s s (Err (Halt (HasError 5)))
 unlabelled source f zero xs d s room left defined missing = absurd (omega arith)
 unlabelled source f (suc levels) xs d s room left defined missing =
@@ -122,7 +124,7 @@ opened_level : (f : ℕ) (d : Definition) (xs : List Value) (before mid : State)
 opened_level f d xs before mid begun = ap length begun.opened ∙ length-append before.store.calls (stored_call f d before ∷ [])
 
 module _ (source : Source) (f n : ℕ) (d : Definition) (xs : List Value) (before mid : State) (begun : Entered f d xs before mid)
-    (defined : definition_at before.store.definitions f ≡ Some d) (found : label_number source d.entry ≡ Some n) where
+    (defined : definition_at before.store.functions f ≡ Some d) (found : label_number source d.entry ≡ Some n) where
   -- what it has saved of the world
   abbrev shown_call : List (ℕ × Value)
   shown_call = saved (Str []) f d (map (shown before.nodes) before.store.values)

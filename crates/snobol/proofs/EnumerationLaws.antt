@@ -20,7 +20,7 @@ use Rattle.sno_machine.specs.declared.machine.Exit.{Exit}
 use Rattle.sno_machine.specs.declared.machine.Exit.TheVariants.{Failure, Halt}
 use Rattle.sno_machine.specs.declared.machine.Stop.{Stop}
 use Rattle.sno_machine.specs.declared.machine.Stop.TheVariants.{Error as HasError, ErrorIn as HasErrorIn, NoMemory, ReadFault, WriteFault, Ended as HasEnded}
-use Rattle.sno_machine.specs.World.{World, Keywords, new_world, new_keywords}
+use Rattle.sno_machine.specs.World.{World, Keywords, new_world, listing_keywords}
 use Rattle.sno_machine.specs.Action.{Error, Outcome, Action, gives, settles, stops, and_then}
 use Rattle.snobol.specs.Forms.{value}
 use Rattle.sno_machine.specs.Operators.{as_pattern}
@@ -48,10 +48,10 @@ built source e = and_then (expression source (calls source) (value e)) as_patter
 
 -- the world before a listing, and the state that shows it
 abbrev start : Bool → ℕ → World
-start anchored limit = new_world [] (new_keywords anchored 1_000_000 limit)
+start anchored limit = new_world [] (listing_keywords anchored 1_000_000 limit)
 
 abbrev pub begun : Bool → ℕ → State
-begun anchored limit = new_state (new_keywords anchored 1_000_000 limit)
+begun anchored limit = new_state (listing_keywords anchored 1_000_000 limit)
 
 -- a reader that has nothing to give
 abbrev pub Nothing : Feed → Type 0

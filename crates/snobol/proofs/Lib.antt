@@ -20,3 +20,4 @@ pub mod SessionLaws
 pub mod MatchLaws
 pub mod AskingLaws
 pub mod CallLaws
+pub mod MadeCalls

@@ -261,3 +261,7 @@ pub then_ended : {X Y A B : Type 0} (see : List Node → X → A) (fits : List N
 then_ended see fits look suits act next a b d e Failure p =
     runs_failed see fits look suits act (either fails next) a b b d e e (Err Failure) p (does_runs look suits fails b b e (Err Failure) p.ready (fails_does look suits b))
 then_ended see fits look suits act next a b d e (Halt why) p = runs_halt see fits look suits act (either fails next) a b d e why p
+
+-- a result that is known to be another
+pub answered : {X A : Type 0} {see : List Node → X → A} {fits : List Node → X → Type 0} {act : Action A} {a b : State} {d e : Devices} {r s : Result X Exit} → r ≡ s → Runs see fits act a b d e s → Runs see fits act a b d e r
+answered {X} {see = see} {fits = fits} {act = act} {a = a} {b = b} {d = d} {e = e} same did = subst (λ (result : Result X Exit). Runs see fits act a b d e result) (sym same) did

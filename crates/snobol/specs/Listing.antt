@@ -7,7 +7,7 @@ use Rattle.sno_pattern.specs.Pattern.{Pattern}
 use Rattle.sno_match.specs.Search.{Event, Answer, trace}
 use Rattle.snobol.specs.declared.enumeration.WaysOutcome.{WaysOutcome}
 use Rattle.snobol.specs.declared.enumeration.WaysOutcome.TheVariants.{Done, Refused, Error as HasError, NoMemory, WriteFault}
-use Rattle.sno_machine.specs.World.{new_world, new_keywords}
+use Rattle.sno_machine.specs.World.{new_world, listing_keywords}
 use Rattle.sno_machine.specs.Action.{Error, ErrorIn, Ended, Ending, Got, Fails, Stops, Outcome, Action, gives, stops, settles, either, and_then}
 use Rattle.snobol.specs.Forms.{value}
 use Rattle.sno_machine.specs.Operators.{as_pattern}
@@ -37,7 +37,7 @@ lists source e subject anchored limit =
 
 -- how the listing of a pattern that is read ends, and its lines
 abbrev pub listing : Source → ExprId → List ℕ → Bool → ℕ → Outcome Unit
-listing source e subject anchored limit = lists source e subject anchored limit (new_world [] (new_keywords anchored 1_000_000 limit))
+listing source e subject anchored limit = lists source e subject anchored limit (new_world [] (listing_keywords anchored 1_000_000 limit))
 
 -- how a listing has ended: an error is told by its code, and behind anything else nothing more is to be listed
 abbrev pub outcome_of : Ending Unit → WaysOutcome

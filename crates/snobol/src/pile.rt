@@ -181,7 +181,7 @@ impl Pile {
     }
 
     /// What a form gives that is applied to the last values, which are let go. It is no call of a function that the program
-    /// defines.
+    /// has made.
     #[inline(always)]
     pub fn apply<R: Source>(
         &mut self,

@@ -23,4 +23,5 @@ mod rows;
 mod session;
 mod sizes;
 mod statements;
+mod types;
 mod writers;

@@ -3,10 +3,11 @@ mod arrays;
 mod calls;
 mod symbols;
 mod tables;
+mod types;
 
 use sno_pattern::Patterns;
 use sno_store::{Definition, Store, StoreError};
-use sno_value::{ExprId, Name, ObjId, PatId, SymId, Text, Value};
+use sno_value::{ExprId, Name, ObjId, PatId, SymId, Text, Value, int_text};
 use std::alloc::{AllocError, Global};
 use std::process::Abort;
 use std::test::Fail;
@@ -21,6 +22,7 @@ enum Row {
     Name(Name),
     Array(u32),
     Table(u32),
+    Data(u32),
 }
 
 impl Row {
@@ -34,6 +36,7 @@ impl Row {
             Row::Name(name) => Value::Name(name),
             Row::Array(number) => Value::Array(ObjId(number)),
             Row::Table(number) => Value::Table(ObjId(number)),
+            Row::Data(number) => Value::Data(ObjId(number)),
         })
     }
 }
@@ -64,6 +67,14 @@ enum Step {
     // so many calls end, whose functions have the null string as their value
     LeaveMany(u32),
     Level(u32),
+    DefineData(&'static str, Result<(), u32>),
+    // a type T with so many fields
+    DefineFields(u32, Result<(), u32>),
+    Constructor(u32, Option<u32>),
+    IsField(u32, bool),
+    NewData(u32, &'static [Row], Result<u32, u32>),
+    Field(u32, u32, Option<u32>),
+    TypeName(u32, &'static str),
 }
 
 /// The number of the error that a refusal is.
@@ -89,9 +100,11 @@ fn object_of(answer: Result<ObjId, StoreError>) -> Result<u32, u32> {
 /// The place that a name of the object's part is, or the number of the error.
 fn place_of(object: u32, answer: Result<Option<Name>, StoreError>) -> Result<Option<u32>, u32> {
     match answer {
-        Ok(Some(Name::Elem(ObjId(id), place)) | Some(Name::Entry(ObjId(id), place))) => {
-            Ok(if id == object { Some(place) } else { None })
-        }
+        Ok(
+            Some(Name::Elem(ObjId(id), place))
+            | Some(Name::Entry(ObjId(id), place))
+            | Some(Name::Field(ObjId(id), place)),
+        ) => Ok(if id == object { Some(place) } else { None }),
         Ok(_none) => Ok(None),
         Err(refusal) => Err(error_of(refusal)),
     }
@@ -165,10 +178,43 @@ fn calls_functions(store: &mut Store, alloc: Global, step: Step) -> Result<bool,
             answers
         }
         other => {
+            let answers = makes_types(store, alloc, other)?;
+            answers
+        }
+    })
+}
+
+/// Makes a call that makes a type or an object of one, and says whether it answers what the step says.
+fn makes_types(store: &mut Store, alloc: Global, step: Step) -> Result<bool, AllocError> {
+    Ok(match step {
+        Step::DefineData(prototype, want) => {
+            done_of(store.define_data(prototype.as_bytes())) == want
+        }
+        Step::DefineFields(fields, want) => {
+            let prototype = many_fields(alloc, fields)?;
+            done_of(store.define_data(&prototype)) == want
+        }
+        Step::NewData(data_type, fields, want) => {
+            let fields = values(alloc, fields)?;
+            object_of(store.new_data(data_type, fields)) == want
+        }
+        other => {
             let answers = reads(store, alloc, other)?;
             answers
         }
     })
+}
+
+/// A prototype T with the fields F0, F1, F2 .., so many.
+fn many_fields(alloc: Global, fields: u32) -> Result<Vec<u8>, AllocError> {
+    let mut prototype = Vec::from_slice(alloc, b"T(F0")?;
+    for field in 1..fields {
+        prototype.extend_from_slice(b",F")?;
+        let number = int_text(alloc, i64::from(field))?;
+        prototype.extend_from_slice(&number)?;
+    }
+    prototype.push(b')')?;
+    Ok(prototype)
 }
 
 /// A prototype whose formals are A, so many times.
@@ -243,8 +289,21 @@ fn reads(store: &Store, alloc: Global, step: Step) -> Result<bool, AllocError> {
             == want,
         Step::Definition(function, want) => is_definition(store.definition(SymId(function)), want),
         Step::Level(want) => store.level() == want,
-        _ => false,
+        other => reads_types(store, other),
     })
+}
+
+/// Asks for types and fields, and says whether it is answered what the step says.
+fn reads_types(store: &Store, step: Step) -> bool {
+    match step {
+        Step::Constructor(function, want) => store.constructor(SymId(function)) == want,
+        Step::IsField(function, want) => store.is_field(SymId(function)) == want,
+        Step::Field(object, symbol, want) => {
+            place_of(object, Ok(store.field(ObjId(object), SymId(symbol)))) == Ok(want)
+        }
+        Step::TypeName(object, want) => store.type_name(ObjId(object)) == want.as_bytes(),
+        _ => false,
+    }
 }
 
 /// Makes the calls of a new store in turn, and checks their answers.

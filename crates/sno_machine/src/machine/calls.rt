@@ -2,7 +2,8 @@
 ghost use Rattle.std.specs.Prelude.{◌≡◌, ◌≤◌, ℕ, List, [], ◌∷◌, ◌++◌, length, map, option_copied, Some};
 ghost use Rattle.std.specs.List.{AllByRecursion};
 ghost use Rattle.sno_value.specs.declared.value.Value.{Value as Stored};
-ghost use Rattle.sno_store.specs.Definitions.{Definition as Defined, definition_at};
+ghost use Rattle.sno_store.specs.Definitions.{Definition as Defined};
+ghost use Rattle.sno_store.specs.Functions.{definition_at};
 ghost use Rattle.sno_machine.specs.Values.{shown, IsValueOf};
 ghost use Rattle.sno_machine.specs.Calls.{defines, definition_named, Enters, Leaves};
 ghost use Rattle.sno_machine.specs.State.{Does, itself, any};
@@ -26,7 +27,7 @@ impl Machine {
 
     /// The definition of the function with a name, if it has one.
     pub fn definition(&self, function: Name) -> Option<&Definition>
-        ensures { option_copied result ≡ definition_named self.now.store.definitions function }
+        ensures { option_copied result ≡ definition_named self.now.store.functions function }
     {
         match function {
             Name::Var(id) => self.store.definition(id),
@@ -52,7 +53,7 @@ impl Machine {
     /// a definition is error 4; beside 200 open calls it is error 10.
     pub fn enter(&mut self, function: SymId, arguments: Vec<Value>) -> Result<(), Exit>
         requires { AllByRecursion (IsValueOf self.old.nodes) arguments.items }
-        ensures { (d : Defined) → definition_at self.old.store.definitions function.0 ≡ Some d → Enters function.0 d (map (shown self.old.nodes) arguments.items) self.old self.new result }
+        ensures { (d : Defined) → definition_at self.old.store.functions function.0 ≡ Some d → Enters function.0 d (map (shown self.old.nodes) arguments.items) self.old self.new result }
     {
         if self.store.definition(function).is_none() {
             return Err(error(UNDEFINED_FUNCTION));

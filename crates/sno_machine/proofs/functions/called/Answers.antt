@@ -48,6 +48,19 @@ returns-in-Some-Define c =
     let p = c.argument-p-in-Some-Define.ensures in
     rw (c.in-Some-Define.is, define, ← p.value nodes, ← second_stays nodes _ _ _ p.rest, ← c.argument-e.ensures.value nodes) c.define.ensures
 
+pub define_type-requires : goal.define_type-requires
+define_type-requires c = c.argument-p-in-Some-Data.ensures.known _ c.requires
+
+pub returns-in-Some-Data : goal.returns-in-Some-Data
+returns-in-Some-Data c =
+    let called = rw c.in-Some-Data.is at c.in-Some-Data.field-0-is in
+    rw (c.in-Some-Data.is, called, ← c.argument-p-in-Some-Data.ensures.value c.args.machine.now.nodes) c.define_type.ensures
+
+pub returns-in-Some-Datatype : goal.returns-in-Some-Datatype
+returns-in-Some-Datatype c =
+    let called = rw c.in-Some-Datatype.is at c.in-Some-Datatype.field-0-is in
+    rw (c.in-Some-Datatype.is, called, ← c.argument-x-in-Some-Datatype.ensures.value c.args.machine.now.nodes) c.datatype.ensures
+
 pub returns-in-Some-Plain : goal.returns-in-Some-Plain
 returns-in-Some-Plain c =
     let nodes = c.args.machine.now.nodes in

@@ -29,6 +29,3 @@ returns-in-Dupl c s k = rw c.in-Dupl.is (c.copies.ensures s)
 
 pub returns-in-Replace : goal.returns-in-Replace
 returns-in-Replace c s k = rw c.in-Replace.is (c.replaced.ensures s k)
-
-pub returns-in-Datatype : goal.returns-in-Datatype
-returns-in-Datatype c s k = rw c.in-Datatype.is (c.datatype.ensures s)

@@ -37,5 +37,5 @@ pub returns-clause-does : goal.returns-clause-does
 returns-clause-does c =
     let t = c.args.program.now in
     let wants : c.args.part.wanted ≡ Value = elim c.match-matches.branch [ in-Value v ↦ v.in-Value.is | in_default v ↦ absurd (let a = c.if-not-matches.false in let b = v.matches-is in cc) ] in
-    named t.text (node_at t c.args.part) c.node.result.now c.in-Call.name c.in-Call.field-1 c.args.part.wanted c.args.machine.now c.variable_at.new.self c.in_ok-name.name c.defined_function.result
-    c.node.ensures.node c.in-Call.is wants (rw c.text.ensures at c.in_ok-name.ensures) c.defined_function.ensures
+    named t.text (node_at t c.args.part) c.node.result.now c.in-Call.name c.in-Call.field-1 c.args.part.wanted c.args.machine.now c.variable_at.new.self c.in_ok-name.name c.made_function.result
+    c.node.ensures.node c.in-Call.is wants (rw c.text.ensures at c.in_ok-name.ensures) c.made_function.ensures

@@ -12,10 +12,10 @@ pattern_of-requires-clause-calls g c = record {
 }
 
 pub pattern_of-requires-clause-level : goal.pattern_of-requires-clause-level
-pattern_of-requires-clause-level g c = ap length (new_closed c.in-Ok.machine c.new-keywords.result (rw c.in-Ok.is at c.new.ensures))
+pattern_of-requires-clause-level g c = ap length (new_closed c.in-Ok.machine c.for_listing-keywords.result (rw c.in-Ok.is at c.new.ensures))
 
 pub pattern_of-requires-clause-ready : goal.pattern_of-requires-clause-ready
-pattern_of-requires-clause-ready g c = new_runs c.in-Ok.machine c.new-keywords.result _ (rw c.in-Ok.is at c.new.ensures) refl c.requires.sound
+pattern_of-requires-clause-ready g c = new_runs c.in-Ok.machine c.for_listing-keywords.result _ (rw c.in-Ok.is at c.new.ensures) refl c.requires.sound
 
 pub list_ways-requires-clause-calls : goal.list_ways-requires-clause-calls
 list_ways-requires-clause-calls g c = record {
@@ -26,7 +26,7 @@ list_ways-requires-clause-calls g c = record {
 pub list_ways-requires-clause-level : goal.list_ways-requires-clause-level
 list_ways-requires-clause-level g c =
     let did = rw c.in-Ok-pattern_of.is at c.pattern_of.ensures in
-    ap length (did.calls ∙ new_closed c.in-Ok.machine c.new-keywords.result (rw c.in-Ok.is at c.new.ensures))
+    ap length (did.calls ∙ new_closed c.in-Ok.machine c.for_listing-keywords.result (rw c.in-Ok.is at c.new.ensures))
 
 pub list_ways-requires-clause-pattern : goal.list_ways-requires-clause-pattern
 list_ways-requires-clause-pattern g c =
@@ -50,7 +50,7 @@ pub returns-in-Ok-pattern_of-clause-listing : goal.returns-in-Ok-pattern_of-clau
 returns-in-Ok-pattern_of-clause-listing g c =
     let start = rw c.in-Ok.is at c.new.ensures in
     let did = c.pattern_of.ensures in
-    let made = rw (c.in-Ok-pattern_of.is, c.in-Ok-of.ensures, start, c.new-keywords.ensures) at did in
+    let made = rw (c.in-Ok-pattern_of.is, c.in-Ok-of.ensures, start, c.for_listing-keywords.ensures) at did in
     listed_as _ _ _ _ _ _ _ _ _ c.requires.subject refl (built_listed c.args.program.now c.args.expression c.args.subject.now c.args.anchored c.args.limit _ _ _ _ _ _ c.in-Ok-pattern_of.pattern _ made (rw c.in-Ok-of.ensures at c.list_ways.ensures))
 
 pub returns-in-Ok-pattern_of-clause-fault : goal.returns-in-Ok-pattern_of-clause-fault
@@ -60,7 +60,7 @@ pub returns-in-Err-clause-listing : goal.returns-in-Err-clause-listing
 returns-in-Err-clause-listing g c =
     let start = rw c.in-Ok.is at c.new.ensures in
     let did = c.pattern_of.ensures in
-    let failed = rw (c.in-Err-Failure.is, c.in-Err-Failure.field-0-is, c.in-Ok-of.ensures, start, c.new-keywords.ensures) at did in
+    let failed = rw (c.in-Err-Failure.is, c.in-Err-Failure.field-0-is, c.in-Ok-of.ensures, start, c.for_listing-keywords.ensures) at did in
     let cut = c.in-Err.ensures.bytes in
     let line = performs_runs _ _ _ _ _ _ (g.W.Sink.broken c.pattern_of.new.writer) _ (Err WriteFault) failed.ready.reads refl tt (λ e. c.in-Err.ensures.fault) (line_cut (codes "exhausted\n") cut.0 c.pattern_of.new.machine _ _ cut.1 cut.2) in
     listed_as _ _ _ _ _ _ _ _ _ c.requires.subject refl (failed_listed c.args.program.now c.args.expression c.args.subject.now c.args.anchored c.args.limit _ _ _ _ _ _ _ failed line)
@@ -69,7 +69,7 @@ pub returns-in-Err-Failure-clause-listing : goal.returns-in-Err-Failure-clause-l
 returns-in-Err-Failure-clause-listing g c =
     let start = rw c.in-Ok.is at c.new.ensures in
     let did = c.pattern_of.ensures in
-    let failed = rw (c.in-Err-Failure.is, c.in-Err-Failure.field-0-is, c.in-Ok-of.ensures, start, c.new-keywords.ensures) at did in
+    let failed = rw (c.in-Err-Failure.is, c.in-Err-Failure.field-0-is, c.in-Ok-of.ensures, start, c.for_listing-keywords.ensures) at did in
     let put = c.in_default-put.ensures in
     let line = performs_runs _ _ _ _ _ _ (g.W.Sink.broken c.pattern_of.new.writer) _ (Ok tt) failed.ready.reads refl put.sound (λ e. absurd (cc e)) (line_put (codes "exhausted\n") c.pattern_of.new.machine _ _ put.bytes) in
     listed_as _ _ _ _ _ _ _ _ _ c.requires.subject refl (failed_listed c.args.program.now c.args.expression c.args.subject.now c.args.anchored c.args.limit _ _ _ _ _ _ _ failed line)
@@ -78,12 +78,12 @@ pub returns-clause-listing : goal.returns-clause-listing
 returns-clause-listing g c =
     let start = rw c.in-Ok.is at c.new.ensures in
     let did = c.pattern_of.ensures in
-    let stopped = rw (c.in-Err-Halt.is, c.in-Err-Halt.field-0-is, c.in-Ok-of.ensures, start, c.new-keywords.ensures) at did in
+    let stopped = rw (c.in-Err-Halt.is, c.in-Err-Halt.field-0-is, c.in-Ok-of.ensures, start, c.for_listing-keywords.ensures) at did in
     rw c.in-Err-Halt.field-0-is (listed_as _ _ _ _ _ _ _ _ _ c.requires.subject refl (stopped_listed c.args.program.now c.args.expression c.args.subject.now c.args.anchored c.args.limit _ _ _ _ c.in-Err-Halt.stop stopped))
 
 pub returns-clause-fault : goal.returns-clause-fault
 returns-clause-fault g c =
     let start = rw c.in-Ok.is at c.new.ensures in
     let did = c.pattern_of.ensures in
-    let stopped = rw (c.in-Err-Halt.is, c.in-Err-Halt.field-0-is, c.in-Ok-of.ensures, start, c.new-keywords.ensures) at did in
+    let stopped = rw (c.in-Err-Halt.is, c.in-Err-Halt.field-0-is, c.in-Ok-of.ensures, start, c.for_listing-keywords.ensures) at did in
     rw c.in-Err-Halt.field-0-is (fault_told (Err (Halt c.in-Err-Halt.stop)) _ (stopped_listed c.args.program.now c.args.expression c.args.subject.now c.args.anchored c.args.limit _ _ _ _ c.in-Err-Halt.stop stopped).cause)

@@ -1,19 +1,20 @@
-use Rattle.std.proofs.Common.{ap, ◌∙◌, length}
+use Rattle.std.proofs.Common.{ap, ◌∙◌, length, Some, Err}
 use Rattle.std.proofs.lemmas.Result.{err_from_is_err_and}
-use Rattle.snobol.proofs.StatementLaws.{read_runs, part_runs, part_ended, name_runs, nameless_runs, text_runs, textless_runs, pattern_runs, patternless_runs}
+use Rattle.snobol.proofs.RunningLaws.{answered}
+use Rattle.snobol.proofs.StatementLaws.{of_part, of_subject, read_runs, part_runs, part_ended, name_runs, nameless_runs, text_runs, textless_runs, pattern_runs, patternless_runs}
 use Rattle.snobol.proofs.replacement.replace.Goals as goal
 
 pub returns-in_err-name : goal.returns-in_err-name
 returns-in_err-name g c =
     let p = err_from_is_err_and c.from_residual.result c.from_residual.ensures.1 in
-    let lost = rw c.name_of.ensures at c.in_err-name.ensures in
-    rw (p.1, p.2) (part_ended _ lost)
+    let lost = of_part _ _ (ap Some c.name_of.ensures) c.in_err-name.ensures in
+    answered (p.1 ∙ ap Err p.2) (part_ended _ lost)
 
 pub returns-in_err-target : goal.returns-in_err-target
 returns-in_err-target g c =
     let p = err_from_is_err_and c.from_residual-in_err-target.result c.from_residual-in_err-target.ensures.1 in
-    let named = rw c.name_of.ensures at c.in_ok-name.ensures in
-    rw (p.1, p.2) (part_runs _ named (nameless_runs _ _ named.ready (c.in_err-target.ensures c.evaluate.new.machine.nodes)))
+    let named = of_part _ _ (ap Some c.name_of.ensures) c.in_ok-name.ensures in
+    answered (p.1 ∙ ap Err p.2) (part_runs _ named (nameless_runs _ _ named.ready (c.in_err-target.ensures c.evaluate.new.machine.nodes)))
 
 pub read-requires : goal.read-requires
 read-requires g c = c.in_ok-name.ensures.ready.reads
@@ -21,16 +22,16 @@ read-requires g c = c.in_ok-name.ensures.ready.reads
 pub returns-in_err-value : goal.returns-in_err-value
 returns-in_err-value g c =
     let p = err_from_is_err_and c.from_residual-in_err-value.result c.from_residual-in_err-value.ensures.1 in
-    let named = rw c.name_of.ensures at c.in_ok-name.ensures in
+    let named = of_part _ _ (ap Some c.name_of.ensures) c.in_ok-name.ensures in
     let lost = read_runs named.ready c.in_err-value.ensures in
-    rw (p.1, p.2) (part_runs _ named (name_runs _ _ c.in_ok-target.target (c.in_ok-target.ensures c.evaluate.new.machine.nodes) (part_ended _ lost)))
+    answered (p.1 ∙ ap Err p.2) (part_runs _ named (name_runs _ _ c.in_ok-target.target (c.in_ok-target.ensures c.evaluate.new.machine.nodes) (part_ended _ lost)))
 
 pub returns-in_err-text : goal.returns-in_err-text
 returns-in_err-text g c =
     let p = err_from_is_err_and c.from_residual-in_err-text.result c.from_residual-in_err-text.ensures.1 in
-    let named = rw c.name_of.ensures at c.in_ok-name.ensures in
+    let named = of_part _ _ (ap Some c.name_of.ensures) c.in_ok-name.ensures in
     let read = read_runs named.ready c.in_ok-value.ensures in
-    rw (p.1, p.2) (part_runs _ named (name_runs _ _ c.in_ok-target.target (c.in_ok-target.ensures c.evaluate.new.machine.nodes)
+    answered (p.1 ∙ ap Err p.2) (part_runs _ named (name_runs _ _ c.in_ok-target.target (c.in_ok-target.ensures c.evaluate.new.machine.nodes)
     (part_runs _ read (textless_runs _ _ read.ready (c.in_err-text.ensures.text c.read.new.self.nodes)))))
 
 pub evaluate-requires-2-clause-level : goal.evaluate-requires-2-clause-level
@@ -42,10 +43,10 @@ evaluate-requires-2-clause-ready g c = (read_runs c.in_ok-name.ensures.ready c.i
 pub returns-in_err-value-2 : goal.returns-in_err-value-2
 returns-in_err-value-2 g c =
     let p = err_from_is_err_and c.from_residual-in_err-value-2.result c.from_residual-in_err-value-2.ensures.1 in
-    let named = rw c.name_of.ensures at c.in_ok-name.ensures in
+    let named = of_part _ _ (ap Some c.name_of.ensures) c.in_ok-name.ensures in
     let read = read_runs named.ready c.in_ok-value.ensures in
-    let lost = rw c.value_of.ensures at c.in_err-value-2.ensures in
-    rw (p.1, p.2) (part_runs _ named (name_runs _ _ c.in_ok-target.target (c.in_ok-target.ensures c.evaluate.new.machine.nodes)
+    let lost = of_part _ _ (ap Some c.value_of.ensures) c.in_err-value-2.ensures in
+    answered (p.1 ∙ ap Err p.2) (part_runs _ named (name_runs _ _ c.in_ok-target.target (c.in_ok-target.ensures c.evaluate.new.machine.nodes)
     (part_runs _ read (text_runs _ _ c.in_ok-text.text (c.in_ok-text.ensures.text c.read.new.self.nodes) (part_ended _ (patternless_runs _ _ _ lost))))))
 
 pub matcher_of-requires : goal.matcher_of-requires
@@ -54,10 +55,10 @@ matcher_of-requires g c = c.in_ok-value-2.ensures.answer
 pub returns-in_err-matcher : goal.returns-in_err-matcher
 returns-in_err-matcher g c =
     let p = err_from_is_err_and c.from_residual-in_err-matcher.result c.from_residual-in_err-matcher.ensures.1 in
-    let named = rw c.name_of.ensures at c.in_ok-name.ensures in
+    let named = of_part _ _ (ap Some c.name_of.ensures) c.in_ok-name.ensures in
     let read = read_runs named.ready c.in_ok-value.ensures in
-    let lost = pattern_runs _ _ c.args.pattern (rw c.value_of.ensures at c.in_ok-value-2.ensures) c.in_err-matcher.ensures.does in
-    rw (p.1, p.2) (part_runs _ named (name_runs _ _ c.in_ok-target.target (c.in_ok-target.ensures c.evaluate.new.machine.nodes)
+    let lost = pattern_runs _ _ c.args.pattern (of_part _ _ (ap Some c.value_of.ensures) c.in_ok-value-2.ensures) c.in_err-matcher.ensures.does in
+    answered (p.1 ∙ ap Err p.2) (part_runs _ named (name_runs _ _ c.in_ok-target.target (c.in_ok-target.ensures c.evaluate.new.machine.nodes)
     (part_runs _ read (text_runs _ _ c.in_ok-text.text (c.in_ok-text.ensures.text c.read.new.self.nodes) (part_ended _ lost)))))
 
 pub find_first-requires-clause-subject : goal.find_first-requires-clause-subject
@@ -65,27 +66,27 @@ find_first-requires-clause-subject g c = rw c.in_ok-matcher.ensures.subject (c.i
 
 pub find_first-requires-clause-level : goal.find_first-requires-clause-level
 find_first-requires-clause-level g c =
-    let begun = pattern_runs _ _ c.args.pattern (rw c.value_of.ensures at c.in_ok-value-2.ensures) c.in_ok-matcher.ensures.does in
+    let begun = pattern_runs _ _ c.args.pattern (of_part _ _ (ap Some c.value_of.ensures) c.in_ok-value-2.ensures) c.in_ok-matcher.ensures.does in
     ap length begun.calls ∙ (ap length c.in_ok-value.ensures.calls ∙ (ap length c.in_ok-name.ensures.calls ∙ c.requires.level))
 
 pub find_first-requires-clause-ready : goal.find_first-requires-clause-ready
 find_first-requires-clause-ready g c =
-    let begun = pattern_runs _ _ c.args.pattern (rw c.value_of.ensures at c.in_ok-value-2.ensures) c.in_ok-matcher.ensures.does in
+    let begun = pattern_runs _ _ c.args.pattern (of_part _ _ (ap Some c.value_of.ensures) c.in_ok-value-2.ensures) c.in_ok-matcher.ensures.does in
     begun.ready
 
 pub returns-in_err-span : goal.returns-in_err-span
 returns-in_err-span g c =
     let p = err_from_is_err_and c.from_residual-in_err-span.result c.from_residual-in_err-span.ensures.1 in
-    let named = rw c.name_of.ensures at c.in_ok-name.ensures in
+    let named = of_part _ _ (ap Some c.name_of.ensures) c.in_ok-name.ensures in
     let read = read_runs named.ready c.in_ok-value.ensures in
-    let begun = pattern_runs _ _ c.args.pattern (rw c.value_of.ensures at c.in_ok-value-2.ensures) c.in_ok-matcher.ensures.does in
-    let lost = rw c.in_ok-matcher.ensures.subject at c.in_err-span.ensures.does in
-    rw (p.1, p.2) (part_runs _ named (name_runs _ _ c.in_ok-target.target (c.in_ok-target.ensures c.evaluate.new.machine.nodes)
+    let begun = pattern_runs _ _ c.args.pattern (of_part _ _ (ap Some c.value_of.ensures) c.in_ok-value-2.ensures) c.in_ok-matcher.ensures.does in
+    let lost = of_subject _ _ _ c.in_ok-matcher.ensures.subject c.in_err-span.ensures.does in
+    answered (p.1 ∙ ap Err p.2) (part_runs _ named (name_runs _ _ c.in_ok-target.target (c.in_ok-target.ensures c.evaluate.new.machine.nodes)
     (part_runs _ read (text_runs _ _ c.in_ok-text.text (c.in_ok-text.ensures.text c.read.new.self.nodes) (part_runs _ begun (part_ended _ lost))))))
 
 pub evaluate-requires-3-clause-level : goal.evaluate-requires-3-clause-level
 evaluate-requires-3-clause-level g c =
-    let begun = pattern_runs _ _ c.args.pattern (rw c.value_of.ensures at c.in_ok-value-2.ensures) c.in_ok-matcher.ensures.does in
+    let begun = pattern_runs _ _ c.args.pattern (of_part _ _ (ap Some c.value_of.ensures) c.in_ok-value-2.ensures) c.in_ok-matcher.ensures.does in
     ap length c.in_ok-span.ensures.does.calls ∙ (ap length begun.calls ∙ (ap length c.in_ok-value.ensures.calls ∙ (ap length c.in_ok-name.ensures.calls ∙ c.requires.level)))
 
 pub evaluate-requires-3-clause-ready : goal.evaluate-requires-3-clause-ready
@@ -94,12 +95,12 @@ evaluate-requires-3-clause-ready g c = c.in_ok-span.ensures.does.ready
 pub returns-in_err-value-3 : goal.returns-in_err-value-3
 returns-in_err-value-3 g c =
     let p = err_from_is_err_and c.from_residual-in_err-value-3.result c.from_residual-in_err-value-3.ensures.1 in
-    let named = rw c.name_of.ensures at c.in_ok-name.ensures in
+    let named = of_part _ _ (ap Some c.name_of.ensures) c.in_ok-name.ensures in
     let read = read_runs named.ready c.in_ok-value.ensures in
-    let begun = pattern_runs _ _ c.args.pattern (rw c.value_of.ensures at c.in_ok-value-2.ensures) c.in_ok-matcher.ensures.does in
-    let found = rw c.in_ok-matcher.ensures.subject at c.in_ok-span.ensures.does in
-    let lost = rw c.object_part.ensures at c.in_err-value-3.ensures in
-    rw (p.1, p.2) (part_runs _ named (name_runs _ _ c.in_ok-target.target (c.in_ok-target.ensures c.evaluate.new.machine.nodes)
+    let begun = pattern_runs _ _ c.args.pattern (of_part _ _ (ap Some c.value_of.ensures) c.in_ok-value-2.ensures) c.in_ok-matcher.ensures.does in
+    let found = of_subject _ _ _ c.in_ok-matcher.ensures.subject c.in_ok-span.ensures.does in
+    let lost = of_part _ _ c.object_part.ensures c.in_err-value-3.ensures in
+    answered (p.1 ∙ ap Err p.2) (part_runs _ named (name_runs _ _ c.in_ok-target.target (c.in_ok-target.ensures c.evaluate.new.machine.nodes)
     (part_runs _ read (text_runs _ _ c.in_ok-text.text (c.in_ok-text.ensures.text c.read.new.self.nodes) (part_runs _ begun (part_runs _ found (part_ended _ lost)))))))
 
 pub put_value-requires-clause-order : goal.put_value-requires-clause-order
@@ -119,11 +120,11 @@ put_value-requires-clause-sound g c = c.in_ok-value-3.ensures.ready.writes
 
 pub returns : goal.returns
 returns g c =
-    let named = rw c.name_of.ensures at c.in_ok-name.ensures in
+    let named = of_part _ _ (ap Some c.name_of.ensures) c.in_ok-name.ensures in
     let read = read_runs named.ready c.in_ok-value.ensures in
-    let begun = pattern_runs _ _ c.args.pattern (rw c.value_of.ensures at c.in_ok-value-2.ensures) c.in_ok-matcher.ensures.does in
-    let found = rw c.in_ok-matcher.ensures.subject at c.in_ok-span.ensures.does in
-    let object = rw c.object_part.ensures at c.in_ok-value-3.ensures in
+    let begun = pattern_runs _ _ c.args.pattern (of_part _ _ (ap Some c.value_of.ensures) c.in_ok-value-2.ensures) c.in_ok-matcher.ensures.does in
+    let found = of_subject _ _ _ c.in_ok-matcher.ensures.subject c.in_ok-span.ensures.does in
+    let object = of_part _ _ c.object_part.ensures c.in_ok-value-3.ensures in
     let same = c.subject.ensures ∙ (c.in_ok-span.ensures.subject ∙ c.in_ok-matcher.ensures.subject) in
     let put = rw same at (c.put_value.ensures _ object.ready.reads) in
     (part_runs _ named (name_runs _ _ c.in_ok-target.target (c.in_ok-target.ensures c.evaluate.new.machine.nodes)

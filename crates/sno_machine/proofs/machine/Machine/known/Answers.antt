@@ -1,4 +1,4 @@
-use Rattle.std.proofs.Common.{◌≡◌, ◌<◌, length, slice_index_or, [], rules, arith, sym, ◌∙◌}
+use Rattle.std.proofs.Common.{◌≡◌, ◌<◌, length, rules, sym, ◌∙◌}
 use Rattle.sno_machine.proofs.Stores.{found_again}
 use Rattle.sno_machine.proofs.machine.Machine.known.Goals as goal
 

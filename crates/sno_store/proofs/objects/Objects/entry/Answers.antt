@@ -6,7 +6,7 @@ use Rattle.sno_store.proofs.objects.Objects.entry.Goals as goal
 
 pub returns-in_default : goal.returns-in_default
 returns-in_default c =
-    no_entry c.args.id c.args.key c.self.inside.objects.items c.args.self.now c.self.view_is c.index_mut-object.result.now (omega arith) c.index_mut-object.ensures.value c.in_default.field-0 c.in_default.is
+    no_entry c.args.id c.args.key c.self.inside.objects.items c.args.self.now c.self.view_is c.index_mut-object.result.now (omega arith) c.index_mut-object.ensures.value c.in_default.not-Table
 
 pub returns-in_err-entry : goal.returns-in_err-entry
 returns-in_err-entry c =

@@ -1,14 +1,14 @@
-use Rattle.std.proofs.Common.{◌≡◌, ◌<◌, ◌++◌, ◌∙◌, sym, ap, subst, rules, length, map, Bor, List, ℕ}
+use Rattle.std.proofs.Common.{◌++◌, ◌∙◌, sym, ap, subst, map}
 use Rattle.sno_store.specs.declared.error.StoreError.TheVariants.{NoMemory}
 use Rattle.sno_value.specs.declared.ids.SymId.{SymId}
 use Rattle.sno_store.specs.Contents.{Contents}
-use Rattle.sno_store.specs.Definitions.{entry_label, defined}
+use Rattle.sno_store.specs.declared.functions.Function.TheVariants.{Defined}
+use Rattle.sno_store.specs.Functions.{with_function}
 use Rattle.sno_store.specs.Seen.{prototype_seen}
 use Rattle.sno_store.specs.Symbols.{HasMore}
 use Rattle.sno_store.proofs.NameLaws.{stopped, has_none, has_both}
-use Rattle.sno_store.proofs.DefineLaws.{sound_names, more_all, parts_done, parts_passed, begun_more, formals_stopped, locals_stopped, label_is, label_null}
+use Rattle.sno_store.proofs.DefineLaws.{sound_names, more_all, parts_done, parts_passed, begun_more, formals_stopped, locals_stopped}
 use Rattle.sno_store.proofs.store.Store.define_parts.Goals as goal
-use Rattle.sno_store.proofs.store.Store.define_parts.Goals.{then-is_empty, else-is_empty}
 
 pub returns-in_err-function : goal.returns-in_err-function
 returns-in_err-function c =
@@ -46,7 +46,7 @@ returns-in_err-locals c =
 pub returns-in_err-define : goal.returns-in_err-define
 returns-in_err-define c =
     let p = prototype_seen c.args.parts in
-    let same = ap (λ (x : Contents). record x { definitions = c.define.new.self }) c.self-2.view_is ∙ ap (λ ds. record c.join-2.new.self { definitions = ds }) (c.in_err-define.ensures.err ∙ ap (λ (x : Contents). x.definitions) c.self-2.view_is) in
+    let same = ap (λ (x : Contents). record x { functions = c.define.new.self }) c.self-2.view_is ∙ ap (λ ds. record c.join-2.new.self { functions = ds }) (c.in_err-define.ensures.err ∙ ap (λ (x : Contents). x.functions) c.self-2.view_is) in
     let more = more_all p c.args.entry.now c.args.self.now c.symbol.new.self c.join.new.self c.join-2.new.self c.in_ok-function.function c.in_ok-formals.formals c.in_ok-locals.locals c.in_ok-function.ensures c.in_ok-formals.ensures c.in_ok-locals.ensures in
     parts_passed p c.args.entry.now c.args.self.now _ NoMemory c.from_residual-in_err-define.result c.from_residual-in_err-define.ensures.1
     (tt, subst (HasMore c.args.self.now) (sym same) more)
@@ -54,14 +54,8 @@ returns-in_err-define c =
 pub returns : goal.returns
 returns c =
     let p = prototype_seen c.args.parts in
-    let label : c.if-is_empty.label.now ≡ entry_label c.args.entry.now c.args.parts.function.now =
-    elim c.if-is_empty.branch [
-      | then-is_empty w ↦ (let none : length c.args.entry.now ≡ 0 = search rules in ap (λ (r : Bor (List ℕ)). r.now) w.label-is ∙ sym (label_null c.args.entry.now c.args.parts.function.now none))
-      | else-is_empty w ↦ (let some : 0 < length c.args.entry.now = search rules in ap (λ (r : Bor (List ℕ)). r.now) w.label-is ∙ sym (label_is c.args.entry.now c.args.parts.function.now some))
-    ]
-    in
     parts_done p c.args.entry.now c.args.self.now c.symbol.new.self c.join.new.self c.join-2.new.self c.in_ok-function.function c.in_ok-formals.formals c.in_ok-locals.locals c.in_ok-function.ensures c.in_ok-formals.ensures c.in_ok-locals.ensures
     _ c.new.result c.define.new.self
-    (ap (λ (x : Contents). record x { definitions = c.define.new.self }) c.self-2.view_is)
-    (c.in_ok-define.ensures.ok ∙ ap (λ (x : Contents). defined c.in_ok-function.function.0 c.new.result x.definitions) c.self-2.view_is)
-    (c.new.ensures ∙ ap (λ l. record { entry = l; formals = map (λ (id : SymId). id.0) c.in_ok-formals.formals.items; locals = map (λ (id : SymId). id.0) c.in_ok-locals.locals.items }) (c.in_ok-label.ensures.items ∙ label))
+    (ap (λ (x : Contents). record x { functions = c.define.new.self }) c.self-2.view_is)
+    (c.in_ok-define.ensures.ok ∙ ap (λ (x : Contents). with_function c.in_ok-function.function.0 (Defined c.new.result) x.functions) c.self-2.view_is)
+    (c.new.ensures ∙ ap (λ l. record { entry = l; formals = map (λ (id : SymId). id.0) c.in_ok-formals.formals.items; locals = map (λ (id : SymId). id.0) c.in_ok-locals.locals.items }) (c.in_ok-label.ensures.items ∙ c.entry_label.ensures))

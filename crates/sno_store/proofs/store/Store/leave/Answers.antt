@@ -7,4 +7,5 @@ invariant_of-self c = (
   ap length c.close.ensures.values ∙ length-restored c.in-Some.call c.self.inside.values.items ∙ c.self.invariant.0,
   c.self.invariant.1,
   omega (arith, c.self.invariant.2, c.pop.ensures.len),
+  c.self.invariant.3,
 )

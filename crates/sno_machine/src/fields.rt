@@ -1,0 +1,72 @@
+//! Objects of a program's own types, and their fields.
+ghost use Rattle.std.specs.Prelude.{◌≡◌, map, option_map};
+ghost use Rattle.std.specs.List.{AllByRecursion};
+ghost use Rattle.sno_store.specs.Symbols.{found};
+ghost use Rattle.sno_machine.specs.Fields.{asks_field, constructs, field_as_name, field_of, field_value, is_field_named};
+ghost use Rattle.sno_machine.specs.Values.{shown, IsValueOf};
+ghost use Rattle.sno_machine.specs.State.{Does, itself, any};
+
+use crate::convert::null;
+use crate::machine::{DATA_TYPE, Exit, Machine, NO_VARIABLE, error};
+use sno_value::{Name, SymId, Value};
+
+/// A new object of a type: missing arguments are null, and extra ones are dropped.
+pub fn construct(machine: &mut Machine, number: u32, arguments: Vec<Value>) -> Result<Value, Exit>
+    requires { AllByRecursion (IsValueOf machine.old.nodes) arguments.items }
+    ensures { Does shown IsValueOf (constructs number (map (shown machine.old.nodes) arguments.items)) machine.old machine.new result }
+{
+    let id = machine.new_data(number, arguments)?;
+    Ok(Value::Data(id))
+}
+
+/// What the field of an object holds; error 1 where the value is no object, or has no such field.
+pub fn field_value(machine: &Machine, symbol: SymId, object: &Value) -> Result<Value, Exit>
+    ensures { Does shown IsValueOf (field_value symbol.0 (shown machine.now.nodes object.now)) machine.now machine.now result }
+{
+    let name = field_of(machine, symbol, object)?;
+    machine.stored(name)
+}
+
+/// The name of the field of an object with this function's name, as a value; error 1 where the value is no object, or has
+/// no such field.
+pub fn field_as_name(machine: &Machine, function: &[u8], object: &Value) -> Result<Value, Exit>
+    ensures { Does shown IsValueOf (field_as_name function.now (shown machine.now.nodes object.now)) machine.now machine.now result }
+{
+    let Some(symbol) = machine.find_symbol(function) else {
+        return Err(error(DATA_TYPE));
+    };
+    let name = field_of(machine, symbol, object)?;
+    Ok(Value::Name(name))
+}
+
+/// Null where a function is a field at this moment; else its calls have no name, which is error 15.
+pub fn ask_field(machine: &Machine, function: &[u8]) -> Result<Value, Exit>
+    ensures { Does shown IsValueOf (asks_field function.now) machine.now machine.now result }
+{
+    if !is_field_named(machine, function) {
+        return Err(error(NO_VARIABLE));
+    }
+    Ok(null(machine.alloc()))
+}
+
+fn is_field_named(machine: &Machine, function: &[u8]) -> bool
+    ensures { result ≡ is_field_named (found function.now machine.now.store.symbols) machine.now.store.functions }
+{
+    match machine.find_symbol(function) {
+        Some(symbol) => machine.is_field(symbol),
+        None => false,
+    }
+}
+
+/// The field of an object that a symbol names; error 1 where the value is no object, or has no such field.
+fn field_of(machine: &Machine, symbol: SymId, object: &Value) -> Result<Name, Exit>
+    ensures { Does itself any (field_of symbol.0 (shown machine.now.nodes object.now)) machine.now machine.now result }
+{
+    let Value::Data(id) = object else {
+        return Err(error(DATA_TYPE));
+    };
+    match machine.field(*id, symbol) {
+        Some(name) => Ok(name),
+        None => Err(error(DATA_TYPE)),
+    }
+}
