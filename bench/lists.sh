@@ -1,0 +1,35 @@
+#!/bin/bash
+# Times lists of 100,000 nodes of a type of the program's own, ten of them, beside Icon's records and Perl's arrays where
+# these are installed: the least processor time of three runs, and the most memory of the last one.
+set -eu
+top=$(cd "$(dirname "$0")/.." && pwd)
+program=${1:-$top/snobol4}
+work=$(mktemp -d)
+trap 'rm -rf "$work"' EXIT
+TIMEFORMAT='%U %S'
+for _round in 1 2 3 4 5 6 7 8 9 10; do echo 5000050000; done >"$work/wanted"
+
+# time_row NAME WORD..: runs the words, holds the output to the sums, and writes a row.
+time_row() {
+    local name=$1 seconds
+    shift
+    seconds=$(for _run in 1 2 3; do
+        { time "$@" >"$work/sums" 2>"$work/errors"; } 2>&1 | awk '{ print $1 + $2 }'
+        cmp -s "$work/wanted" "$work/sums" || echo "$name: other sums" >&2
+    done | sort -n | head -n 1)
+    printf '%-8s %6s s' "$name" "$seconds"
+    if [ -x /usr/bin/time ]; then
+        /usr/bin/time -f '%M KB' -o "$work/memory" "$@" >/dev/null
+        printf ' %12s' "$(cat "$work/memory")"
+    fi
+    echo
+}
+
+time_row snobol4 "$program" run --statements 100000000 "$top/bench/lists/lists.sno"
+if command -v icont >/dev/null; then
+    icont -s -o "$work/lists" "$top/bench/lists/lists.icn"
+    time_row icon iconx "$work/lists"
+fi
+if command -v perl >/dev/null; then
+    time_row perl perl "$top/bench/lists/lists.pl"
+fi
