@@ -27,8 +27,10 @@ time_row() {
 
 time_row snobol4 "$program" run --statements 100000000 "$top/bench/lists/lists.sno"
 if command -v icont >/dev/null; then
-    icont -s -o "$work/lists" "$top/bench/lists/lists.icn"
-    time_row icon iconx "$work/lists"
+    # A dot in the path of what -o names would be taken for one before a suffix.
+    (cd "$work" && icont -s -o lists "$top/bench/lists/lists.icn")
+    # Its collector goes down a list by recursion, for which the usual stack of 8 MB is too small.
+    time_row icon bash -c "ulimit -s unlimited; exec iconx '$work/lists'"
 fi
 if command -v perl >/dev/null; then
     time_row perl perl "$top/bench/lists/lists.pl"
