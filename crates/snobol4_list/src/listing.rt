@@ -1,7 +1,6 @@
 //! The listing: each line of a text behind the number of the first statement that begins in it.
-ghost use Rattle.std.specs.Prelude.{◌≡◌, ℕ, ◌+◌, ◌-◌, ◌<◌, ◌==◌, ◌++◌, if◌then◌else◌, length, slice_index, OnOk, IfOk};
+ghost use Rattle.std.specs.Prelude.{◌≡◌, ℕ, ◌+◌, ◌-◌, ◌<◌, ◌≤◌, ◌==◌, ◌++◌, if◌then◌else◌, drop, length, replicate, slice_index, OnOk, IfOk};
 ghost use Rattle.bstr.specs.Text.{lines_of};
-ghost use Rattle.snobol4_list.specs.Listing as spec;
 ghost use Rattle.snobol4_list.specs.Listing.{listed, listed_line, margin, ended, blanks, numeral, AreNumbers};
 
 use bstr::ByteSlice;
@@ -44,6 +43,7 @@ fn count_lines(text: &[u8]) -> usize
 
 /// The number of the first statement that begins in each line, line 1 first; 0 where none does. The statements are gone
 /// through from the last to the first, so that the first of a line is the one that stays.
+#[tactic(auto, using(crate::proofs::Numbers::number_facts))]
 fn first_numbers(
     alloc: Global,
     program: &Program,
@@ -51,15 +51,49 @@ fn first_numbers(
 ) -> Result<Vec<u32>, AllocError>
     ensures { IfOk result (λ v. AreNumbers lines 1 program.now.statements v.items) }
 {
-    let mut numbers = vec![in alloc; 0; lines]?;
-    let mut number = MOST_STATEMENTS;
+    let mut numbers = zeros(alloc, lines)?;
+    let mut number = count_statements(program);
     'statements: while number > 0 {
-        if let Some(statement) = program.statement(number) {
-            mark(&mut numbers, statement.line, number);
-        }
+        mark_statement(&mut numbers, program, number);
         number -= 1;
     }
     Ok(numbers)
+}
+
+/// So many zeros.
+#[tactic(auto, using(crate::proofs::Numbers::number_facts))]
+pub fn zeros(alloc: Global, count: usize) -> Result<Vec<u32>, AllocError>
+    ensures { IfOk result (λ v. v.items ≡ replicate count 0) }
+{
+    let mut numbers = Vec::new(alloc);
+    for _ in 0..count {
+        numbers.push(0)?;
+    }
+    Ok(numbers)
+}
+
+/// How many statements a program has.
+pub fn count_statements(program: &Program) -> u32
+    ensures { result ≡ length program.now.statements }
+{
+    for count in 0..MOST_STATEMENTS {
+        if program.statement(count + 1).is_none() {
+            return count;
+        }
+    }
+    MOST_STATEMENTS
+}
+
+/// Sets the number of the line in which a statement begins.
+fn mark_statement(numbers: &mut Vec<u32>, program: &Program, number: u32)
+    requires some { 0 < number }
+    requires within { number ≤ length program.now.statements }
+    ensures { (lines : ℕ) → AreNumbers lines (number + 1) (drop number program.now.statements) numbers.old.items
+        → AreNumbers lines number (drop (number - 1) program.now.statements) numbers.new.items }
+{
+    if let Some(statement) = program.statement(number) {
+        mark(numbers, statement.line, number);
+    }
 }
 
 /// Sets the number of a line, where there is this line.
@@ -101,7 +135,7 @@ fn push_margin(alloc: Global, listing: &mut Vec<u8>, number: u32) -> Result<(), 
 }
 
 /// A number in decimal, and nothing for 0.
-fn digits_of(alloc: Global, number: u32) -> Result<Vec<u8>, AllocError>
+pub fn digits_of(alloc: Global, number: u32) -> Result<Vec<u8>, AllocError>
     ensures { IfOk result (λ digits. digits.items ≡ numeral number) }
 {
     if number == 0 {
@@ -112,6 +146,7 @@ fn digits_of(alloc: Global, number: u32) -> Result<Vec<u8>, AllocError>
 }
 
 /// Appends blanks.
+#[tactic(auto, using(crate::proofs::Listings::listing_facts))]
 fn push_blanks(listing: &mut Vec<u8>, count: usize) -> Result<(), AllocError>
     ensures { OnOk result (listing.new.items ≡ listing.old.items ++ blanks count) }
 {

@@ -1,19 +1,130 @@
 //! The program `snobol4-list`: lists a program with the numbers of its statements.
 #![tactic(auto)]
 
+mod cards;
+mod command;
+mod definitions;
+mod help;
 mod listing;
+mod names;
+mod refused;
+mod report;
+mod single;
+mod survey;
+mod warnings;
+mod words;
 
+use command::{Job, command, status_of};
+use report::{Report, make_report};
+use std::env;
+use std::fs::File;
+use std::io::{self, ErrorKind, Read, Write};
 use std::process::ExitCode;
-use sno_text::read_program;
-use listing::listing as list;
-use std::io::Write;
+
+/// The most bytes that are read of a file: one more than a program may have.
+const MOST_READ: u64 = 4_000_001;
+
+/// The status where the file can't be read.
+const UNREAD: u8 = 3;
+
+/// The status where memory is refused.
+const NO_MEMORY: u8 = 6;
+
+/// The status where standard output fails.
+const FAULT: u8 = 7;
+
+/// The status of a usage fault.
+const USAGE: u8 = 64;
 
 fn main(rt: HostRuntime) -> ExitCode {
+    let status = match env::args(&rt) {
+        Ok(args) => match args.collect::<Vec<String>>(rt.alloc()) {
+            Ok(words) => obey(&rt, &words),
+            Err(_) => no_memory(&rt),
+        },
+        Err(error) if error.kind() == ErrorKind::OutOfMemory => no_memory(&rt),
+        Err(_) => {
+            let _ = eprintln!(rt; "error: a word of the command line is not UTF-8");
+            USAGE
+        }
+    };
+    ExitCode::from(status)
+}
+
+/// Does what the words ask for.
+fn obey(rt: &HostRuntime, args: &[String]) -> u8 {
     let alloc = rt.alloc();
-    if let Ok(program) = read_program(alloc, b" X = 1\nL Y = 2; Z = 3\nEND") {
-        if let Ok(text) = list(alloc, b" X = 1\nL Y = 2; Z = 3\nEND", &program) {
-            let _ = rt.stdout().write_all(text.as_slice());
+    let mut words = Vec::new(alloc);
+    for arg in args {
+        if words.push(arg.as_str()).is_err() {
+            return no_memory(rt);
         }
     }
-    ExitCode::from(0)
+    match command(alloc, &words) {
+        Ok(job) => work(rt, job),
+        Err(error) => {
+            let status = status_of(&error);
+            if status == NO_MEMORY {
+                return no_memory(rt);
+            }
+            if error.print(rt).is_err() && status == 0 {
+                return write_fault(rt);
+            }
+            status
+        }
+    }
+}
+
+/// Reads the file and lists it.
+fn work(rt: &HostRuntime, job: Job) -> u8 {
+    let text = match read(rt, job.file) {
+        Ok(text) => text,
+        Err(error) if error.kind() == ErrorKind::OutOfMemory => return no_memory(rt),
+        Err(_) => {
+            let _ = eprintln!(rt; "snobol4-list: cannot read {}", job.file);
+            return UNREAD;
+        }
+    };
+    match make_report(rt.alloc(), text.as_slice(), job.statement) {
+        Ok(Some(report)) => write(rt, &report),
+        Ok(None) => no_statement(rt, job.statement),
+        Err(_) => no_memory(rt),
+    }
+}
+
+/// What a file holds, as far as it tells whether a program is too large: a device may have no end.
+fn read(rt: &HostRuntime, file: &str) -> io::Result<Vec<u8>> {
+    let mut text = Vec::new(rt.alloc());
+    File::open(rt, file)?
+        .take(MOST_READ)
+        .read_to_end(&mut text)?;
+    Ok(text)
+}
+
+/// Writes a report to standard output.
+fn write(rt: &HostRuntime, report: &Report) -> u8 {
+    let mut output = rt.stdout();
+    if output.write_all(report.text.as_slice()).is_err() || output.flush().is_err() {
+        return write_fault(rt);
+    }
+    report.status
+}
+
+fn no_statement(rt: &HostRuntime, number: Option<u32>) -> u8 {
+    let number = match number {
+        Some(number) => number,
+        None => 0,
+    };
+    let _ = eprintln!(rt; "snobol4-list: no statement {number}");
+    USAGE
+}
+
+fn no_memory(rt: &HostRuntime) -> u8 {
+    let _ = eprintln!(rt; "snobol4-list: no memory");
+    NO_MEMORY
+}
+
+fn write_fault(rt: &HostRuntime) -> u8 {
+    let _ = eprintln!(rt; "snobol4-list: write fault");
+    FAULT
 }

@@ -1,0 +1,8 @@
+use Rattle.std.proofs.Common.{◌≡◌, ◌+◌, ◌++◌, length}
+use Rattle.bstr.specs.Text.{lines_of}
+use Rattle.snobol4_list.specs.Listing.{listed, lines_listed}
+use Rattle.snobol4_list.proofs.listing.listing.Given as goal
+
+abbrev pub invariant-loop-line : goal.invariant-loop-line
+invariant-loop-line l = (l.at + length l.line-iterator ≡ length (lines_of l.fn.text))
+    × (l.listing.items ++ lines_listed l.fn.program.statements (l.at + 1) l.line-iterator ≡ listed l.fn.text l.fn.program.statements)

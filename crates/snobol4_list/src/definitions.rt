@@ -1,0 +1,54 @@
+//! The functions and types that a program defines, as far as its text tells.
+use crate::names::Names;
+use crate::survey::{node_at, part};
+use crate::words::is_one_of;
+use sno_text::{Node, Program};
+use sno_value::ExprId;
+use std::alloc::{AllocError, Global};
+
+/// The functions whose first argument defines names.
+const DEFINING: &[u8] = b"DEFINE DATA";
+
+/// The words of all prototypes and entry labels that are literals.
+#[derive(Drop)]
+pub struct Definitions {
+    pub names: Names,
+    /// Whether a prototype or an entry label is no literal, so that it may define any name.
+    pub is_open: bool,
+}
+
+/// What a program defines.
+pub fn find_definitions(
+    alloc: Global,
+    text: &[u8],
+    program: &Program,
+) -> Result<Definitions, AllocError> {
+    let mut definitions = Definitions {
+        names: Names::new(alloc),
+        is_open: false,
+    };
+    for id in 0..program.nodes() {
+        if let Some(Node::Call(name, arguments)) = node_at(program, id) {
+            if is_one_of(part(text, *name), DEFINING) {
+                add_arguments(text, program, arguments.as_slice(), &mut definitions)?;
+            }
+        }
+    }
+    Ok(definitions)
+}
+
+/// Adds what the arguments of a definition name.
+fn add_arguments(
+    text: &[u8],
+    program: &Program,
+    arguments: &[ExprId],
+    definitions: &mut Definitions,
+) -> Result<(), AllocError> {
+    for argument in arguments {
+        match node_at(program, argument.0) {
+            Some(Node::Literal(span)) => definitions.names.add_words(part(text, *span))?,
+            _ => definitions.is_open = true,
+        }
+    }
+    Ok(())
+}
