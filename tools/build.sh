@@ -4,11 +4,10 @@
 # What it takes from nothing, as README.md has it.
 takes='up to half an hour on 4 processors, and 5 GB of disk'
 
-log=$top/crates/snobol4/out/build.log
-
-# Proves and builds the program, and sets `program` to it. `why` says why, where there is a reason to tell.
+# Proves and builds the program that is meant, and sets `program` to it. `why` says why, where there is a reason to tell.
 # Another call that is building it is waited for, and what it built is taken, where that is not older than the sources.
 build_program() {
+    log=$top/crates/$crate/out/build.log
     if ! command -v rt >/dev/null; then
         say "${why:+$why, and }to prove and build the program needs the Rattle kit, whose command rt is not on PATH;" \
             "what is needed is told in README.md, below its first two commands"
@@ -42,7 +41,7 @@ prove() {
     kit=
     trap end_kit EXIT
     for signal in HUP INT PIPE TERM; do trap "stop $signal" "$signal"; done
-    (cd "$top/crates/snobol4" && exec setsid rt run -- --help) </dev/null >"$log" 2>&1 &
+    (cd "$top/crates/$crate" && exec setsid rt run -- --help) </dev/null >"$log" 2>&1 &
     kit=$!
     follow 9>&-
     status=0
@@ -59,14 +58,14 @@ prove() {
 
 # Tells how far the kit is while it runs: on a terminal in one line that is written over, else by a line a crate.
 follow() {
-    crates=$(program_crates | tr '\n' ' ') told=beginning looks=0
+    crates=$(program_crates "$name" | tr '\n' ' ') told=beginning looks=0
     while kill -0 "$kit" 2>/dev/null; do
         # (where little has changed it ends soon)
         if [ "$looks" -lt 25 ]; then sleep 0.2; else sleep 1; fi
         looks=$((looks + 1))
         now=$(awk -v crates="$crates" -v seconds="$(($(date +%s) - began))" -f "$top/tools/progress.awk" "$log")
         if on_terminal; then
-            printf '\r\033[Ksnobol4: %s' "$now" >&2
+            printf '\r\033[K%s: %s' "$name" "$now" >&2
         elif [ "${now%%,*}" != "$told" ]; then
             say "$now"
         fi

@@ -1,18 +1,37 @@
-# Finds the program: the one built here, the one that ships, or none.
+# Finds a program: the one built here, the one that ships, or none.
 # Read by scripts that have set top to the repository's root.
 
-built=$top/crates/snobol4/out/snobol4
-shipped=$top/bin/snobol4-x86_64-linux
 cache=$top/.cache
 answers=$cache/answers
 
-say() {
-    printf 'snobol4: %s\n' "$*" >&2
+# The programs of the repository, by crates.txt.
+programs() {
+    for one in snobol4 snobol4-list; do
+        if grep -q "^$(crate_of "$one"):" "$top/crates.txt"; then echo "$one"; fi
+    done
 }
 
-# The crates that the program stands on, by crates.txt: the lowest first, the program last.
+# The crate of the program $1.
+crate_of() {
+    printf '%s\n' "$1" | tr - _
+}
+
+# Says which program is meant below: $1.
+choose() {
+    name=$1
+    crate=$(crate_of "$1")
+    built=$top/crates/$crate/out/$crate
+    shipped=$top/bin/$name-x86_64-linux
+}
+choose snobol4
+
+say() {
+    printf '%s: %s\n' "$name" "$*" >&2
+}
+
+# The crates that the programs $* stand on, by crates.txt: the lowest first, a program behind those that it stands on.
 program_crates() {
-    awk '
+    awk -v programs="$(for one do crate_of "$one"; done | tr '\n' ' ')" '
     { sub(/#.*/, "") }
     /:/ {
         split(substr($0, 1, index($0, ":") - 1), head)
@@ -25,15 +44,15 @@ program_crates() {
         for (i = 1; i <= count; i++) { reach(names[i]) }
         print name
     }
-    END { reach("snobol4") }' "$top/crates.txt"
+    END { count = split(programs, roots); for (i = 1; i <= count; i++) { reach(roots[i]) } }' "$top/crates.txt"
 }
 
-# Where the sources of the program stand, as paths from the root.
+# Where the sources of all programs stand, as paths from the root.
 source_places() {
     echo crates.txt
-    for crate in $(program_crates); do
+    for one in $(program_crates $(programs)); do
         for part in src specs proofs; do
-            if [ -d "$top/crates/$crate/$part" ]; then echo "crates/$crate/$part"; fi
+            if [ -d "$top/crates/$one/$part" ]; then echo "crates/$one/$part"; fi
         done
     done
 }
@@ -54,21 +73,36 @@ is_older() {
         \( -type d -o -name '*.rt' -o -name '*.antt' -o -name crates.txt \) -newer "$1" -print)" ]
 }
 
-# What bin/BUILD tells of $1: program, sha256, sources or kit.
+# What bin/BUILD tells of $1: sources or kit.
 told_of_shipped() {
     sed -n "s/^$1: *//p" "$top/bin/BUILD"
 }
 
-# Why the shipped program is not the one of these sources; `fits` where it is.
-judge_shipped() {
+# The SHA-256 that bin/BUILD tells of the program that is meant.
+told_sum() {
+    awk -v file="${shipped##*/}" '/^program: / { is_it = ($2 == file) } /^sha256: / && is_it { print $2 }' "$top/bin/BUILD"
+}
+
+# Whether the shipped program that is meant is the one that bin/BUILD tells of.
+is_told() {
+    [ "$(told_sum)" = "$(sha256sum <"$shipped" | cut -d ' ' -f 1)" ]
+}
+
+# Why the shipped programs are not those of these sources; `fits` where they are.
+judge_shipped() (
     if [ "$(told_of_shipped sources)" != "$(sources_digest)" ]; then
         echo "the sources are not those that the program in bin/ was built from"
-    elif [ "$(told_of_shipped sha256)" != "$(sha256sum <"$shipped" | cut -d ' ' -f 1)" ]; then
-        echo "the program in bin/ is not the one that bin/BUILD tells of"
-    else
-        echo fits
+        return
     fi
-}
+    for one in $(programs); do
+        choose "$one"
+        if ! [ -x "$shipped" ] || ! is_told; then
+            echo "the program in bin/ is not the one that bin/BUILD tells of"
+            return
+        fi
+    done
+    echo fits
+)
 
 # Whether the shipped program is that of these sources and runs on this machine; else `why` tells why not.
 # To judge it takes longer than to run it, so the answer is kept under a digest of what all the files looked like: their
