@@ -3,7 +3,7 @@
 #
 # A block that begins with `$` is a list of commands with what each writes:
 # - `$ cat NAME.sno`, and the program NAME.sno, for the commands below it;
-# - `$ snobol4 WORD...` or `$ printf 'TEXT' | snobol4 WORD...`, standard output, and `status N` where the status isn't 0.
+# - `$ snobol4 WORD...`, `$ snobol4-list WORD...` or `$ printf 'TEXT' | snobol4 WORD...`, standard output, and `status N` where the status isn't 0.
 #   `./snobol4` is the same. With `faults` standard error belongs to what is shown.
 # A block of another kind has a word behind its ```, as ```text has.
 #
@@ -15,6 +15,7 @@
 # - `E` is refused                 the statement E is refused
 
 . "$top/tests/results.sh"
+. "$top/tests/programs.sh"
 
 # begin [PROGRAM]: what stands in for snobol4, ./snobol4 at the top where none is given; and the folder to work in.
 begin() {
@@ -23,6 +24,7 @@ begin() {
     /*) ;;
     *) program=$PWD/$program ;;
     esac
+    list=$(list_program "$program")
     # The first call may build the program and say so, which must not get into a comparison.
     "$program" --help >/dev/null || { echo "not ok $0: cannot run $program"; exit 1; }
     cd "$top" || exit 1
@@ -66,20 +68,24 @@ allowed() {
     awk -v q="'" '
     BEGIN {
         word = "([A-Za-z0-9_.,:/-]+|" q "[^" q "]*" q "|\"([^\"`$\\\\]|[$][ " q "])*\")"
-        command = "^(printf " q "[^" q "]*" q " [|] )?(./)?snobol4( " word ")+$"
+        command = "^(printf " q "[^" q "]*" q " [|] )?(./)?snobol4(-list)?( " word ")+$"
     }
     $0 !~ command { exit 1 }' "$1"
 }
 
 # A program of the document is read where it was put.
-snobol4() {
+with_programs() {
+    called=$1
+    shift
     for word do
         shift
         if [ -f "$work/programs/$word" ]; then word=$work/programs/$word; fi
         set -- "$@" "$word"
     done
-    "$program" "$@"
+    "$called" "$@"
 }
+snobol4() { with_programs "$program" "$@"; }
+snobol4_list() { with_programs "$list" "$@"; }
 
 # check_blocks DOCUMENT [faults]
 check_blocks() {
@@ -106,7 +112,7 @@ check_command() {
         not_ok "$2" "isn't a command for a document"
         return
     fi
-    line=$(sed 's#\./snobol4#snobol4#' "$work/$1.command")
+    line=$(sed 's#\./snobol4#snobol4#; s#snobol4-list #snobol4_list #' "$work/$1.command")
     status=0
     if [ "$3" = faults ]; then
         (eval "$line") </dev/null >"$work/out" 2>&1 || status=$?
