@@ -37,7 +37,7 @@ numbers_more lines number sts st old new h e len marked before =
     let first : drop (number - 1) sts ≡ st ∷ drop number sts = from_get sts (number - 1) st e ∙ ap (λ n. st ∷ drop n sts) one in
     rw first (record {
       count = len ∙ before.count;
-      each = λ k w. marked k (let c = before.count in omega arith) ∙ ap (λ x. if st.line == k + 1 then number else x) (before.each k w)
+      each = λ k w. marked k (let c = before.count in omega arith) ∙ ap (λ x. if st.line == k + 1 then number else x) (before.each k w);
     })
 
 abbrev zeros : ℕ → List ℕ

@@ -44,11 +44,7 @@ fn count_lines(text: &[u8]) -> usize
 /// The number of the first statement that begins in each line, line 1 first; 0 where none does. The statements are gone
 /// through from the last to the first, so that the first of a line is the one that stays.
 #[tactic(auto, using(crate::proofs::Numbers::number_facts))]
-fn first_numbers(
-    alloc: Global,
-    program: &Program,
-    lines: usize,
-) -> Result<Vec<u32>, AllocError>
+fn first_numbers(alloc: Global, program: &Program, lines: usize) -> Result<Vec<u32>, AllocError>
     ensures { IfOk result (λ v. AreNumbers lines 1 program.now.statements v.items) }
 {
     let mut numbers = zeros(alloc, lines)?;

@@ -71,7 +71,10 @@ fn last_accepted(
             break;
         }
         let middle = low + (high - low) / 2;
-        match read_to(alloc, text, cuts[middle])? {
+        let Some(cut) = cuts.get(middle) else {
+            break;
+        };
+        match read_to(alloc, text, *cut)? {
             Some(found) => {
                 best = Some(found);
                 low = middle + 1;

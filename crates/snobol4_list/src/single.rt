@@ -23,7 +23,12 @@ pub fn single(
     for line in text.lines_with_terminator() {
         at = at.saturating_add(1);
         if first <= at && at <= last {
-            push_line(alloc, &mut listing, if at == first { number } else { 0 }, line)?;
+            push_line(
+                alloc,
+                &mut listing,
+                if at == first { number } else { 0 },
+                line,
+            )?;
         }
     }
     Ok(Some(listing))

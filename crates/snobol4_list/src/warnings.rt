@@ -8,11 +8,10 @@ mod lines;
 mod patterns;
 mod variables;
 
-pub use blanks::warn_of_signs;
-
 use crate::definitions::find_definitions;
 use crate::listing::digits_of;
 use crate::survey::{Place, node_places};
+pub use blanks::warn_of_signs;
 use sno_text::Program;
 use std::alloc::{AllocError, Global};
 

@@ -5,8 +5,7 @@ ghost use Rattle.std.specs.Prelude.{◌≤◌, length};
 pub const VARIABLES: &[u8] = b"INPUT OUTPUT ARB BAL REM FAIL FENCE ABORT SUCCEED";
 
 /// The functions that make patterns.
-pub const PRIMITIVES: &[u8] =
-    b"LEN POS RPOS TAB RTAB ANY NOTANY SPAN BREAK BREAKX ARBNO FENCE";
+pub const PRIMITIVES: &[u8] = b"LEN POS RPOS TAB RTAB ANY NOTANY SPAN BREAK BREAKX ARBNO FENCE";
 
 /// All functions of the language.
 pub const FUNCTIONS: &[u8] = b"LEN POS RPOS TAB RTAB ANY NOTANY SPAN BREAK BREAKX ARBNO FENCE
@@ -14,12 +13,13 @@ EQ NE LT LE GT GE IDENT DIFFER LGT INTEGER SIZE TRIM DUPL REPLACE REMDR DATATYPE
 ARRAY TABLE PROTOTYPE DEFINE DATA";
 
 /// The keywords, and those of them that a program cannot set.
-pub const KEYWORDS: &[u8] =
-    b"ANCHOR TRIM STLIMIT STCOUNT STNO FNCLEVEL FULLSCAN MAXLNGTH ALPHABET";
+pub const KEYWORDS: &[u8] = b"ANCHOR TRIM STLIMIT STCOUNT STNO FNCLEVEL FULLSCAN MAXLNGTH ALPHABET";
+
 pub const FIXED_KEYWORDS: &[u8] = b"STCOUNT STNO FNCLEVEL FULLSCAN MAXLNGTH ALPHABET";
 
 /// The labels that have a meaning, and those of them that end a call.
 pub const LABELS: &[u8] = b"END RETURN FRETURN";
+
 pub const RETURNS: &[u8] = b"RETURN FRETURN";
 
 /// Whether a name may have this byte.

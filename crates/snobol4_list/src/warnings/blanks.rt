@@ -16,13 +16,28 @@ pub fn warn(
         let place = place_of(places, id);
         match second_sign(program, id) {
             Some(UnaryOperator::NameOf) => {
-                warnings.add(place, b"a . with no blank behind it assigns nothing: it is the name of what follows", b"", b"")?;
+                warnings.add(
+                    place,
+                    b"a . with no blank behind it assigns nothing: ",
+                    b"it is the name of what follows",
+                    b"",
+                )?;
             }
             Some(UnaryOperator::Minus) => {
-                warnings.add(place, b"a - with no blank behind it subtracts nothing: it is the sign of what follows", b"", b"")?;
+                warnings.add(
+                    place,
+                    b"a - with no blank behind it subtracts nothing: ",
+                    b"it is the sign of what follows",
+                    b"",
+                )?;
             }
             Some(UnaryOperator::Plus) => {
-                warnings.add(place, b"a + with no blank behind it adds nothing: it is the sign of what follows", b"", b"")?;
+                warnings.add(
+                    place,
+                    b"a + with no blank behind it adds nothing: ",
+                    b"it is the sign of what follows",
+                    b"",
+                )?;
             }
             _ => {}
         }
@@ -47,16 +62,17 @@ fn sign_of(program: &Program, id: u32) -> Option<UnaryOperator> {
 }
 
 /// Warns of the signs `=` and `|` of a line that have no blank on each side. The line's statement is refused.
-pub fn warn_of_signs(
-    place: Place,
-    line: &[u8],
-    warnings: &mut Warnings,
-) -> Result<(), AllocError> {
+pub fn warn_of_signs(place: Place, line: &[u8], warnings: &mut Warnings) -> Result<(), AllocError> {
     let mut quote = 0;
     for at in 0..line.len() {
         let byte = line[at];
         if quote == 0 && (byte == b'=' || byte == b'|') && !is_apart(line, at) {
-            warnings.add(place, b"there is no blank on each side of ", &line[at..at + 1], b"")?;
+            warnings.add(
+                place,
+                b"there is no blank on each side of ",
+                &line[at..at + 1],
+                b"",
+            )?;
         }
         quote = step_quote(quote, byte);
     }
@@ -65,7 +81,7 @@ pub fn warn_of_signs(
 
 /// Whether a place of a line has a blank before it, and a blank or the line's end behind it.
 fn is_apart(line: &[u8], at: usize) -> bool {
-    at > 0 && is_blank(line, at - 1) && (at >= line.len() - 1 || is_blank(line, at + 1))
+    at > 0 && is_blank(line, at - 1) && is_blank(line, at.saturating_add(1))
 }
 
 /// Whether a place of a line is a blank, its end, or behind it.

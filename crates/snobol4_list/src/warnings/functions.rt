@@ -22,7 +22,12 @@ pub fn warn(
             let name = part(text, *name);
             if !is_there(name, defined) {
                 let place = place_of(places, id);
-                warnings.add(place, b"there is no function ", name, b": to call it is error 4")?;
+                warnings.add(
+                    place,
+                    b"there is no function ",
+                    name,
+                    b": to call it is error 4",
+                )?;
             }
         }
     }

@@ -91,7 +91,12 @@ fn warn_of_target(
     if in_capitals(label, LABELS).is_some() {
         return Ok(());
     }
-    warnings.add(place, b"there is no label ", label, b": to go there is error 5")
+    warnings.add(
+        place,
+        b"there is no label ",
+        label,
+        b": to go there is error 5",
+    )
 }
 
 /// Warns of labels that nothing goes to.

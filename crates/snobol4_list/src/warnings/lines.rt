@@ -32,7 +32,12 @@ pub fn warn(text: &[u8], program: &Program, warnings: &mut Warnings) -> Result<(
 /// Warns of a control line that takes in a file elsewhere.
 fn warn_of_control(place: Place, line: &[u8], warnings: &mut Warnings) -> Result<(), AllocError> {
     if begins_with(line, b"-INCLUDE") || begins_with(line, b"-COPY") {
-        warnings.add(place, b"a control line is a comment: it takes in no file", b"", b"")?;
+        warnings.add(
+            place,
+            b"a control line is a comment: it takes in no file",
+            b"",
+            b"",
+        )?;
     }
     Ok(())
 }

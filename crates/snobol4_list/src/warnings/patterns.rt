@@ -30,7 +30,12 @@ pub fn warn(
             number,
         };
         if number <= end && builds(text, program, statement, defined) {
-            warnings.add(place, b"this pattern is built anew at each pass of a loop, and its nodes count towards error 9: build it before the loop, as P = .., and match P here", b"", b"")?;
+            warnings.add(
+                place,
+                b"this pattern is built anew at each pass of a loop, ",
+                b"and its nodes count towards error 9: ",
+                b"build it before the loop, as P = .., and match P here",
+            )?;
         }
     }
     Ok(())

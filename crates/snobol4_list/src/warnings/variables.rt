@@ -19,7 +19,12 @@ pub fn warn(
         if let Some(name) = variable_at(program, id) {
             let name = part(text, name);
             if names.count(name) == 1 && !is_known(name) {
-                warnings.add(place_of(places, id), b"the variable ", name, b" is named once")?;
+                warnings.add(
+                    place_of(places, id),
+                    b"the variable ",
+                    name,
+                    b" is named once",
+                )?;
             }
         }
     }
