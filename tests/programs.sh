@@ -9,6 +9,6 @@ list_program() {
     fi
     case $1 in
     *snobol4/out/snobol4) echo "${1%snobol4/out/snobol4}snobol4_list/out/snobol4_list" ;;
-    *) printf '%s\n' "$1" | sed 's,snobol4\(-[^/]*\)\{0,1\}$,snobol4-list\1,' ;;
+    *) printf '%s\n' "$1" | sed 's/snobol4\(-[^\/]*\)\{0,1\}$/snobol4-list\1/' ;;
     esac
 }
