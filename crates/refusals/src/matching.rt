@@ -1,0 +1,261 @@
+//! Matches over either stack of points.
+ghost use Rattle.std.specs.Prelude.{◌≡◌, ◌<◌, length, false, true, IfOk, IfSome, IsTrue};
+
+use sno_match::{Engine, Event, Pending, Points};
+use sno_pattern::{Arg, BuildError, Patterns};
+use sno_value::{ExprId, Name, PatId, Prim, SymId};
+use std::alloc::{AllocError, Global};
+
+/// An event, and how many steps were taken when it was told.
+type Told = (Event, u32);
+
+const X: Name = Name::Var(SymId(9));
+
+const Y: Name = Name::Var(SymId(10));
+
+/// ARBNO('A' | 'AA') on AAA, from 0 alone.
+const REPETITION: &[Told] = &[
+    (Event::Way { start: 0, end: 0 }, 1),
+    (Event::Way { start: 0, end: 1 }, 6),
+    (Event::Way { start: 0, end: 2 }, 11),
+    (Event::Way { start: 0, end: 3 }, 16),
+    (Event::Way { start: 0, end: 3 }, 27),
+    (Event::Way { start: 0, end: 2 }, 36),
+    (Event::Way { start: 0, end: 3 }, 41),
+    (Event::Exhausted, 48),
+];
+
+/// FENCE(FENCE('A' | 'AA') 'A') REM on AAA, from 0 alone.
+const CUTS: &[Told] = &[
+    (Event::Way { start: 0, end: 3 }, 10),
+    (Event::Exhausted, 10),
+];
+
+/// (LEN(1) . X LEN(1)) . Y on XY, from 0 alone, and its pending list.
+const PENDING: &[Told] = &[(Event::Way { start: 0, end: 2 }, 7), (Event::Exhausted, 7)];
+
+const ASSIGNMENTS: &[Pending] = &[
+    Pending {
+        target: X,
+        start: 0,
+        end: 1,
+    },
+    Pending {
+        target: Y,
+        start: 0,
+        end: 2,
+    },
+];
+
+/// LEN(1) $ X *X on AA, from 0 alone; X is then 'A'.
+const VALUE: &[Told] = &[
+    (
+        Event::Assign {
+            target: X,
+            start: 0,
+            end: 1,
+        },
+        4,
+    ),
+    (
+        Event::Value {
+            prim: None,
+            expr: ExprId(7),
+        },
+        5,
+    ),
+    (Event::Way { start: 0, end: 2 }, 6),
+    (Event::Exhausted, 6),
+];
+
+/// BAL 'X' on `((((`, from each start, where the aid to BAL is made on the way.
+const BALANCE: &[Told] = &[(Event::Exhausted, 14)];
+
+/// A match, and what it tells.
+#[derive(Clone, Copy)]
+struct Row {
+    pattern: PatId,
+    subject: &'static [u8],
+    anchored: bool,
+    told: &'static [Told],
+    pending: &'static [Pending],
+}
+
+/// Whether each match tells its events, also where one is asked for again behind a refusal.
+pub(crate) fn holds<P: Points>(alloc: Global) -> Result<bool, AllocError> {
+    let mut table = Patterns::new(alloc);
+    let Ok(rows) = rows(&mut table) else {
+        return Err(AllocError);
+    };
+    for row in rows {
+        if row.pattern.0 >= table.len() || !tells::<P>(alloc, &table, row) {
+            return Ok(false);
+        }
+    }
+    Ok(true)
+}
+
+/// The rows, whose patterns are built. The first is the text A.
+fn rows(table: &mut Patterns) -> Result<[Row; 5], BuildError> {
+    let repetition = add_repetition(table)?;
+    let cuts = add_cuts(table)?;
+    let pending = add_pending(table)?;
+    let value = add_value(table)?;
+    let balance = add_balance(table)?;
+    Ok([
+        anchored(repetition, b"AAA", REPETITION, &[]),
+        anchored(cuts, b"AAA", CUTS, &[]),
+        anchored(pending, b"XY", PENDING, ASSIGNMENTS),
+        anchored(value, b"AA", VALUE, &[]),
+        Row {
+            pattern: balance,
+            subject: b"((((",
+            anchored: false,
+            told: BALANCE,
+            pending: &[],
+        },
+    ])
+}
+
+fn anchored(
+    pattern: PatId,
+    subject: &'static [u8],
+    told: &'static [Told],
+    pending: &'static [Pending],
+) -> Row {
+    Row {
+        pattern,
+        subject,
+        anchored: true,
+        told,
+        pending,
+    }
+}
+
+/// Adds 'A' | 'AA'.
+fn add_choice(table: &mut Patterns) -> Result<PatId, BuildError>
+    ensures { IfOk result (λ id. id.0 < length table.new) }
+{
+    let a = table.text(b"A")?;
+    let aa = table.text(b"AA")?;
+    let choice = table.alt(a, aa)?;
+    Ok(choice)
+}
+
+fn add_repetition(table: &mut Patterns) -> Result<PatId, BuildError> {
+    let choice = add_choice(table)?;
+    let repetition = table.arbno(choice)?;
+    Ok(repetition)
+}
+
+fn add_cuts(table: &mut Patterns) -> Result<PatId, BuildError> {
+    let choice = add_choice(table)?;
+    let inner = table.cut(choice)?;
+    let a = table.text(b"A")?;
+    let both = table.cat(inner, a)?;
+    let outer = table.cut(both)?;
+    let rest = table.rem()?;
+    let cuts = table.cat(outer, rest)?;
+    Ok(cuts)
+}
+
+fn add_pending(table: &mut Patterns) -> Result<PatId, BuildError> {
+    let one = table.prim(Prim::Len, Arg::Count(1))?;
+    let first = table.cond(one, X)?;
+    let both = table.cat(first, one)?;
+    let pending = table.cond(both, Y)?;
+    Ok(pending)
+}
+
+fn add_value(table: &mut Patterns) -> Result<PatId, BuildError> {
+    let one = table.prim(Prim::Len, Arg::Count(1))?;
+    let first = table.imm(one, X)?;
+    let part = table.defer(ExprId(7))?;
+    let value = table.cat(first, part)?;
+    Ok(value)
+}
+
+fn add_balance(table: &mut Patterns) -> Result<PatId, BuildError> {
+    let balanced = table.bal()?;
+    let x = table.text(b"X")?;
+    let balance = table.cat(balanced, x)?;
+    Ok(balance)
+}
+
+/// Whether a match tells its events. A deferred part is answered by the first pattern of the table.
+fn tells<P: Points>(alloc: Global, table: &Patterns, row: Row) -> bool
+    requires { row.pattern.0 < length table.now }
+{
+    let Some(mut m) = begin::<P>(alloc, table, row) else {
+        return false;
+    };
+    let mut told = 0u64;
+    'events: for (event, steps) in row.told {
+        if ask(&mut m, table, *steps) != Some(*event) || m.steps() != *steps {
+            return false;
+        }
+        told = told.saturating_add(1);
+        if m.told() != told || (m.is_waiting() && !is_answered(&mut m, table)) {
+            return false;
+        }
+    }
+    m.pending() == row.pending
+}
+
+/// The match of a row.
+fn begin<P: Points>(alloc: Global, table: &Patterns, row: Row) -> Option<Engine<P>>
+    requires { row.pattern.0 < length table.now }
+    ensures nodes { IfSome result (λ m. m.nodes ≡ table.now) }
+    ensures asked { IfSome result (λ m. m.waits ≡ false) }
+{
+    match Engine::new(alloc, table, row.pattern, row.subject, row.anchored, 1000) {
+        Ok(m) => Some(m),
+        Err(_) => Engine::new(alloc, table, row.pattern, row.subject, row.anchored, 1000).ok(),
+    }
+}
+
+/// The next event, which is asked for again behind a refusal: none was told, and the steps are no fewer than before and no
+/// more than those of this event.
+fn ask<P: Points>(m: &mut Engine<P>, table: &Patterns, most: u32) -> Option<Event>
+    requires table { m.old.nodes ≡ table.now }
+    requires asked { m.old.waits ≡ false }
+    ensures { m.new.nodes ≡ table.now }
+{
+    let told = m.told();
+    let steps = m.steps();
+    match m.next(table) {
+        Ok(event) => Some(event),
+        Err(_) => {
+            if m.told() != told || m.is_waiting() || m.steps() < steps || m.steps() > most {
+                return None;
+            }
+            m.next(table).ok()
+        }
+    }
+}
+
+/// Answers a deferred part, again behind a refusal, which has answered nothing.
+fn is_answered<P: Points>(m: &mut Engine<P>, table: &Patterns) -> bool
+    requires table { m.old.nodes ≡ table.now }
+    requires waiting { m.old.waits ≡ true }
+    ensures table { m.new.nodes ≡ table.now }
+    ensures asked { IsTrue result → m.new.waits ≡ false }
+{
+    if table.len() == 0 {
+        return false;
+    }
+    let given = Some(PatId(0));
+    let told = m.told();
+    let steps = m.steps();
+    let answers = m.answers().len();
+    match m.answer(table, given) {
+        Ok(()) => true,
+        Err(_) => {
+            m.is_waiting()
+                && m.told() == told
+                && m.steps() == steps
+                && m.answers().len() == answers
+                && m.answer(table, given).is_ok()
+        }
+    }
+}
