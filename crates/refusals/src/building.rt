@@ -14,7 +14,7 @@ const CALLS: u32 = 8;
 
 const X: Name = Name::Var(SymId(9));
 
-/// Whether each builder that is refused leaves the table as it was, and builds what it must where it is called again.
+/// Whether each builder that is refused leaves the table as it was, and builds what its twin does where it is called again.
 pub(crate) fn holds(alloc: Global) -> Result<bool, AllocError> {
     for builder in 0..BUILDERS {
         if !builds(alloc, builder)? {
@@ -53,7 +53,7 @@ fn builds_both(
     if wanted == Err(BuildError::NoMemory) {
         return Err(AllocError);
     }
-    Ok(built == wanted)
+    Ok(built == wanted && wanted.is_ok())
 }
 
 /// Calls the builder with this number.

@@ -10,6 +10,7 @@ pub(crate) fn hold(alloc: Global) -> Result<bool, AllocError> {
     let text = text(alloc)?;
     let mut reader = Device::new(text.as_slice());
     let mut lines = Lines::new(alloc);
+    let mut given = 0usize;
     for length in LENGTHS {
         match lines.next(&mut reader) {
             Ok(Some(line)) => {
@@ -24,10 +25,11 @@ pub(crate) fn hold(alloc: Global) -> Result<bool, AllocError> {
                 return Ok(
                     error == LineError::NoMemory
                         && again == Err(error)
-                        && ends_with(&text, lines.held(), left),
+                        && is_whole(&text, given, lines.held(), left),
                 );
             }
         }
+        given = given.saturating_add(length).saturating_add(1);
     }
     Ok(lines.next(&mut reader) == Ok(None))
 }
@@ -44,17 +46,13 @@ fn text(alloc: Global) -> Result<Vec<u8>, AllocError> {
     Ok(text)
 }
 
-/// Whether a text ends with what is held and what is left behind that, from the start of a line on.
-fn ends_with(text: &[u8], held: &[u8], left: &[u8]) -> bool {
-    let Some(count) = held.len().checked_add(left.len()) else {
+/// Whether a text is what was given of it, so many bytes, then what is held and then what is left to read.
+fn is_whole(text: &[u8], given: usize, held: &[u8], left: &[u8]) -> bool {
+    let Some(rest) = text.get(given..) else {
         return false;
     };
-    let mut start = 0usize;
-    for length in LENGTHS {
-        if start <= text.len() && text.len() - start == count {
-            return text[start..].starts_with(held) && text.ends_with(left);
-        }
-        start = start.saturating_add(length).saturating_add(1);
-    }
-    false
+    let Some(left_of_rest) = rest.strip_prefix(held) else {
+        return false;
+    };
+    left_of_rest == left
 }

@@ -6,7 +6,7 @@ use std::alloc::{AllocError, Global};
 /// Room for what a list has, so that the writer takes no memory.
 const ROOM: usize = 256;
 
-/// A pattern, a subject in which it is matched from 0 alone, the lines, and how the list ends.
+/// A pattern, a subject, the lines of the ways from 0, and how the list ends.
 type Row = (&'static [u8], &'static [u8], &'static [u8], WaysOutcome);
 
 const REPETITION: Row = (

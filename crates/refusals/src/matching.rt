@@ -71,64 +71,86 @@ const VALUE: &[Told] = &[
 /// BAL 'X' on `((((`, from each start, where the aid to BAL is made on the way.
 const BALANCE: &[Told] = &[(Event::Exhausted, 14)];
 
+/// The pattern of a row.
+#[derive(Clone, Copy)]
+enum RowPattern {
+    Repetition,
+    Cuts,
+    Pending,
+    Value,
+    Balance,
+}
+
 /// A match, and what it tells.
 #[derive(Clone, Copy)]
 struct Row {
-    pattern: PatId,
+    pattern: RowPattern,
     subject: &'static [u8],
     anchored: bool,
     told: &'static [Told],
     pending: &'static [Pending],
 }
 
+const ROWS: [Row; 5] = [
+    Row {
+        pattern: RowPattern::Repetition,
+        subject: b"AAA",
+        anchored: true,
+        told: REPETITION,
+        pending: &[],
+    },
+    Row {
+        pattern: RowPattern::Cuts,
+        subject: b"AAA",
+        anchored: true,
+        told: CUTS,
+        pending: &[],
+    },
+    Row {
+        pattern: RowPattern::Pending,
+        subject: b"XY",
+        anchored: true,
+        told: PENDING,
+        pending: ASSIGNMENTS,
+    },
+    Row {
+        pattern: RowPattern::Value,
+        subject: b"AA",
+        anchored: true,
+        told: VALUE,
+        pending: &[],
+    },
+    Row {
+        pattern: RowPattern::Balance,
+        subject: b"((((",
+        anchored: false,
+        told: BALANCE,
+        pending: &[],
+    },
+];
+
 /// Whether each match tells its events, also where one is asked for again behind a refusal.
 pub(crate) fn holds<P: Points>(alloc: Global) -> Result<bool, AllocError> {
     let mut table = Patterns::new(alloc);
-    let Ok(rows) = rows(&mut table) else {
-        return Err(AllocError);
-    };
-    for row in rows {
-        if row.pattern.0 >= table.len() || !tells::<P>(alloc, &table, row) {
+    for row in ROWS {
+        let Ok(pattern) = add_pattern(&mut table, row.pattern) else {
+            return Err(AllocError);
+        };
+        if pattern.0 >= table.len() || !tells::<P>(alloc, &table, pattern, row) {
             return Ok(false);
         }
     }
     Ok(true)
 }
 
-/// The rows, whose patterns are built. The first is the text A.
-fn rows(table: &mut Patterns) -> Result<[Row; 5], BuildError> {
-    let repetition = add_repetition(table)?;
-    let cuts = add_cuts(table)?;
-    let pending = add_pending(table)?;
-    let value = add_value(table)?;
-    let balance = add_balance(table)?;
-    Ok([
-        anchored(repetition, b"AAA", REPETITION, &[]),
-        anchored(cuts, b"AAA", CUTS, &[]),
-        anchored(pending, b"XY", PENDING, ASSIGNMENTS),
-        anchored(value, b"AA", VALUE, &[]),
-        Row {
-            pattern: balance,
-            subject: b"((((",
-            anchored: false,
-            told: BALANCE,
-            pending: &[],
-        },
-    ])
-}
-
-fn anchored(
-    pattern: PatId,
-    subject: &'static [u8],
-    told: &'static [Told],
-    pending: &'static [Pending],
-) -> Row {
-    Row {
-        pattern,
-        subject,
-        anchored: true,
-        told,
-        pending,
+/// Adds the pattern of a row. The first of the table is then the text A.
+fn add_pattern(table: &mut Patterns, pattern: RowPattern) -> Result<PatId, BuildError> {
+    match pattern {
+        RowPattern::Repetition => add_repetition(table),
+        RowPattern::Cuts => add_cuts(table),
+        RowPattern::Pending => add_pending(table),
+        RowPattern::Value => add_value(table),
+        RowPattern::Balance => add_balance(table),
     }
 }
 
@@ -183,10 +205,10 @@ fn add_balance(table: &mut Patterns) -> Result<PatId, BuildError> {
 }
 
 /// Whether a match tells its events. A deferred part is answered by the first pattern of the table.
-fn tells<P: Points>(alloc: Global, table: &Patterns, row: Row) -> bool
-    requires { row.pattern.0 < length table.now }
+fn tells<P: Points>(alloc: Global, table: &Patterns, pattern: PatId, row: Row) -> bool
+    requires { pattern.0 < length table.now }
 {
-    let Some(mut m) = begin::<P>(alloc, table, row) else {
+    let Some(mut m) = begin::<P>(alloc, table, pattern, row) else {
         return false;
     };
     let mut told = 0u64;
@@ -203,14 +225,14 @@ fn tells<P: Points>(alloc: Global, table: &Patterns, row: Row) -> bool
 }
 
 /// The match of a row.
-fn begin<P: Points>(alloc: Global, table: &Patterns, row: Row) -> Option<Engine<P>>
-    requires { row.pattern.0 < length table.now }
+fn begin<P: Points>(alloc: Global, table: &Patterns, pattern: PatId, row: Row) -> Option<Engine<P>>
+    requires { pattern.0 < length table.now }
     ensures nodes { IfSome result (λ m. m.nodes ≡ table.now) }
     ensures asked { IfSome result (λ m. m.waits ≡ false) }
 {
-    match Engine::new(alloc, table, row.pattern, row.subject, row.anchored, 1000) {
+    match Engine::new(alloc, table, pattern, row.subject, row.anchored, 1000) {
         Ok(m) => Some(m),
-        Err(_) => Engine::new(alloc, table, row.pattern, row.subject, row.anchored, 1000).ok(),
+        Err(_) => Engine::new(alloc, table, pattern, row.subject, row.anchored, 1000).ok(),
     }
 }
 
@@ -223,15 +245,24 @@ fn ask<P: Points>(m: &mut Engine<P>, table: &Patterns, most: u32) -> Option<Even
 {
     let told = m.told();
     let steps = m.steps();
-    match m.next(table) {
-        Ok(event) => Some(event),
-        Err(_) => {
-            if m.told() != told || m.is_waiting() || m.steps() < steps || m.steps() > most {
-                return None;
-            }
-            m.next(table).ok()
-        }
+    let event = ask_once(m, table);
+    if event.is_some() {
+        return event;
     }
+    if m.told() != told || m.is_waiting() || m.steps() < steps || m.steps() > most {
+        return None;
+    }
+    ask_once(m, table)
+}
+
+/// The next event, or None where memory was refused.
+#[tactic(auto, using(crate::proofs::Tables::table_facts))]
+fn ask_once<P: Points>(m: &mut Engine<P>, table: &Patterns) -> Option<Event>
+    requires table { m.old.nodes ≡ table.now }
+    requires asked { m.old.waits ≡ false }
+    ensures { m.new.nodes ≡ table.now }
+{
+    m.next(table).ok()
 }
 
 /// Answers a deferred part, again behind a refusal, which has answered nothing.
@@ -241,21 +272,28 @@ fn is_answered<P: Points>(m: &mut Engine<P>, table: &Patterns) -> bool
     ensures table { m.new.nodes ≡ table.now }
     ensures asked { IsTrue result → m.new.waits ≡ false }
 {
-    if table.len() == 0 {
-        return false;
-    }
-    let given = Some(PatId(0));
     let told = m.told();
     let steps = m.steps();
     let answers = m.answers().len();
-    match m.answer(table, given) {
-        Ok(()) => true,
-        Err(_) => {
-            m.is_waiting()
-                && m.told() == told
-                && m.steps() == steps
-                && m.answers().len() == answers
-                && m.answer(table, given).is_ok()
-        }
+    if answer_once(m, table) {
+        return true;
     }
+    if !m.is_waiting() || m.told() != told || m.steps() != steps || m.answers().len() != answers {
+        return false;
+    }
+    answer_once(m, table)
+}
+
+/// Answers a deferred part by the first pattern of the table. It is false where memory was refused.
+#[tactic(auto, using(crate::proofs::Tables::table_facts))]
+fn answer_once<P: Points>(m: &mut Engine<P>, table: &Patterns) -> bool
+    requires table { m.old.nodes ≡ table.now }
+    requires waiting { m.old.waits ≡ true }
+    ensures table { m.new.nodes ≡ table.now }
+    ensures asked { IsTrue result → m.new.waits ≡ false }
+{
+    if table.len() == 0 {
+        return false;
+    }
+    m.answer(table, Some(PatId(0))).is_ok()
 }

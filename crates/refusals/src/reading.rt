@@ -3,10 +3,14 @@ use sno_text::{ReadError, read_expression, read_program};
 use std::alloc::Global;
 
 /// Programs, most of which are refused late, and the refusal.
-const PROGRAMS: [(&[u8], Option<ReadError>); 7] = [
+const PROGRAMS: [(&[u8], Option<ReadError>); 8] = [
     (
         b" X = 1\n Y = X ('A' | *X) 2 ** 3\nL OUTPUT = F(X,,Y<1,2>) :S(L)F(END)\nL X = 1\nEND\n",
         Some(ReadError::DuplicateLabel { line: 4 }),
+    ),
+    (
+        b"L X = A B C\nM Y = F(X,,2)\nL X = D",
+        Some(ReadError::DuplicateLabel { line: 3 }),
     ),
     (
         b"L X = A B C\n Y = 'open\nEND\n",

@@ -8,7 +8,7 @@ use sno_value::{Name, ObjId, PatId, SymId, Text, Value};
 use std::alloc::{AllocError, Global};
 
 /// A call of a store.
-#[derive(Clone, Copy)]
+#[derive(Clone, Copy, PartialEq, Eq)]
 enum Call {
     Symbol(&'static [u8]),
     Array(&'static [u8]),
@@ -118,7 +118,6 @@ const OBJECTS: &[Call] = &[
 const CALLED: &[Call] = &[
     Call::Define(b"F(A,B)L,M", b""),
     Call::Enter(9),
-    Call::Enter(10),
     Call::Define(b"A(B)F", b""),
     Call::Enter(10),
     Call::Enter(9),
@@ -130,41 +129,68 @@ const CALLED: &[Call] = &[
     Call::Leave,
 ];
 
+/// Each list, and how many of its calls are refused with ample memory.
+const LISTS: [(&[Call], u32); 7] = [
+    (SYMBOLS, 1),
+    (ARRAYS, 1),
+    (TABLES, 2),
+    (FUNCTIONS, 1),
+    (TYPES, 1),
+    (OBJECTS, 0),
+    (CALLED, 0),
+];
+
 /// Whether a refused call leaves the store as it was, and one that is made again does what it must.
 pub(crate) fn holds(alloc: Global) -> Result<bool, AllocError> {
-    for calls in [SYMBOLS, ARRAYS, TABLES, FUNCTIONS, TYPES, OBJECTS, CALLED] {
-        if !are_answered(alloc, calls)? {
+    for (calls, refused) in LISTS {
+        if are_answered(alloc, calls)? != Some(refused) {
             return Ok(false);
         }
     }
     Ok(true)
 }
 
-/// Makes calls of a new store and of its twin.
-fn are_answered(alloc: Global, calls: &[Call]) -> Result<bool, AllocError> {
+/// Makes calls of a new store and of its twin. Where both answer the same and are the same it is how many calls are refused
+/// with ample memory.
+fn are_answered(alloc: Global, calls: &[Call]) -> Result<Option<u32>, AllocError> {
     let key = text(alloc, b"key")?;
     let mut store = Store::new(alloc, &mut Patterns::new(alloc))?;
     let mut twin = Store::new(alloc, &mut Patterns::new(alloc))?;
+    let mut refused = 0u32;
     for call in calls {
-        if !answers_both(alloc, &mut store, &mut twin, *call, &key)? {
-            return Ok(false);
+        match answer_of_both(alloc, &mut store, &mut twin, *call, &key)? {
+            Some(Ok(_answer)) => {}
+            Some(Err(_refusal)) => refused = refused.saturating_add(1),
+            None => return Ok(None),
         }
     }
-    Ok(are_same_stores(&store, &twin, &key))
+    if are_same_stores(&store, &twin, &key) {
+        Ok(Some(refused))
+    } else {
+        Ok(None)
+    }
 }
 
-/// Makes a call of a store and then of its twin.
-fn answers_both(
+/// What a store and then its twin answer a call, or None where their answers differ or a refusal has changed the store.
+fn answer_of_both(
     alloc: Global,
     store: &mut Store,
     twin: &mut Store,
     call: Call,
     key: &Value,
-) -> Result<bool, AllocError> {
+) -> Result<Option<Result<Answer, StoreError>>, AllocError> {
+    if call == Call::Leave {
+        let is_same = store.leave() == twin.leave();
+        return Ok(if is_same {
+            Some(Ok(Answer::Done))
+        } else {
+            None
+        });
+    }
     let mut answer = make_call(alloc, store, call)?;
     if answer == Err(StoreError::NoMemory) {
         if !are_same_stores(store, twin, key) {
-            return Ok(false);
+            return Ok(None);
         }
         answer = make_call(alloc, store, call)?;
     }
@@ -176,7 +202,7 @@ fn answers_both(
         store.set(name, text(alloc, b"a value")?);
         twin.set(name, text(alloc, b"a value")?);
     }
-    Ok(answer == wanted)
+    Ok(if answer == wanted { Some(answer) } else { None })
 }
 
 /// Makes a call. An `Err` is a growth of its arguments that was refused, before the call.
@@ -216,10 +242,7 @@ fn make_call(
             let arguments = two_values(alloc)?;
             nothing(store.enter(SymId(function), arguments))
         }
-        Call::Leave => {
-            let _value = store.leave();
-            Ok(Answer::Done)
-        }
+        Call::Leave => Ok(Answer::Done),
     })
 }
 
