@@ -217,7 +217,7 @@ fn tells<P: Points>(alloc: Global, table: &Patterns, pattern: PatId, row: Row) -
             return false;
         }
         told = told.saturating_add(1);
-        if m.told() != told || (m.is_waiting() && !is_answered(&mut m, table)) {
+        if m.told() != told || !is_answered(&mut m, table) {
             return false;
         }
     }
@@ -265,13 +265,15 @@ fn ask_once<P: Points>(m: &mut Engine<P>, table: &Patterns) -> Option<Event>
     m.next(table).ok()
 }
 
-/// Answers a deferred part, again behind a refusal, which has answered nothing.
+/// Answers a match that waits, again behind a refusal, which has answered nothing.
 fn is_answered<P: Points>(m: &mut Engine<P>, table: &Patterns) -> bool
-    requires table { m.old.nodes ≡ table.now }
-    requires waiting { m.old.waits ≡ true }
+    requires { m.old.nodes ≡ table.now }
     ensures table { m.new.nodes ≡ table.now }
     ensures asked { IsTrue result → m.new.waits ≡ false }
 {
+    if !m.is_waiting() {
+        return true;
+    }
     let told = m.told();
     let steps = m.steps();
     let answers = m.answers().len();
