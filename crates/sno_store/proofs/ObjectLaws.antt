@@ -1,6 +1,7 @@
 -- The list of objects, beside the list that is kept.
 use Rattle.std.proofs.Common.{◌≡◌, ℕ, zero, suc, ◌<◌, ◌≤◌, ◌==◌, Bool, true, false, if◌then◌else◌, List, [], ◌∷◌, ◌++◌, length, map, set, get_or, slice_get, option_map, unwrap_or, Option, None, Some, Result, Ok, Err, IsErrAnd, refl, sym, ap, subst, ◌∙◌, arith}
 use Rattle.std.proofs.lemmas.Option.{unwrap_or-slice_get, slice_get-map, slice_get-get_or}
+use Rattle.std.specs.Global.{Box}
 use Rattle.std.proofs.lemmas.List.{set-get_or}
 use Rattle.sno_value.specs.declared.ids.ObjId.{ObjId}
 use Rattle.sno_value.specs.declared.value.Name.{Name}
@@ -58,8 +59,8 @@ field_missing null n m value old new e f g h =
     ap (λ k. field_values null k old) e ∙ ap (field_values null (suc m)) f ∙ sym (λ i. h i ∷ field_values null m (g i))
 
 -- the table that a number is
-pub table_is : (objects : List Kept) (i : ℕ) (entries : List (Value × Value)) (old : Kept) → i < length objects → old ≡ get_or objects i old → Table entries ≡ old
-    → slice_get (map seen objects) i ≡ Some (TableOf entries)
+pub table_is : (objects : List Kept) (i : ℕ) (entries : Box (List (Value × Value))) (old : Kept) → i < length objects → old ≡ get_or objects i old → Table entries ≡ old
+    → slice_get (map seen objects) i ≡ Some (TableOf entries.value)
 table_is objects i entries old within was is =
     slice_get-map seen objects i ∙ ap (option_map seen) (slice_get-get_or objects i old within) ∙ ap (λ o. Some (seen o)) (sym was ∙ sym is)
 
@@ -129,16 +130,16 @@ module _ (id : ObjId) (key : Value) (objects : List (Object Value)) (entries new
 
 module _ (id : ObjId) (key : Value) (objects : List Kept) (shown : List (Object Value)) (view : map seen objects ≡ shown) (old : Kept) (within : id.0 < length objects) (was : old ≡ get_or objects id.0 old) where
   -- what was done to a table that is kept
-  pub entry_kept : (entries new : List (Value × Value)) → Table entries ≡ old → is_key key ≡ true → (result : Result ℕ StoreError) → IsEntry key entries new result
+  pub entry_kept : (entries new : Box (List (Value × Value))) → Table entries ≡ old → is_key key ≡ true → (result : Result ℕ StoreError) → IsEntry key entries.value new.value result
       → Does (make_entry stored_notions id key) shown (map seen (set objects id.0 (Table new))) (named id result)
   entry_kept entries new is may result h =
-      let table : slice_get shown id.0 ≡ Some (TableOf entries) = ap (λ os. slice_get os id.0) (sym view) ∙ table_is objects id.0 entries old within was is in
-      let same : changed (λ _. TableOf new) shown id ≡ map seen (set objects id.0 (Table new)) =
-      ap (λ os. changed (λ _. TableOf new) os id) (sym view) ∙ sym (changed_is (λ _. TableOf new) objects id.0 (Table new) old within was refl) in
-      subst (λ os. Does (make_entry stored_notions id key) shown os (named id result)) same (entry_done id key shown entries new table may result h)
+      let table : slice_get shown id.0 ≡ Some (TableOf entries.value) = ap (λ os. slice_get os id.0) (sym view) ∙ table_is objects id.0 entries old within was is in
+      let same : changed (λ _. TableOf new.value) shown id ≡ map seen (set objects id.0 (Table new)) =
+      ap (λ os. changed (λ _. TableOf new.value) os id) (sym view) ∙ sym (changed_is (λ _. TableOf new.value) objects id.0 (Table new) old within was refl) in
+      subst (λ os. Does (make_entry stored_notions id key) shown os (named id result)) same (entry_done id key shown entries.value new.value table may result h)
 
   -- where the object is no table there is no entry, and it is put back
-  pub no_entry : ((entries : List (Value × Value)) → old ≡ Table entries → ⊥) → (make_entry stored_notions id key shown ≡ Err 1) × (map seen (set objects id.0 old) ≡ shown)
+  pub no_entry : ((entries : Box (List (Value × Value))) → old ≡ Table entries → ⊥) → (make_entry stored_notions id key shown ≡ Err 1) × (map seen (set objects id.0 old) ≡ shown)
   no_entry other = (by old refl, ap (λ o. map seen (set objects id.0 o)) was ∙ ap (map seen) (set-get_or objects id.0 old) ∙ view)
     where
       found : (o : Kept) → old ≡ o → slice_get shown id.0 ≡ Some (seen o)

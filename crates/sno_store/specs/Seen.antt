@@ -15,8 +15,8 @@ use Rattle.sno_store.specs.Tables.{entry_place}
 
 -- the object that is kept
 abbrev pub seen : Kept → Object Value
-seen (Array elements) = ArrayOf elements
-seen (Table entries) = TableOf entries
+seen (Array elements) = ArrayOf elements.value
+seen (Table entries) = TableOf entries.value
 seen (Data instance) = DataOf instance.data_type instance.fields.items
 
 -- what a call on the objects did

@@ -33,13 +33,13 @@ impl Model for Entries {
 }
 
 impl Entries {
-    /// No entries. It takes no memory.
-    pub(crate) fn new(alloc: Global) -> Entries
-        ensures { result ≡ [] }
+    /// No entries.
+    pub(crate) fn boxed(alloc: Global) -> Result<Box<Entries>, AllocError>
+        ensures { IfOk result (λ entries. entries.value ≡ []) }
     {
-        Entries {
-            map: IndexMap::new(alloc),
-        }
+        let map = IndexMap::new(alloc);
+        let entries = Box::new(alloc, Entries { map })?;
+        Ok(entries)
     }
 
     /// How many entries there are.

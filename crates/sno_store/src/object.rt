@@ -8,11 +8,12 @@ use crate::entries::Entries;
 use crate::instance::Instance;
 use sno_value::Value;
 
-/// An array, a table, or an object of a type that the program made.
+/// An array, a table, or an object of a type that the program made. Of the latter a program has many, so the others, which
+/// are larger, lie apart.
 #[derive(Drop)]
 pub(crate) enum Object {
-    Array(Elements),
-    Table(Entries),
+    Array(Box<Elements>),
+    Table(Box<Entries>),
     Data(Instance),
 }
 

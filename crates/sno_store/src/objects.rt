@@ -2,11 +2,11 @@
 ghost use Rattle.std.specs.Prelude.{◌≡◌, ◌<◌, [], length, option_copied, option_map, unwrap_or};
 ghost use Rattle.sno_value.specs.declared.value.Value.TheVariants.{Str};
 ghost use Rattle.sno_store.specs.Arrays.{new_array, element_name, prototype_of};
-ghost use Rattle.sno_store.specs.Objects.{DataOf, array_at, table_at, fields_at, type_at, changed, element_value, entry_value, field_value, joined, with_element, with_entry_value, with_field};
+ghost use Rattle.sno_store.specs.Objects.{DataOf, TableOf, array_at, table_at, fields_at, type_at, changed, element_value, entry_value, field_value, joined, with_element, with_entry_value, with_field};
 ghost use Rattle.sno_store.specs.Outcomes.{IsAnswered, itself};
 ghost use Rattle.sno_store.specs.Seen.{seen, Does};
 ghost use Rattle.sno_store.specs.Stored.{stored_notions};
-ghost use Rattle.sno_store.specs.Tables.{new_table, find_entry, make_entry, table_to_array};
+ghost use Rattle.sno_store.specs.Tables.{find_entry, make_entry, table_to_array};
 ghost use Rattle.sno_store.specs.Types.{field_values};
 
 use crate::elements::{Elements, of_rows, uniform};
@@ -160,15 +160,21 @@ impl Objects {
             return Err(StoreError::Full);
         }
         let elements = uniform(self.alloc, prototype, count, value)?;
+        let elements = Box::new(self.alloc, elements)?;
         let id = self.add(Object::Array(elements))?;
         Ok(id)
     }
 
     /// A new table without entries.
     pub(crate) fn new_table(&mut self) -> Result<ObjId, StoreError>
-        ensures { Does new_table self.old self.new result }
+        ensures { Does (joined (TableOf [])) self.old self.new result }
     {
-        let id = self.add(Object::Table(Entries::new(self.alloc)))?;
+        let room = MOST_OBJECTS - self.objects.len();
+        if room == 0 {
+            return Err(StoreError::Full);
+        }
+        let entries = Entries::boxed(self.alloc)?;
+        let id = self.add(Object::Table(entries))?;
         Ok(id)
     }
 
@@ -267,6 +273,7 @@ impl Objects {
             return Err(StoreError::Full);
         }
         let elements = of_rows(self.alloc, count, entries)?;
+        let elements = Box::new(self.alloc, elements)?;
         let array = self.add(Object::Array(elements))?;
         Ok(Some(array))
     }
