@@ -38,7 +38,8 @@ pub(crate) const RUN_LONG: &str = "Run a program.
 
 What the program assigns to OUTPUT goes to standard output, and INPUT reads a
 line of standard input. A run ends at END, at an error, or at a limit: so many
-statements in all, and so many steps in each match.";
+statements in all, and so many steps in each match. An error is told with the
+number of its statement: snobol4-list FILE lists a program with these numbers.";
 
 /// Examples of the command `run`, its statuses, and where to read on.
 pub(crate) const RUN_AFTER: &str = "Examples:
