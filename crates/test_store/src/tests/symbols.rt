@@ -3,64 +3,59 @@ use super::{Row, Step, check};
 use sno_value::{Name, ObjId, SymId};
 use std::test::Fail;
 
+const FIRST_SYMBOLS: &[Step] = &[
+    Step::SymbolText(0, "ARB"),
+    Step::Get(Name::Var(SymId(0)), Row::Pattern(0)),
+    Step::SymbolText(6, "SUCCEED"),
+    Step::Get(Name::Var(SymId(6)), Row::Pattern(6)),
+    Step::SymbolText(7, "INPUT"),
+    Step::Get(Name::Var(SymId(7)), Row::Str("")),
+    Step::SymbolText(8, "OUTPUT"),
+    Step::Get(Name::Var(SymId(8)), Row::Str("")),
+    Step::SymbolText(9, ""),
+];
+
 #[test]
 fn begins_with_patterns(rt: HostRuntime) -> Result<(), Fail> {
-    check(
-        &rt,
-        rt.alloc(),
-        &[
-            Step::SymbolText(0, "ARB"),
-            Step::Get(Name::Var(SymId(0)), Row::Pattern(0)),
-            Step::SymbolText(6, "SUCCEED"),
-            Step::Get(Name::Var(SymId(6)), Row::Pattern(6)),
-            Step::SymbolText(7, "INPUT"),
-            Step::Get(Name::Var(SymId(7)), Row::Str("")),
-            Step::SymbolText(8, "OUTPUT"),
-            Step::Get(Name::Var(SymId(8)), Row::Str("")),
-            Step::SymbolText(9, ""),
-        ],
-    )
+    check(&rt, rt.alloc(), FIRST_SYMBOLS)
 }
+
+const NUMBERED: &[Step] = &[
+    Step::Symbol("", Err(6)),
+    Step::Symbol("X", Ok(9)),
+    Step::Symbol("x", Ok(10)),
+    Step::Symbol("X", Ok(9)),
+    Step::Symbol("FENCE", Ok(4)),
+    Step::Symbol("A B", Ok(11)),
+    Step::SymbolText(11, "A B"),
+];
 
 #[test]
 fn numbers_symbols(rt: HostRuntime) -> Result<(), Fail> {
-    check(
-        &rt,
-        rt.alloc(),
-        &[
-            Step::Symbol("", Err(6)),
-            Step::Symbol("X", Ok(9)),
-            Step::Symbol("x", Ok(10)),
-            Step::Symbol("X", Ok(9)),
-            Step::Symbol("FENCE", Ok(4)),
-            Step::Symbol("A B", Ok(11)),
-            Step::SymbolText(11, "A B"),
-        ],
-    )
+    check(&rt, rt.alloc(), NUMBERED)
 }
+
+const X: Name = Name::Var(SymId(9));
+
+const Y: Name = Name::Var(SymId(10));
+
+const NONE: Name = Name::Var(SymId(11));
+
+const VALUES: &[Step] = &[
+    Step::Symbol("X", Ok(9)),
+    Step::Symbol("Y", Ok(10)),
+    Step::Get(X, Row::Str("")),
+    Step::Set(X, Row::Int(5)),
+    Step::Set(Y, Row::Str("why")),
+    Step::Set(NONE, Row::Int(1)),
+    Step::Get(X, Row::Int(5)),
+    Step::Get(Y, Row::Str("why")),
+    Step::Get(NONE, Row::Str("")),
+    Step::Get(Name::Elem(ObjId(0), 0), Row::Str("")),
+    Step::Get(Name::Entry(ObjId(0), 0), Row::Str("")),
+];
 
 #[test]
 fn keeps_values(rt: HostRuntime) -> Result<(), Fail> {
-    let (x, y, none) = (
-        Name::Var(SymId(9)),
-        Name::Var(SymId(10)),
-        Name::Var(SymId(11)),
-    );
-    check(
-        &rt,
-        rt.alloc(),
-        &[
-            Step::Symbol("X", Ok(9)),
-            Step::Symbol("Y", Ok(10)),
-            Step::Get(x, Row::Str("")),
-            Step::Set(x, Row::Int(5)),
-            Step::Set(y, Row::Str("why")),
-            Step::Set(none, Row::Int(1)),
-            Step::Get(x, Row::Int(5)),
-            Step::Get(y, Row::Str("why")),
-            Step::Get(none, Row::Str("")),
-            Step::Get(Name::Elem(ObjId(0), 0), Row::Str("")),
-            Step::Get(Name::Entry(ObjId(0), 0), Row::Str("")),
-        ],
-    )
+    check(&rt, rt.alloc(), VALUES)
 }

@@ -3,101 +3,83 @@ use super::{Row, Step, check};
 use sno_value::{Name, ObjId};
 use std::test::Fail;
 
-/// Entry k of the table that is object 0.
-fn entry(k: u32) -> Name {
-    Name::Entry(ObjId(0), k)
-}
-
-/// Element k of the array that is object 1.
-fn element(k: u32) -> Name {
-    Name::Elem(ObjId(1), k)
-}
+const ORDERED_ENTRIES: &[Step] = &[
+    Step::NewTable(Ok(0)),
+    Step::Find(0, Row::Str("b"), Ok(None)),
+    Step::Entry(0, Row::Str("b"), Ok(0)),
+    Step::Get(Name::Entry(ObjId(0), 0), Row::Str("")),
+    Step::Set(Name::Entry(ObjId(0), 0), Row::Int(1)),
+    Step::Entry(0, Row::Str("a"), Ok(1)),
+    Step::Set(Name::Entry(ObjId(0), 1), Row::Int(2)),
+    Step::Entry(0, Row::Str("b"), Ok(0)),
+    Step::Set(Name::Entry(ObjId(0), 0), Row::Int(3)),
+    Step::Find(0, Row::Str("c"), Ok(None)),
+    Step::TableToArray(0, Ok(Some(1))),
+    Step::Prototype(1, Ok(b"2,2")),
+    Step::Get(Name::Elem(ObjId(1), 0), Row::Str("b")),
+    Step::Get(Name::Elem(ObjId(1), 1), Row::Int(3)),
+    Step::Get(Name::Elem(ObjId(1), 2), Row::Str("a")),
+    Step::Get(Name::Elem(ObjId(1), 3), Row::Int(2)),
+];
 
 #[test]
 fn entries_keep_their_order(rt: HostRuntime) -> Result<(), Fail> {
-    check(
-        &rt,
-        rt.alloc(),
-        &[
-            Step::NewTable(Ok(0)),
-            Step::Find(0, Row::Str("b"), Ok(None)),
-            Step::Entry(0, Row::Str("b"), Ok(0)),
-            Step::Get(entry(0), Row::Str("")),
-            Step::Set(entry(0), Row::Int(1)),
-            Step::Entry(0, Row::Str("a"), Ok(1)),
-            Step::Set(entry(1), Row::Int(2)),
-            Step::Entry(0, Row::Str("b"), Ok(0)),
-            Step::Set(entry(0), Row::Int(3)),
-            Step::Find(0, Row::Str("c"), Ok(None)),
-            Step::TableToArray(0, Ok(Some(1))),
-            Step::Prototype(1, Ok(b"2,2")),
-            Step::Get(element(0), Row::Str("b")),
-            Step::Get(element(1), Row::Int(3)),
-            Step::Get(element(2), Row::Str("a")),
-            Step::Get(element(3), Row::Int(2)),
-        ],
-    )
+    check(&rt, rt.alloc(), ORDERED_ENTRIES)
 }
+
+const KEYS_OF_EACH_TYPE: &[Step] = &[
+    Step::NewTable(Ok(0)),
+    Step::Entry(0, Row::Int(1), Ok(0)),
+    Step::Entry(0, Row::Str("1"), Ok(1)),
+    Step::Entry(0, Row::Str(""), Ok(2)),
+    Step::Entry(0, Row::Table(0), Ok(3)),
+    Step::Entry(0, Row::Array(0), Ok(4)),
+    Step::Entry(0, Row::Name(Name::Entry(ObjId(0), 0)), Ok(5)),
+    Step::Entry(0, Row::Name(Name::Elem(ObjId(1), 0)), Ok(6)),
+    Step::Find(0, Row::Str("1"), Ok(Some(1))),
+    Step::Find(0, Row::Name(Name::Entry(ObjId(0), 0)), Ok(Some(5))),
+    Step::Find(0, Row::Name(Name::Entry(ObjId(0), 1)), Ok(None)),
+    Step::Find(0, Row::Pattern(0), Err(1)),
+    Step::Entry(0, Row::Pattern(0), Err(1)),
+    Step::Find(0, Row::Expression(0), Err(1)),
+    Step::Entry(0, Row::Expression(0), Err(1)),
+];
 
 #[test]
 fn types_tell_keys_apart(rt: HostRuntime) -> Result<(), Fail> {
-    check(
-        &rt,
-        rt.alloc(),
-        &[
-            Step::NewTable(Ok(0)),
-            Step::Entry(0, Row::Int(1), Ok(0)),
-            Step::Entry(0, Row::Str("1"), Ok(1)),
-            Step::Entry(0, Row::Str(""), Ok(2)),
-            Step::Entry(0, Row::Table(0), Ok(3)),
-            Step::Entry(0, Row::Array(0), Ok(4)),
-            Step::Entry(0, Row::Name(entry(0)), Ok(5)),
-            Step::Entry(0, Row::Name(element(0)), Ok(6)),
-            Step::Find(0, Row::Str("1"), Ok(Some(1))),
-            Step::Find(0, Row::Name(entry(0)), Ok(Some(5))),
-            Step::Find(0, Row::Name(entry(1)), Ok(None)),
-            Step::Find(0, Row::Pattern(0), Err(1)),
-            Step::Entry(0, Row::Pattern(0), Err(1)),
-            Step::Find(0, Row::Expression(0), Err(1)),
-            Step::Entry(0, Row::Expression(0), Err(1)),
-        ],
-    )
+    check(&rt, rt.alloc(), KEYS_OF_EACH_TYPE)
 }
+
+const NULL_ENTRIES: &[Step] = &[
+    Step::NewTable(Ok(0)),
+    Step::TableToArray(0, Ok(None)),
+    Step::Entry(0, Row::Str("k"), Ok(0)),
+    Step::TableToArray(0, Ok(None)),
+    Step::Entry(0, Row::Int(7), Ok(1)),
+    Step::Set(Name::Entry(ObjId(0), 1), Row::Int(0)),
+    Step::TableToArray(0, Ok(Some(1))),
+    Step::Prototype(1, Ok(b"1,2")),
+    Step::Get(Name::Elem(ObjId(1), 0), Row::Int(7)),
+    Step::Get(Name::Elem(ObjId(1), 1), Row::Int(0)),
+];
 
 #[test]
 fn null_entries_are_left_out(rt: HostRuntime) -> Result<(), Fail> {
-    check(
-        &rt,
-        rt.alloc(),
-        &[
-            Step::NewTable(Ok(0)),
-            Step::TableToArray(0, Ok(None)),
-            Step::Entry(0, Row::Str("k"), Ok(0)),
-            Step::TableToArray(0, Ok(None)),
-            Step::Entry(0, Row::Int(7), Ok(1)),
-            Step::Set(entry(1), Row::Int(0)),
-            Step::TableToArray(0, Ok(Some(1))),
-            Step::Prototype(1, Ok(b"1,2")),
-            Step::Get(element(0), Row::Int(7)),
-            Step::Get(element(1), Row::Int(0)),
-        ],
-    )
+    check(&rt, rt.alloc(), NULL_ENTRIES)
 }
+
+const NO_TABLES: &[Step] = &[
+    Step::NewArray("1", Row::Int(0), Ok(0)),
+    Step::Find(0, Row::Int(1), Err(1)),
+    Step::Entry(0, Row::Int(1), Err(1)),
+    Step::TableToArray(0, Err(1)),
+    Step::TableToArray(1, Err(1)),
+    Step::NewTable(Ok(1)),
+    Step::Element(1, &[1], Err(1)),
+    Step::Prototype(1, Err(1)),
+];
 
 #[test]
 fn other_objects_are_no_tables(rt: HostRuntime) -> Result<(), Fail> {
-    check(
-        &rt,
-        rt.alloc(),
-        &[
-            Step::NewArray("1", Row::Int(0), Ok(0)),
-            Step::Find(0, Row::Int(1), Err(1)),
-            Step::Entry(0, Row::Int(1), Err(1)),
-            Step::TableToArray(0, Err(1)),
-            Step::TableToArray(1, Err(1)),
-            Step::NewTable(Ok(1)),
-            Step::Element(1, &[1], Err(1)),
-            Step::Prototype(1, Err(1)),
-        ],
-    )
+    check(&rt, rt.alloc(), NO_TABLES)
 }
