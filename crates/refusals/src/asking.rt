@@ -73,7 +73,7 @@ fn find<R: Source, W: Sink>(
     writer: &mut W,
     expression: ExprId,
 ) -> Found
-    requires ready { machine.old.stopped ≡ None → CanRun machine.old.state (devices (R.left reader.old) (R.at_end reader.old) (R.broken reader.old) (W.taken writer.old) (W.broken writer.old)) }
+    requires ready { machine.old.stopped ≡ None → CanRun machine.old.state (devices (R.feed reader.old) (W.drain writer.old)) }
     ensures stopped { OnErr result (machine.new.stopped ≡ None → ⊥) }
     ensures nodes { length machine.old.state.nodes ≤ length machine.new.state.nodes }
 {

@@ -68,12 +68,12 @@ impl Buffer {
 
     /// Asks the reader once, and holds what it gives. 0 tells the end. Where memory is refused the reader is not asked.
     pub fn read_from<R: Source>(&mut self, reader: &mut R) -> Result<usize, LineError>
-        requires { R.broken reader.old ≡ false }
-        ensures given { (given : List ℕ) × Consumes (R.left reader.old) (R.left reader.new) given
+        requires { (R.feed reader.old).broken ≡ false }
+        ensures given { (given : List ℕ) × Consumes (R.feed reader.old).left (R.feed reader.new).left given
             × (held_in self.new ≡ held_in self.old ++ given) × IfOk result (λ n. n ≡ length given) }
-        ensures end { IfOk result (λ n. R.at_end reader.new ≡ (n == 0)) }
-        ensures sound { OnOk result (R.broken reader.new ≡ false) }
-        ensures fault { IsErrOf result LineError.ReadFault ↔ (R.broken reader.new ≡ true) }
+        ensures end { IfOk result (λ n. (R.feed reader.new).at_end ≡ (n == 0)) }
+        ensures sound { OnOk result ((R.feed reader.new).broken ≡ false) }
+        ensures fault { IsErrOf result LineError.ReadFault ↔ ((R.feed reader.new).broken ≡ true) }
         ensures fits { IsErrOf result LineError.TooLong → ⊥ }
     {
         self.make_room()?;

@@ -107,16 +107,16 @@ impl Lines {
     ///
     /// The caller owes a reader that has not failed, and that of the call before as that left it; after an `Err` neither.
     pub fn next<R: Source>(&mut self, reader: &mut R) -> Result<Option<Vec<u8>>, LineError>
-        requires sound { self.old.stopped ≡ None → R.broken reader.old ≡ false }
-        requires same { self.old.stopped ≡ None → self.old.told_end ≡ true → R.at_end reader.old ≡ true }
-        ensures line { self.old.stopped ≡ None → ReadsLine (R.left reader.old) (R.left reader.new) self.old self.new result }
+        requires sound { self.old.stopped ≡ None → (R.feed reader.old).broken ≡ false }
+        requires same { self.old.stopped ≡ None → self.old.told_end ≡ true → (R.feed reader.old).at_end ≡ true }
+        ensures line { self.old.stopped ≡ None → ReadsLine (R.feed reader.old).left (R.feed reader.new).left self.old self.new result }
         ensures unasked { (self.old.told_end ≡ true) ⊎ Contains self.old.held 10 → reader.new ≡ reader.old }
         ensures ok { OnOk result (self.new.stopped ≡ None) }
         ensures stops { IfErr result (λ e. self.new.stopped ≡ Some e) }
         ensures again { IfSome self.old.stopped (λ e. (result ≡ Err e) × (self.new ≡ self.old) × (reader.new ≡ reader.old)) }
-        ensures sound { OnOk result (R.broken reader.new ≡ false) }
-        ensures fault { self.old.stopped ≡ None → (IsErrOf result LineError.ReadFault ↔ (R.broken reader.new ≡ true)) }
-        ensures same { self.old.stopped ≡ None → self.new.told_end ≡ true → R.at_end reader.new ≡ true }
+        ensures sound { OnOk result ((R.feed reader.new).broken ≡ false) }
+        ensures fault { self.old.stopped ≡ None → (IsErrOf result LineError.ReadFault ↔ ((R.feed reader.new).broken ≡ true)) }
+        ensures same { self.old.stopped ≡ None → self.new.told_end ≡ true → (R.feed reader.new).at_end ≡ true }
     {
         if let Some(error) = self.stopped {
             return Err(error);
@@ -132,14 +132,14 @@ impl Lines {
 
     /// The next line, where no call has answered an `Err`.
     fn read_line<R: Source>(&mut self, reader: &mut R) -> Result<Option<Vec<u8>>, LineError>
-        requires sound { R.broken reader.old ≡ false }
-        requires same { self.old.told_end ≡ true → R.at_end reader.old ≡ true }
-        ensures line { ReadsLine (R.left reader.old) (R.left reader.new) self.old self.new result }
+        requires sound { (R.feed reader.old).broken ≡ false }
+        requires same { self.old.told_end ≡ true → (R.feed reader.old).at_end ≡ true }
+        ensures line { ReadsLine (R.feed reader.old).left (R.feed reader.new).left self.old self.new result }
         ensures unasked { (self.old.told_end ≡ true) ⊎ Contains self.old.held 10 → reader.new ≡ reader.old }
         ensures stopped { self.new.stopped ≡ self.old.stopped }
-        ensures sound { OnOk result (R.broken reader.new ≡ false) }
-        ensures fault { IsErrOf result LineError.ReadFault ↔ (R.broken reader.new ≡ true) }
-        ensures same { self.new.told_end ≡ true → R.at_end reader.new ≡ true }
+        ensures sound { OnOk result ((R.feed reader.new).broken ≡ false) }
+        ensures fault { IsErrOf result LineError.ReadFault ↔ ((R.feed reader.new).broken ≡ true) }
+        ensures same { self.new.told_end ≡ true → (R.feed reader.new).at_end ≡ true }
     {
         let len = self.fill(reader)?;
         let line = self.take_line(len)?;
@@ -149,15 +149,15 @@ impl Lines {
     /// Reads until a line feed is held, more bytes are held than a line may have, or the end is told. The answer says how
     /// many bytes stand before the line feed, or in all where there is none.
     fn fill<R: Source>(&mut self, reader: &mut R) -> Result<usize, LineError>
-        requires sound { R.broken reader.old ≡ false }
-        requires same { self.old.told_end ≡ true → R.at_end reader.old ≡ true }
-        ensures given { Joins (R.left reader.old) (R.left reader.new) self.old self.new }
+        requires sound { (R.feed reader.old).broken ≡ false }
+        requires same { self.old.told_end ≡ true → (R.feed reader.old).at_end ≡ true }
+        ensures given { Joins (R.feed reader.old).left (R.feed reader.new).left self.old self.new }
         ensures len { IfOk result (λ len. (len ≡ line_length self.new.held) × IsSettled len self.new) }
         ensures unasked { (self.old.told_end ≡ true) ⊎ Contains self.old.held 10 → reader.new ≡ reader.old }
         ensures stopped { self.new.stopped ≡ self.old.stopped }
-        ensures sound { OnOk result (R.broken reader.new ≡ false) }
-        ensures fault { IsErrOf result LineError.ReadFault ↔ (R.broken reader.new ≡ true) }
-        ensures same { self.new.told_end ≡ true → R.at_end reader.new ≡ true }
+        ensures sound { OnOk result ((R.feed reader.new).broken ≡ false) }
+        ensures fault { IsErrOf result LineError.ReadFault ↔ ((R.feed reader.new).broken ≡ true) }
+        ensures same { self.new.told_end ≡ true → (R.feed reader.new).at_end ≡ true }
         ensures fits { IsErrOf result LineError.TooLong → ⊥ }
     {
         let mut len = line_end(self.buffer.held(), 0);

@@ -69,11 +69,7 @@ impl<W: Write> Device<W> {
 }
 
 impl<R: Read> Source for Device<R> {
-    ghost left = { λ d. R.remaining d.inner };
-
-    ghost at_end = { λ d. d.told_end };
-
-    ghost broken = { λ d. d.has_failed };
+    ghost feed = { λ d. record { left = R.remaining d.inner; at_end = d.told_end; broken = d.has_failed } };
 
     fn read(&mut self, buf: &mut [u8]) -> Result<usize, DeviceFault> {
         match read_through(&mut self.inner, buf) {
@@ -91,9 +87,7 @@ impl<R: Read> Source for Device<R> {
 }
 
 impl<W: Write> Sink for Device<W> {
-    ghost taken = { λ d. W.contents d.inner };
-
-    ghost broken = { λ d. d.has_failed };
+    ghost drain = { λ d. record { taken = W.contents d.inner; broken = d.has_failed } };
 
     fn write(&mut self, bytes: &[u8]) -> Result<usize, DeviceFault> {
         match write_through(&mut self.inner, bytes) {

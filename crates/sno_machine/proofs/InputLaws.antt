@@ -14,7 +14,8 @@ use Rattle.sno_machine.specs.Values.{Value, shown, IsValueOf}
 use Rattle.sno_machine.specs.Action.{Action}
 use Rattle.sno_value.specs.declared.value.Name.{Name as Target}
 use Rattle.sno_machine.specs.Variables.{line_kept, reads_line, holds, reads, is_input}
-use Rattle.sno_machine.specs.State.{State, world, MeetsReading, Reads, Feed, IsReady, OnAnswer, OnGoing, HasCause, value_of_line}
+use Rattle.sno_machine.specs.State.{State, world, MeetsReading, Reads, IsReady, OnAnswer, OnGoing, HasCause, value_of_line}
+use Rattle.sno_io.specs.Devices.{Feed}
 use Rattle.sno_machine.proofs.Outcomes.{grows_none}
 
 -- what is trimmed begins the text

@@ -11,7 +11,8 @@ use Rattle.sno_machine.specs.declared.machine.Stop.TheVariants.{Error as HasErro
 use Rattle.sno_io.specs.Lines.{Reading}
 use Rattle.sno_machine.specs.World.{World, Keywords}
 use Rattle.sno_machine.specs.Action.{Outcome, Action, settled, settles, either, and_then, fails}
-use Rattle.sno_machine.specs.State.{State, world, untouched, Meets, MeetsReading, Does, Reads, Feed, IsReady, OnGoing, HasCause}
+use Rattle.sno_machine.specs.State.{State, world, untouched, Meets, MeetsReading, Does, Reads, IsReady, OnGoing, HasCause}
+use Rattle.sno_io.specs.Devices.{Feed}
 use Rattle.sno_machine.proofs.Outcomes.{grows_twice, fails_does}
 
 pub consumes_nothing : (left : Option (List ℕ)) → Consumes left left []

@@ -92,15 +92,6 @@ pub record Does {X A : Type 0} (see : List Node → X → A) (fits : List Node �
   pub answer : OnAnswer (fits after.nodes) result
   pub unread : untouched after ≡ untouched before
 
--- a reader, as far as it tells
-pub record Feed : Type 0 where
-  pub left : Option (List ℕ)
-  pub at_end : Bool
-  pub broken : Bool
-
-abbrev pub feed : Option (List ℕ) → Bool → Bool → Feed
-feed left at_end broken = record { left = left; at_end = at_end; broken = broken }
-
 -- the reader hasn't failed, and is that of the call before
 pub record IsReady (s : State) (f : Feed) : Type 0 where
   pub going : s.reading.stopped ≡ None

@@ -21,11 +21,11 @@ pub fn take_effect<W: Sink>(
 ) -> Result<(), Stop>
     requires subject { length subject.now ≤ 1_000_000 }
     requires within { IsWithin (length subject.now) (in_trace event []) }
-    requires sound { W.broken writer.old ≡ false }
-    ensures does { Performs (effect subject.now (in_trace event [])) machine.old machine.new (W.taken writer.old) (W.taken writer.new) result }
+    requires sound { (W.drain writer.old).broken ≡ false }
+    ensures does { Performs (effect subject.now (in_trace event [])) machine.old machine.new (W.drain writer.old).taken (W.drain writer.new).taken result }
     ensures nodes { machine.new.nodes ≡ machine.old.nodes }
-    ensures sound { OnOk result (W.broken writer.new ≡ false) }
-    ensures fault { result ≡ Err Stop.WriteFault → W.broken writer.new ≡ true }
+    ensures sound { OnOk result ((W.drain writer.new).broken ≡ false) }
+    ensures fault { result ≡ Err Stop.WriteFault → (W.drain writer.new).broken ≡ true }
 {
     match event {
         Event::Assign { target, start, end } => {
@@ -45,11 +45,11 @@ pub fn assign<W: Sink>(
     writer: &mut W,
 ) -> Result<(), Stop>
     requires value { IsValueOf machine.old.nodes value }
-    requires sound { W.broken writer.old ≡ false }
-    ensures does { Performs (assigns target (shown machine.old.nodes value)) machine.old machine.new (W.taken writer.old) (W.taken writer.new) result }
+    requires sound { (W.drain writer.old).broken ≡ false }
+    ensures does { Performs (assigns target (shown machine.old.nodes value)) machine.old machine.new (W.drain writer.old).taken (W.drain writer.new).taken result }
     ensures nodes { machine.new.nodes ≡ machine.old.nodes }
-    ensures sound { OnOk result (W.broken writer.new ≡ false) }
-    ensures fault { result ≡ Err Stop.WriteFault → W.broken writer.new ≡ true }
+    ensures sound { OnOk result ((W.drain writer.new).broken ≡ false) }
+    ensures fault { result ≡ Err Stop.WriteFault → (W.drain writer.new).broken ≡ true }
 {
     if !is_output(target) {
         machine.set(target, value);

@@ -4,7 +4,7 @@ ghost use Rattle.sno_machine.specs.Values.{shown, IsValueOf};
 ghost use Rattle.sno_machine.specs.Operators.{unary, unary_name, cursor_pattern, name_of};
 ghost use Rattle.sno_machine.specs.Numbers.{number_of};
 ghost use Rattle.sno_machine.specs.Variables.{named_by};
-ghost use Rattle.sno_machine.specs.State.{State, Does, Reads, IsReady, feed, itself, any};
+ghost use Rattle.sno_machine.specs.State.{State, Does, Reads, IsReady, itself, any};
 
 use crate::convert::{null, number_of, text_of};
 use crate::machine::{DATA_TYPE, Exit, Machine, NO_VARIABLE, error};
@@ -22,8 +22,8 @@ pub fn unary<R: Source>(
     x: Value,
 ) -> Result<Value, Exit>
     requires value { IsValueOf machine.old.nodes x }
-    requires ready { IsReady machine.old (feed (R.left reader.old) (R.at_end reader.old) (R.broken reader.old)) }
-    ensures { Reads shown IsValueOf (unary operator (shown machine.old.nodes x)) machine.old machine.new (feed (R.left reader.old) (R.at_end reader.old) (R.broken reader.old)) (feed (R.left reader.new) (R.at_end reader.new) (R.broken reader.new)) result }
+    requires ready { IsReady machine.old (R.feed reader.old) }
+    ensures { Reads shown IsValueOf (unary operator (shown machine.old.nodes x)) machine.old machine.new (R.feed reader.old) (R.feed reader.new) result }
 {
     match operator {
         UnaryOperator::Plus => plus(&x),

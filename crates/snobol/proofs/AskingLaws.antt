@@ -29,7 +29,7 @@ stop_told (Ok x) = refl
 stop_told (Err Failure) = refl
 stop_told (Err (Halt why)) = refl
 
-pub write_fault_told : {X : Type 0} (r : Result X Exit) (d : Devices) → HasFault r d → answered r ≡ Err ran.WriteFault → d.stuck ≡ true
+pub write_fault_told : {X : Type 0} (r : Result X Exit) (d : Devices) → HasFault r d → answered r ≡ Err ran.WriteFault → d.writer.broken ≡ true
 write_fault_told (Ok x) d h e = absurd (cc e)
 write_fault_told (Err Failure) d h e = absurd (cc e)
 write_fault_told (Err (Halt (HasError code))) d h e = absurd (cc e)

@@ -26,7 +26,8 @@ use Rattle.snobol.specs.Forms.{value}
 use Rattle.sno_machine.specs.Operators.{as_pattern}
 use Rattle.snobol.specs.Evaluate.{expression}
 use Rattle.snobol.specs.Meaning.{calls}
-use Rattle.sno_machine.specs.State.{State, new_state, world, Feed, tree_of, IsPatternOf, itself, any}
+use Rattle.sno_machine.specs.State.{State, new_state, world, tree_of, IsPatternOf, itself, any}
+use Rattle.sno_io.specs.Devices.{Feed}
 use Rattle.sno_machine.specs.Session.{listed}
 use Rattle.sno_machine.specs.Variables.{writes}
 use Rattle.sno_machine.specs.Performs.{Performs}
@@ -158,7 +159,7 @@ tells_of o after wrote (Err (Halt WriteFault)) h = h
 tells_of o after wrote (Err (Halt (HasErrorIn code statement))) h = h
 tells_of o after wrote (Err (Halt HasEnded)) h = h
 
-pub told : (act : Action Unit) (o : Outcome Unit) (a b : State) (d e : Devices) (r : Result Unit Exit) → o ≡ act (world a []) → Nothing d.reader → Runs {X = Unit} itself any act a b d e r → (wrote : List ℕ) × Appends d.taken e.taken wrote × Tells o wrote r
+pub told : (act : Action Unit) (o : Outcome Unit) (a b : State) (d e : Devices) (r : Result Unit Exit) → o ≡ act (world a []) → Nothing d.reader → Runs {X = Unit} itself any act a b d e r → (wrote : List ℕ) × Appends d.writer.taken e.writer.taken wrote × Tells o wrote r
 told act o a b d e r is none did = (
   did.wrote,
   did.appends,
@@ -171,7 +172,7 @@ told act o a b d e r is none did = (
 pub new_closed : (s : State) (keywords : Keywords) → s ≡ new_state keywords → s.store.calls ≡ []
 new_closed s keywords is = ap (λ (t : State). t.store.calls) is
 
-pub new_runs : (s : State) (keywords : Keywords) (d : Devices) → s ≡ new_state keywords → d.reader.broken ≡ false → d.stuck ≡ false → CanRun s d
+pub new_runs : (s : State) (keywords : Keywords) (d : Devices) → s ≡ new_state keywords → d.reader.broken ≡ false → d.writer.broken ≡ false → CanRun s d
 new_runs s keywords d is sound unstuck = rw is (record { reads = record { going = refl; same = λ told. absurd (cc told); sound = sound }; writes = unstuck })
 
 -- a pattern that was built, or not, and what followed
@@ -201,11 +202,11 @@ line_cut bytes part s x y begins put = record { wrote = part; appends = put; end
 
 -- how it ended, and what was written, is the listing
 pub listed_as : (source : Source) (e : ExprId) (subject : List ℕ) (anchored : Bool) (limit : ℕ) (b : State) (d f : Devices) (r : Result Unit Exit) → length subject ≤ 1_000_000 → Nothing d.reader → Runs {X = Unit} itself any (whole source e subject anchored limit) (begun anchored limit) b d f r
-    → (wrote : List ℕ) × Appends d.taken f.taken wrote × Tells (listing source e subject anchored limit) wrote r
+    → (wrote : List ℕ) × Appends d.writer.taken f.writer.taken wrote × Tells (listing source e subject anchored limit) wrote r
 listed_as source e subject anchored limit b d f r short none did = told (whole source e subject anchored limit) (listing source e subject anchored limit) (begun anchored limit) b d f r (listing_is source e subject anchored limit short) none did
 
 -- a fault of the writer is its own
-pub fault_told : (r : Result Unit Exit) (d : Devices) → HasFault r d → r ≡ Err (Halt WriteFault) → d.stuck ≡ true
+pub fault_told : (r : Result Unit Exit) (d : Devices) → HasFault r d → r ≡ Err (Halt WriteFault) → d.writer.broken ≡ true
 fault_told r d fault is = rw is at fault
 
 -- what was told of a pattern that is read is its listing

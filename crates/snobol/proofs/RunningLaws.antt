@@ -1,7 +1,7 @@
 -- How functions join that read and write what their actions do.
 use Rattle.std.proofs.Common.{◌≡◌, ℕ, Bool, true, false, List, [], ◌++◌, refl, ap, sym, ◌∙◌, subst, append_assoc, arith, Option, None, Some, Result, Ok, Err, OnOk}
 use Rattle.std.proofs.lemmas.List.{append-nil}
-use Rattle.sno_io.specs.Devices.{Begins}
+use Rattle.sno_io.specs.Devices.{Begins, Drain, Feed}
 use Rattle.sno_io.proofs.Bytes.{consumes_then, appends_then}
 use Rattle.sno_pattern.specs.Table.{Node}
 use Rattle.sno_machine.specs.declared.machine.Exit.{Exit}
@@ -10,16 +10,12 @@ use Rattle.sno_machine.specs.declared.machine.Stop.{Stop}
 use Rattle.sno_machine.specs.declared.machine.Stop.TheVariants.{Error as HasError, ErrorIn as HasErrorIn, NoMemory, ReadFault, WriteFault, Ended as HasEnded}
 use Rattle.sno_machine.specs.World.{World, Keywords}
 use Rattle.sno_machine.specs.Action.{Ending, Got, Fails, Stops, Outcome, Action, settled, settles, either, and_then, fails}
-use Rattle.sno_machine.specs.State.{State, world, untouched, MeetsReading, Does, Reads, Feed, IsReady, OnAnswer, OnGoing, HasCause, itself, any}
+use Rattle.sno_machine.specs.State.{State, world, untouched, MeetsReading, Does, Reads, IsReady, OnAnswer, OnGoing, HasCause, itself, any}
 use Rattle.sno_machine.specs.Performs.{Ends, Performs}
-use Rattle.snobol.specs.Running.{Devices, CanRun, MeetsRunning, HasFault, Goes, Runs}
+use Rattle.snobol.specs.Running.{Devices, devices, CanRun, MeetsRunning, HasFault, Goes, Runs}
 use Rattle.sno_machine.proofs.Outcomes.{grows_twice, fails_does}
 use Rattle.sno_machine.proofs.Reading.{consumes_nothing, none_given, reads_nothing, same_reading, same_keywords, same_calls, ready_unread}
 use Rattle.sno_machine.proofs.Performing.{appends_nothing}
-
--- the reader of two devices, with one writer
-abbrev pub with_reader : Feed → Option (List ℕ) → Bool → Devices
-with_reader f taken stuck = record { reader = f; taken = taken; stuck = stuck }
 
 goes_not : (a b : Keywords) → b ≡ a → Goes a b
 goes_not a b e = rw e (record { cap = refl; begun = omega arith })
@@ -51,31 +47,28 @@ running_meets see o w (Err (Halt WriteFault)) h = absurd h
 running_meets see o w (Err (Halt (HasErrorIn code statement))) h = absurd h
 running_meets see o w (Err (Halt HasEnded)) h = absurd h
 
-running_ready : {X : Type 0} (r : Result X Exit) (s : State) (f : Feed) (taken : Option (List ℕ)) → OnGoing r (IsReady s f) → OnGoing r (CanRun s (with_reader f taken false))
-running_ready (Ok x) s f taken h = record { reads = h; writes = refl }
-running_ready (Err Failure) s f taken h = record { reads = h; writes = refl }
-running_ready (Err (Halt why)) s f taken h = tt
+running_ready : {X : Type 0} (r : Result X Exit) (s : State) (f : Feed) (w : Drain) → w.broken ≡ false → OnGoing r (IsReady s f) → OnGoing r (CanRun s (devices f w))
+running_ready (Ok x) s f w sound h = record { reads = h; writes = sound }
+running_ready (Err Failure) s f w sound h = record { reads = h; writes = sound }
+running_ready (Err (Halt why)) s f w sound h = tt
 
-running_cause : {X A : Type 0} (see : X → A) (o : Outcome A) (w : World) (r : Result X Exit) (f : Feed) (taken : Option (List ℕ)) → MeetsReading see o w r → HasCause r f → HasFault r (with_reader f taken false)
-running_cause see o w (Ok x) f taken m h = tt
-running_cause see o w (Err Failure) f taken m h = tt
-running_cause see o w (Err (Halt (HasError code))) f taken m h = tt
-running_cause see o w (Err (Halt NoMemory)) f taken m h = tt
-running_cause see o w (Err (Halt ReadFault)) f taken m h = h
-running_cause see o w (Err (Halt WriteFault)) f taken m h = absurd m
-running_cause see o w (Err (Halt (HasErrorIn code statement))) f taken m h = tt
-running_cause see o w (Err (Halt HasEnded)) f taken m h = tt
+running_cause : {X A : Type 0} (see : X → A) (o : Outcome A) (v : World) (r : Result X Exit) (f : Feed) (w : Drain) → MeetsReading see o v r → HasCause r f → HasFault r (devices f w)
+running_cause see o v (Ok x) f w m h = tt
+running_cause see o v (Err Failure) f w m h = tt
+running_cause see o v (Err (Halt (HasError code))) f w m h = tt
+running_cause see o v (Err (Halt NoMemory)) f w m h = tt
+running_cause see o v (Err (Halt ReadFault)) f w m h = h
+running_cause see o v (Err (Halt WriteFault)) f w m h = absurd m
+running_cause see o v (Err (Halt (HasErrorIn code statement))) f w m h = tt
+running_cause see o v (Err (Halt HasEnded)) f w m h = tt
 
-unstuck : (f : Feed) (taken : Option (List ℕ)) (stuck : Bool) → stuck ≡ false → with_reader f taken false ≡ with_reader f taken stuck
-unstuck f taken stuck e = ap (with_reader f taken) (sym e)
-
-pub reads_runs : {X A : Type 0} (see : List Node → X → A) (fits : List Node → X → Type 0) (act : Action A) (a b : State) (f g : Feed) (taken : Option (List ℕ)) (stuck : Bool) (r : Result X Exit) → stuck ≡ false
-    → Reads see fits act a b f g r → Runs see fits act a b (with_reader f taken stuck) (with_reader g taken stuck) r
-reads_runs see fits act a b f g taken stuck r sound did = rw sound (record {
+pub reads_runs : {X A : Type 0} (see : List Node → X → A) (fits : List Node → X → Type 0) (act : Action A) (a b : State) (f g : Feed) (w : Drain) (r : Result X Exit) → w.broken ≡ false
+    → Reads see fits act a b f g r → Runs see fits act a b (devices f w) (devices g w) r
+reads_runs see fits act a b f g w r sound did = record {
   given = did.given;
   wrote = [];
   consumed = did.consumed;
-  appends = appends_nothing taken;
+  appends = appends_nothing w.taken;
   ended = did.ended;
   tells = did.tells;
   grows = did.grows;
@@ -83,13 +76,13 @@ reads_runs see fits act a b f g taken stuck r sound did = rw sound (record {
   calls = on_going r (b.store.calls ≡ a.store.calls) did.calls;
   meets = λ more none. running_meets (see b.nodes) (act (world a (did.given ++ more))) (world b more) r (did.meets more none);
   answer = did.answer;
-  ready = running_ready r b g taken did.ready;
-  cause = running_cause (see b.nodes) (act (world a (did.given ++ []))) (world b []) r g taken (did.meets [] (λ told. refl)) did.cause;
-})
+  ready = running_ready r b g w sound did.ready;
+  cause = running_cause (see b.nodes) (act (world a (did.given ++ []))) (world b []) r g w (did.meets [] (λ told. refl)) did.cause;
+}
 
 -- what reads and writes nothing
 pub does_runs : {X A : Type 0} (see : List Node → X → A) (fits : List Node → X → Type 0) (act : Action A) (a b : State) (d : Devices) (r : Result X Exit) → CanRun a d → Does see fits act a b r → Runs see fits act a b d d r
-does_runs see fits act a b d r can did = reads_runs see fits act a b d.reader d.reader d.taken d.stuck r can.writes (reads_nothing see fits act a b d.reader r can.reads did)
+does_runs see fits act a b d r can did = reads_runs see fits act a b d.reader d.reader d.writer r can.writes (reads_nothing see fits act a b d.reader r can.reads did)
 
 -- what writes, and reads nothing
 
@@ -106,7 +99,7 @@ performed_meets o w wrote (Err WriteFault) h = h
 performed_meets o w wrote (Err (HasErrorIn code statement)) h = absurd h
 performed_meets o w wrote (Err HasEnded) h = absurd h
 
-performed_cause : (o : Outcome Unit) (w : World) (wrote : List ℕ) (r : Result Unit Stop) (d : Devices) → Ends o w wrote r → (r ≡ Err WriteFault → d.stuck ≡ true) → HasFault (exited r) d
+performed_cause : (o : Outcome Unit) (w : World) (wrote : List ℕ) (r : Result Unit Stop) (d : Devices) → Ends o w wrote r → (r ≡ Err WriteFault → d.writer.broken ≡ true) → HasFault (exited r) d
 performed_cause o w wrote (Ok done) d h fault = tt
 performed_cause o w wrote (Err (HasError code)) d h fault = tt
 performed_cause o w wrote (Err NoMemory) d h fault = tt
@@ -115,17 +108,17 @@ performed_cause o w wrote (Err WriteFault) d h fault = fault refl
 performed_cause o w wrote (Err (HasErrorIn code statement)) d h fault = tt
 performed_cause o w wrote (Err HasEnded) d h fault = tt
 
-performed_ready : (r : Result Unit Stop) (a b : State) (f : Feed) (taken : Option (List ℕ)) (stuck : Bool) → untouched b ≡ untouched a → IsReady a f → OnOk r (stuck ≡ false) → OnGoing (exited r) (CanRun b (with_reader f taken stuck))
-performed_ready (Ok done) a b f taken stuck u ready sound = record { reads = ready_unread a b f u ready; writes = sound }
-performed_ready (Err why) a b f taken stuck u ready sound = tt
+performed_ready : (r : Result Unit Stop) (a b : State) (f : Feed) (w : Drain) → untouched b ≡ untouched a → IsReady a f → OnOk r (w.broken ≡ false) → OnGoing (exited r) (CanRun b (devices f w))
+performed_ready (Ok done) a b f w u ready sound = record { reads = ready_unread a b f u ready; writes = sound }
+performed_ready (Err why) a b f w u ready sound = tt
 
 performed_answer : (nodes : List Node) (r : Result Unit Stop) → OnAnswer {X = Unit} (any nodes) (exited r)
 performed_answer nodes (Ok done) = tt
 performed_answer nodes (Err why) = tt
 
-pub performs_runs : (act : Action Unit) (a b : State) (f : Feed) (x y : Option (List ℕ)) (s t : Bool) (r : Result Unit Stop) → IsReady a f → b.nodes ≡ a.nodes → OnOk r (t ≡ false) → (r ≡ Err WriteFault → t ≡ true)
-    → Performs act a b x y r → Runs {X = Unit} itself any act a b (with_reader f x s) (with_reader f y t) (exited r)
-performs_runs act a b f x y s t r ready nodes sound fault did = record {
+pub performs_runs : (act : Action Unit) (a b : State) (f : Feed) (v w : Drain) (r : Result Unit Stop) → IsReady a f → b.nodes ≡ a.nodes → OnOk r (w.broken ≡ false) → (r ≡ Err WriteFault → w.broken ≡ true)
+    → Performs act a b v.taken w.taken r → Runs {X = Unit} itself any act a b (devices f v) (devices f w) (exited r)
+performs_runs act a b f v w r ready nodes sound fault did = record {
   given = [];
   wrote = did.wrote;
   consumed = consumes_nothing f.left;
@@ -137,8 +130,8 @@ performs_runs act a b f x y s t r ready nodes sound fault did = record {
   calls = on_going (exited r) (b.store.calls ≡ a.store.calls) (same_calls a b did.unread);
   meets = λ more none. performed_meets (act (world a more)) (world b more) did.wrote r (did.ends more);
   answer = performed_answer b.nodes r;
-  ready = performed_ready r a b f y t did.unread ready sound;
-  cause = performed_cause (act (world a [])) (world b []) did.wrote r (with_reader f y t) (did.ends []) fault;
+  ready = performed_ready r a b f w did.unread ready sound;
+  cause = performed_cause (act (world a [])) (world b []) did.wrote r (devices f w) (did.ends []) fault;
 }
 
 -- one action, and what follows its value
@@ -174,7 +167,7 @@ runs_got {A = A} see fits look suits act k a b c d e f x r p q = record {
   given = p.given ++ q.given;
   wrote = p.wrote ++ q.wrote;
   consumed = consumes_then d.reader.left e.reader.left f.reader.left p.given q.given p.consumed q.consumed;
-  appends = appends_then d.taken e.taken f.taken p.wrote q.wrote p.appends q.appends;
+  appends = appends_then d.writer.taken e.writer.taken f.writer.taken p.wrote q.wrote p.appends q.appends;
   ended = λ told. let m = p.ended told in let n = q.ended m.1 in (none_given p.given q.given m.0 n.0, n.1);
   tells = q.tells;
   grows = grows_twice a.nodes b.nodes c.nodes p.grows q.grows;
@@ -195,7 +188,7 @@ runs_failed {A = A} see fits look suits act k a b c d e f r p q = record {
   given = p.given ++ q.given;
   wrote = p.wrote ++ q.wrote;
   consumed = consumes_then d.reader.left e.reader.left f.reader.left p.given q.given p.consumed q.consumed;
-  appends = appends_then d.taken e.taken f.taken p.wrote q.wrote p.appends q.appends;
+  appends = appends_then d.writer.taken e.writer.taken f.writer.taken p.wrote q.wrote p.appends q.appends;
   ended = λ told. let m = p.ended told in let n = q.ended m.1 in (none_given p.given q.given m.0 n.0, n.1);
   tells = q.tells;
   grows = grows_twice a.nodes b.nodes c.nodes p.grows q.grows;

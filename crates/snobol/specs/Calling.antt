@@ -1,11 +1,12 @@
 -- What functions did whose parts may call functions of the program. These words are private to the interpreter.
-use Rattle.std.specs.Prelude.{◌≡◌, ℕ, ◌-◌, Bool, List, length, map, Option, Result}
+use Rattle.std.specs.Prelude.{◌≡◌, ℕ, ◌-◌, List, length, map, Result}
 use Rattle.std.specs.Borrow.{MutBor}
 use Rattle.std.specs.List.{AllByRecursion}
 use Rattle.std.specs.declared.vec.Vec.{Vec}
 use Rattle.std.specs.declared.alloc.Global.{Global}
 use Rattle.sno_value.specs.declared.ids.SymId.{SymId}
 use Rattle.sno_value.specs.declared.value.Value.{Value as Stored}
+use Rattle.sno_io.specs.Devices.{Drain, Feed}
 use Rattle.sno_text.specs.Source.{Source}
 use Rattle.sno_pattern.specs.Table.{Node}
 use Rattle.sno_machine.specs.declared.machine.Exit.{Exit}
@@ -20,13 +21,13 @@ use Rattle.snobol.specs.Running.{Devices, CanRun, Runs, devices}
 abbrev pub RunsAt : {X A : Type 0} → (List Node → X → A) → (List Node → X → Type 0) → (Caller → Action A) → Source → ℕ → State → State → Devices → Devices → Result X Exit → Type 0
 RunsAt see fits act source level before after old new result = Runs see fits (act (call_at source (200 - level))) before after old new result
 
--- A closure does calls that stand inside so many open ones: what it owes of a call, and what that did. `left` and the
--- others say what a reader and a writer tell.
-pub record Calling {R W : Type 0} (left : R → Option (List ℕ)) (at_end broken : R → Bool) (taken : W → Option (List ℕ)) (stuck : W → Bool) (source : Source) (level : ℕ)
+-- A closure does calls that stand inside so many open ones: what it owes of a call, and what that did. `feed` and `drain`
+-- say what a reader and a writer tell.
+pub record Calling {R W : Type 0} (feed : R → Feed) (drain : W → Drain) (source : Source) (level : ℕ)
     (pre : MutBor State → MutBor R → MutBor W → SymId → Vec Stored Global → Type 0)
     (post : MutBor State → MutBor R → MutBor W → SymId → Vec Stored Global → Result Stored Exit → MutBor State → MutBor R → MutBor W → Type 0) : Type 0 where
   pub callable : (m : MutBor State) (r : MutBor R) (w : MutBor W) (f : SymId) (xs : Vec Stored Global) → length m.now.store.calls ≡ level
-      → CanRun m.now (devices (left r.now) (at_end r.now) (broken r.now) (taken w.now) (stuck w.now)) → AllByRecursion (IsValueOf m.now.nodes) xs.items → pre m r w f xs
+      → CanRun m.now (devices (feed r.now) (drain w.now)) → AllByRecursion (IsValueOf m.now.nodes) xs.items → pre m r w f xs
   pub meant : (m : MutBor State) (r : MutBor R) (w : MutBor W) (f : SymId) (xs : Vec Stored Global) (x : Result Stored Exit) (m1 : MutBor State) (r1 : MutBor R) (w1 : MutBor W) → post m r w f xs x m1 r1 w1
       → RunsAt shown IsValueOf (λ call. call f.0 (map (shown m.now.nodes) xs.items)) source level m.now m1.now
-      (devices (left r.now) (at_end r.now) (broken r.now) (taken w.now) (stuck w.now)) (devices (left r1.now) (at_end r1.now) (broken r1.now) (taken w1.now) (stuck w1.now)) x
+      (devices (feed r.now) (drain w.now)) (devices (feed r1.now) (drain w1.now)) x

@@ -1,7 +1,7 @@
 -- What functions did that read and write.
-use Rattle.std.specs.Prelude.{◌≡◌, ℕ, ◌≤◌, Bool, true, false, List, [], ◌++◌, Option, Result, Ok, Err}
+use Rattle.std.specs.Prelude.{◌≡◌, ℕ, ◌≤◌, Bool, true, false, List, [], ◌++◌, Some, Result, Ok, Err}
 use Rattle.std.specs.Io.KnownBytes.{Consumes, Appends}
-use Rattle.sno_io.specs.Devices.{Begins}
+use Rattle.sno_io.specs.Devices.{Begins, Drain, Feed}
 use Rattle.sno_pattern.specs.Table.{Node}
 use Rattle.sno_machine.specs.declared.machine.Exit.{Exit}
 use Rattle.sno_machine.specs.declared.machine.Exit.TheVariants.{Failure, Halt}
@@ -11,22 +11,24 @@ use Rattle.snobol.specs.declared.execution.Outcome.{Outcome as RunOutcome}
 use Rattle.snobol.specs.declared.execution.Outcome.TheVariants as ran
 use Rattle.sno_machine.specs.World.{World, Keywords}
 use Rattle.sno_machine.specs.Action.{Error, ErrorIn, Ended, Got, Fails, Stops, Outcome, Action}
-use Rattle.sno_machine.specs.State.{State, world, Feed, feed, IsReady, Grows, OnAnswer, OnGoing}
+use Rattle.sno_machine.specs.State.{State, world, IsReady, Grows, OnAnswer, OnGoing}
 
--- a reader and a writer, as far as they tell
+-- what a reader and a writer tell
 pub record Devices : Type 0 where
   pub reader : Feed
-  -- the bytes that the writer has taken, and whether it has failed
-  pub taken : Option (List ℕ)
-  pub stuck : Bool
+  pub writer : Drain
 
-abbrev pub devices : Option (List ℕ) → Bool → Bool → Option (List ℕ) → Bool → Devices
-devices left at_end broken taken stuck = record { reader = feed left at_end broken; taken = taken; stuck = stuck }
+abbrev pub devices : Feed → Drain → Devices
+devices feed drain = record { reader = feed; writer = drain }
+
+-- a reader that has nothing to give, and whether it has told its end
+abbrev pub no_input : Bool → Feed
+no_input told_end = record { left = Some []; at_end = told_end; broken = false }
 
 -- neither has failed, and the reader is that of the call before
 pub record CanRun (s : State) (d : Devices) : Type 0 where
   pub reads : IsReady s d.reader
-  pub writes : d.stuck ≡ false
+  pub writes : d.writer.broken ≡ false
 
 -- how what the code answers meets the outcome of an action; where it was broken off, a beginning was written
 abbrev pub MeetsRunning : {X A : Type 0} → (X → A) → Outcome A → World → List ℕ → Result X Exit → Type 0
@@ -47,7 +49,7 @@ HasFault (Err (Halt (HasError code))) d = Unit {0}
 HasFault (Err (Halt (HasErrorIn code statement))) d = Unit {0}
 HasFault (Err (Halt NoMemory)) d = Unit {0}
 HasFault (Err (Halt ReadFault)) d = d.reader.broken ≡ true
-HasFault (Err (Halt WriteFault)) d = d.stuck ≡ true
+HasFault (Err (Halt WriteFault)) d = d.writer.broken ≡ true
 HasFault (Err (Halt HasEnded)) d = Unit {0}
 
 -- what no statement changes, and what only grows
@@ -61,7 +63,7 @@ pub record Runs {X A : Type 0} (see : List Node → X → A) (fits : List Node �
   pub given : List ℕ
   pub wrote : List ℕ
   pub consumed : Consumes old.reader.left new.reader.left given
-  pub appends : Appends old.taken new.taken wrote
+  pub appends : Appends old.writer.taken new.writer.taken wrote
   pub ended : before.reading.told_end ≡ true → (given ≡ []) × (after.reading.told_end ≡ true)
   pub tells : after.reading.told_end ≡ true → new.reader.at_end ≡ true
   pub grows : Grows before.nodes after.nodes
@@ -90,14 +92,14 @@ HasCauseOf ran.Ended d = Unit {0}
 HasCauseOf (ran.Error code statement) d = Unit {0}
 HasCauseOf ran.NoMemory d = Unit {0}
 HasCauseOf ran.ReadFault d = d.reader.broken ≡ true
-HasCauseOf ran.WriteFault d = d.stuck ≡ true
+HasCauseOf ran.WriteFault d = d.writer.broken ≡ true
 
 -- The code did what a part of the program does that ends the run.
 pub record Stopped {A : Type 0} (act : Action A) (before after : State) (old new : Devices) (outcome : RunOutcome) : Type 0 where
   pub given : List ℕ
   pub wrote : List ℕ
   pub consumed : Consumes old.reader.left new.reader.left given
-  pub appends : Appends old.taken new.taken wrote
+  pub appends : Appends old.writer.taken new.writer.taken wrote
   pub ended : before.reading.told_end ≡ true → (given ≡ []) × (after.reading.told_end ≡ true)
   pub tells : after.reading.told_end ≡ true → new.reader.at_end ≡ true
   pub meets : (more : List ℕ) → (after.reading.told_end ≡ true → more ≡ []) → MeetsOutcome (act (world before (given ++ more))) wrote outcome
@@ -133,5 +135,5 @@ IsPossible given at_end input = (more : List ℕ) × (input ≡ given ++ more) �
 -- beginning of it.
 abbrev pub RunsAs : {A : Type 0} → (List ℕ → Outcome A) → Devices → Devices → RunOutcome → Type 0
 RunsAs meaning old new outcome =
-    (given : List ℕ) × (wrote : List ℕ) × Consumes old.reader.left new.reader.left given × Appends old.taken new.taken wrote
+    (given : List ℕ) × (wrote : List ℕ) × Consumes old.reader.left new.reader.left given × Appends old.writer.taken new.writer.taken wrote
     × ((input : List ℕ) → IsPossible given new.reader.at_end input → MeetsOutcome (meaning input) wrote outcome)

@@ -25,12 +25,12 @@ pub fn perform<R: Source, W: Sink, E: Sink>(
     writer: &mut W,
     errors: &mut E,
 ) -> u8
-    requires reader { R.broken reader.old ≡ false }
-    requires writer { W.broken writer.old ≡ false }
+    requires reader { (R.feed reader.old).broken ≡ false }
+    requires writer { (W.drain writer.old).broken ≡ false }
     requires errors { E.broken errors.old ≡ false }
     requires limits { IsInRange job.now }
-    ensures { (report : Report) × (given : List ℕ) × (wrote : List ℕ) × Consumes (R.left reader.old) (R.left reader.new) given
-        × Appends (W.taken writer.old) (W.taken writer.new) wrote × IsDone job.now file.entry report given (R.at_end reader.new) wrote
+    ensures { (report : Report) × (given : List ℕ) × (wrote : List ℕ) × Consumes (R.feed reader.old).left (R.feed reader.new).left given
+        × Appends (W.drain writer.old).taken (W.drain writer.new).taken wrote × IsDone job.now file.entry report given (R.feed reader.new).at_end wrote
         × (result ≡ report.status) × Tells (E.taken errors.old) (E.taken errors.new) (E.broken errors.new) report.line }
 {
     let ending = end_of(alloc, job, file, reader, writer);
@@ -45,11 +45,11 @@ fn end_of<'a, R: Source, W: Sink>(
     reader: &mut R,
     writer: &mut W,
 ) -> Ending<'a>
-    requires reader { R.broken reader.old ≡ false }
-    requires writer { W.broken writer.old ≡ false }
+    requires reader { (R.feed reader.old).broken ≡ false }
+    requires writer { (W.drain writer.old).broken ≡ false }
     requires limits { IsInRange job.now }
-    ensures { (given : List ℕ) × (wrote : List ℕ) × Consumes (R.left reader.old) (R.left reader.new) given
-        × Appends (W.taken writer.old) (W.taken writer.new) wrote × IsDone job.now file.entry result given (R.at_end reader.new) wrote }
+    ensures { (given : List ℕ) × (wrote : List ℕ) × Consumes (R.feed reader.old).left (R.feed reader.new).left given
+        × Appends (W.drain writer.old).taken (W.drain writer.new).taken wrote × IsDone job.now file.entry result given (R.feed reader.new).at_end wrote }
 {
     match job {
         Job::Run { file: name, limits } => match file {
@@ -81,11 +81,11 @@ fn run_file<'a, R: Source, W: Sink>(
     reader: &mut R,
     writer: &mut W,
 ) -> Ending<'a>
-    requires reader { R.broken reader.old ≡ false }
-    requires writer { W.broken writer.old ≡ false }
+    requires reader { (R.feed reader.old).broken ≡ false }
+    requires writer { (W.drain writer.old).broken ≡ false }
     requires limits { IsLimits limits }
-    ensures { (given : List ℕ) × (wrote : List ℕ) × Consumes (R.left reader.old) (R.left reader.new) given
-        × Appends (W.taken writer.old) (W.taken writer.new) wrote × IsRunFile text.now limits result given (R.at_end reader.new) wrote }
+    ensures { (given : List ℕ) × (wrote : List ℕ) × Consumes (R.feed reader.old).left (R.feed reader.new).left given
+        × Appends (W.drain writer.old).taken (W.drain writer.new).taken wrote × IsRunFile text.now limits result given (R.feed reader.new).at_end wrote }
 {
     match read_program(alloc, text) {
         Ok(program) => {

@@ -1,5 +1,5 @@
 //! An input without lines.
-ghost use Rattle.std.specs.Prelude.{◌≡◌, [], false, Some};
+ghost use Rattle.std.specs.Prelude.{◌≡◌, false};
 
 use sno_io::{DeviceFault, Source};
 
@@ -18,13 +18,9 @@ impl NoInput {
 }
 
 impl Source for NoInput {
-    ghost use Rattle.std.specs.Prelude.{[], false, Some};
+    ghost use Rattle.snobol.specs.Running.{no_input};
 
-    ghost left = { λ n. Some [] };
-
-    ghost at_end = { λ n. n.told_end };
-
-    ghost broken = { λ n. false };
+    ghost feed = { λ n. no_input n.told_end };
 
     fn read(&mut self, _buf: &mut [u8]) -> Result<usize, DeviceFault> {
         self.told_end = true;

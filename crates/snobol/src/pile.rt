@@ -5,7 +5,7 @@ ghost use Rattle.std.specs.List.{AllByRecursion};
 ghost use Rattle.sno_pattern.specs.Table.{Node};
 ghost use Rattle.sno_machine.specs.Values.{shown, IsValueOf};
 ghost use Rattle.snobol.specs.Forms.{IsOrdered, node_at};
-ghost use Rattle.sno_machine.specs.State.{Reads, IsReady, feed};
+ghost use Rattle.sno_machine.specs.State.{Reads, IsReady};
 ghost use Rattle.snobol.specs.Evaluate.{Caller, given_by};
 ghost use Rattle.snobol.specs.Pile.{holds, after_turn, after_next, turn_work, Falls, at_hand, still_at_hand, Keeps, first_turn, GoesTo, GoesWith, StopsWith, Enter, HasGot, Failed};
 
@@ -193,8 +193,8 @@ impl Pile {
     ) -> Result<Value, Exit>
         requires count { holds self.old.waiting + count ≤ length self.old.values }
         requires values { AllByRecursion (IsValueOf machine.old.nodes) self.old.values }
-        requires ready { IsReady machine.old (feed (R.left reader.old) (R.at_end reader.old) (R.broken reader.old)) }
-        ensures does { Reads shown IsValueOf (given_by program.now.text (node_at program.now part) part.wanted (map (shown machine.old.nodes) (drop (length self.old.values - count) self.old.values))) machine.old machine.new (feed (R.left reader.old) (R.at_end reader.old) (R.broken reader.old)) (feed (R.left reader.new) (R.at_end reader.new) (R.broken reader.new)) result }
+        requires ready { IsReady machine.old (R.feed reader.old) }
+        ensures does { Reads shown IsValueOf (given_by program.now.text (node_at program.now part) part.wanted (map (shown machine.old.nodes) (drop (length self.old.values - count) self.old.values))) machine.old machine.new (R.feed reader.old) (R.feed reader.new) result }
         ensures rest { self.new ≡ record self.old { values = take (length self.old.values - count) self.old.values } }
     {
         let at = self.values.len() - count;

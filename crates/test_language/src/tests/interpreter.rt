@@ -35,8 +35,8 @@ fn find<R: Source, W: Sink>(
     subject: &[u8],
 ) -> Found
     requires subject { length subject.now ≤ 1_000_000 }
-    requires ready { machine.old.stopped ≡ None → CanRun machine.old.state (devices (R.left reader.old) (R.at_end reader.old) (R.broken reader.old) (W.taken writer.old) (W.broken writer.old)) }
-    ensures ready { machine.new.stopped ≡ None → CanRun machine.new.state (devices (R.left reader.new) (R.at_end reader.new) (R.broken reader.new) (W.taken writer.new) (W.broken writer.new)) }
+    requires ready { machine.old.stopped ≡ None → CanRun machine.old.state (devices (R.feed reader.old) (W.drain writer.old)) }
+    ensures ready { machine.new.stopped ≡ None → CanRun machine.new.state (devices (R.feed reader.new) (W.drain writer.new)) }
 {
     match machine.pattern(reader, writer, expression) {
         Ok(Some(pattern)) => machine.match_first(reader, writer, pattern, subject),

@@ -9,7 +9,7 @@ pub returns-in_err-entry : goal.returns-in_err-entry
 returns-in_err-entry g t c =
     let p = err_from_is_err_and c.from_residual.result c.from_residual.ensures.1 in
     rw (p.1, p.2) (call_refused c.args.code.now c.args.function.0 (map (shown c.args.machine.now.nodes) c.args.arguments.items) c.args.machine.now
-    (devices (g.R.Source.left c.args.reader.now) (g.R.Source.at_end c.args.reader.now) (g.R.Source.broken c.args.reader.now) (g.W.Sink.taken c.args.writer.now) (g.W.Sink.broken c.args.writer.now))
+    (devices (g.R.Source.feed c.args.reader.now) (g.W.Sink.drain c.args.writer.now))
     c.in_err-entry.field-0.0 c.requires.ready c.requires.level (rw c.program.ensures.program at c.in_err-entry.ensures.refused))
 
 pub returns-in_err-enter : goal.returns-in_err-enter
@@ -17,7 +17,7 @@ returns-in_err-enter g t c =
     let p = err_from_is_err_and c.from_residual-in_err-enter.result c.from_residual-in_err-enter.ensures.1 in
     let e = c.in_ok-entry.ensures.entry in
     rw (p.1, p.2) (not_begun c.args.code.now c.args.function.0 e.0 (map (shown c.args.machine.now.nodes) c.args.arguments.items) c.args.machine.now c.enter.new.self
-    (devices (g.R.Source.left c.args.reader.now) (g.R.Source.at_end c.args.reader.now) (g.R.Source.broken c.args.reader.now) (g.W.Sink.taken c.args.writer.now) (g.W.Sink.broken c.args.writer.now))
+    (devices (g.R.Source.feed c.args.reader.now) (g.W.Sink.drain c.args.writer.now))
     c.in_err-enter.field-0.0 c.requires.ready c.in_ok-entry.ensures.room (c.in_err-enter.ensures e.0 e.1))
 
 pub returns-in_err-success : goal.returns-in_err-success
@@ -26,8 +26,8 @@ returns-in_err-success g t c =
     let e = c.in_ok-entry.ensures.entry in
     rw (p.1, p.2) (call_ended c.args.code.now c.args.function.0 c.in_ok-entry.entry e.0 (map (shown c.args.machine.now.nodes) c.args.arguments.items) c.args.machine.now c.enter.new.self
     (c.in_ok-enter.ensures e.0 e.1) e.1 (rw c.program.ensures.program at e.2) c.level-level.result c.chain.new.machine
-    (devices (g.R.Source.left c.args.reader.now) (g.R.Source.at_end c.args.reader.now) (g.R.Source.broken c.args.reader.now) (g.W.Sink.taken c.args.writer.now) (g.W.Sink.broken c.args.writer.now))
-    (devices (g.R.Source.left c.chain.new.reader) (g.R.Source.at_end c.chain.new.reader) (g.R.Source.broken c.chain.new.reader) (g.W.Sink.taken c.chain.new.writer) (g.W.Sink.broken c.chain.new.writer))
+    (devices (g.R.Source.feed c.args.reader.now) (g.W.Sink.drain c.args.writer.now))
+    (devices (g.R.Source.feed c.chain.new.reader) (g.W.Sink.drain c.chain.new.writer))
     c.in_err-success.field-0.0 c.level-level.ensures c.in_err-success.ensures.halts c.in_err-success.ensures.does)
 
 pub returns-then-success : goal.returns-then-success
@@ -35,8 +35,8 @@ returns-then-success g t c =
     let e = c.in_ok-entry.ensures.entry in
     call_runs c.args.code.now c.args.function.0 c.in_ok-entry.entry e.0 (map (shown c.args.machine.now.nodes) c.args.arguments.items) c.args.machine.now c.enter.new.self
     (c.in_ok-enter.ensures e.0 e.1) e.1 (rw c.program.ensures.program at e.2) c.level-level.result c.chain.new.machine c.leave-value.new.self c.leave-value.result true
-    (devices (g.R.Source.left c.args.reader.now) (g.R.Source.at_end c.args.reader.now) (g.R.Source.broken c.args.reader.now) (g.W.Sink.taken c.args.writer.now) (g.W.Sink.broken c.args.writer.now))
-    (devices (g.R.Source.left c.chain.new.reader) (g.R.Source.at_end c.chain.new.reader) (g.R.Source.broken c.chain.new.reader) (g.W.Sink.taken c.chain.new.writer) (g.W.Sink.broken c.chain.new.writer))
+    (devices (g.R.Source.feed c.args.reader.now) (g.W.Sink.drain c.args.writer.now))
+    (devices (g.R.Source.feed c.chain.new.reader) (g.W.Sink.drain c.chain.new.writer))
     c.level-level.ensures (rw c.if-success.true at c.in_ok-success.ensures.does) (rw c.statement-statement.ensures at c.leave-value.ensures)
 
 pub returns-else-success : goal.returns-else-success
@@ -44,6 +44,6 @@ returns-else-success g t c =
     let e = c.in_ok-entry.ensures.entry in
     call_runs c.args.code.now c.args.function.0 c.in_ok-entry.entry e.0 (map (shown c.args.machine.now.nodes) c.args.arguments.items) c.args.machine.now c.enter.new.self
     (c.in_ok-enter.ensures e.0 e.1) e.1 (rw c.program.ensures.program at e.2) c.level-level.result c.chain.new.machine c.leave-value.new.self c.leave-value.result false
-    (devices (g.R.Source.left c.args.reader.now) (g.R.Source.at_end c.args.reader.now) (g.R.Source.broken c.args.reader.now) (g.W.Sink.taken c.args.writer.now) (g.W.Sink.broken c.args.writer.now))
-    (devices (g.R.Source.left c.chain.new.reader) (g.R.Source.at_end c.chain.new.reader) (g.R.Source.broken c.chain.new.reader) (g.W.Sink.taken c.chain.new.writer) (g.W.Sink.broken c.chain.new.writer))
+    (devices (g.R.Source.feed c.args.reader.now) (g.W.Sink.drain c.args.writer.now))
+    (devices (g.R.Source.feed c.chain.new.reader) (g.W.Sink.drain c.chain.new.writer))
     c.level-level.ensures (rw c.if-success.false at c.in_ok-success.ensures.does) (rw c.statement-statement.ensures at c.leave-value.ensures)

@@ -62,7 +62,7 @@ returns-in-Err-clause-listing g c =
     let did = c.pattern_of.ensures in
     let failed = rw (c.in-Err-Failure.is, c.in-Err-Failure.field-0-is, c.in-Ok-of.ensures, start, c.for_listing-keywords.ensures) at did in
     let cut = c.in-Err.ensures.bytes in
-    let line = performs_runs _ _ _ _ _ _ (g.W.Sink.broken c.pattern_of.new.writer) _ (Err WriteFault) failed.ready.reads refl tt (λ e. c.in-Err.ensures.fault) (line_cut (codes "exhausted\n") cut.0 c.pattern_of.new.machine _ _ cut.1 cut.2) in
+    let line = performs_runs _ _ _ _ (g.W.Sink.drain c.pattern_of.new.writer) _ (Err WriteFault) failed.ready.reads refl tt (λ e. c.in-Err.ensures.fault) (line_cut (codes "exhausted\n") cut.0 c.pattern_of.new.machine _ _ cut.1 cut.2) in
     listed_as _ _ _ _ _ _ _ _ _ c.requires.subject refl (failed_listed c.args.program.now c.args.expression c.args.subject.now c.args.anchored c.args.limit _ _ _ _ _ _ _ failed line)
 
 pub returns-in-Err-Failure-clause-listing : goal.returns-in-Err-Failure-clause-listing
@@ -71,7 +71,7 @@ returns-in-Err-Failure-clause-listing g c =
     let did = c.pattern_of.ensures in
     let failed = rw (c.in-Err-Failure.is, c.in-Err-Failure.field-0-is, c.in-Ok-of.ensures, start, c.for_listing-keywords.ensures) at did in
     let put = c.in_default-put.ensures in
-    let line = performs_runs _ _ _ _ _ _ (g.W.Sink.broken c.pattern_of.new.writer) _ (Ok tt) failed.ready.reads refl put.sound (λ e. absurd (cc e)) (line_put (codes "exhausted\n") c.pattern_of.new.machine _ _ put.bytes) in
+    let line = performs_runs _ _ _ _ (g.W.Sink.drain c.pattern_of.new.writer) _ (Ok tt) failed.ready.reads refl put.sound (λ e. absurd (cc e)) (line_put (codes "exhausted\n") c.pattern_of.new.machine _ _ put.bytes) in
     listed_as _ _ _ _ _ _ _ _ _ c.requires.subject refl (failed_listed c.args.program.now c.args.expression c.args.subject.now c.args.anchored c.args.limit _ _ _ _ _ _ _ failed line)
 
 pub returns-clause-listing : goal.returns-clause-listing

@@ -13,4 +13,4 @@ returns-in-Ok g c =
 pub returns-in-Err : goal.returns-in-Err
 returns-in-Err g c =
     let told = refusal_checked c.args.text.now c.in-Err.error c.in-Err.ensures.refused in
-    ([], [], consumes_nothing (g.R.Source.left c.args.reader.now), appends_nothing (g.W.Sink.taken c.args.writer.now), rw c.refused.ensures (not_read refl refl told.0 told.1))
+    ([], [], consumes_nothing (g.R.Source.feed c.args.reader.now).left, appends_nothing (g.W.Sink.drain c.args.writer.now).taken, rw c.refused.ensures (not_read refl refl told.0 told.1))

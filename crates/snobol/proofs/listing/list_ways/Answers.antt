@@ -81,7 +81,7 @@ returns-in_err-list_event-in-Exhausted g c =
     let turn = turn_of c.events.matcher c.next.new.self _ _ _ _ _ c.in_ok-event.event i.follows c.in_ok-event.ensures.same c.in_ok-event.ensures.ok c.in_ok-event.ensures.counts in
     let last = last_told c.in_ok-event.event c.in-Exhausted.is in
     let did = c.in_err-list_event-in-Exhausted.ensures in
-    let runs = performs_runs _ _ _ _ _ _ (g.W.Sink.broken c.events.writer) _ (Err c.in_err-list_event-in-Exhausted.field-0.0) i.can.reads did.nodes tt did.fault (rw c.pending.ensures.value at did.does) in
+    let runs = performs_runs _ _ _ _ (g.W.Sink.drain c.events.writer) _ (Err c.in_err-list_event-in-Exhausted.field-0.0) i.can.reads did.nodes tt did.fault (rw c.pending.ensures.value at did.does) in
     rw (p.1, p.2, ← whole_listing c.args.scope.now.code.now _ c.args.subject.now c.args.anchored c.args.limit) (i.leads _ _ _ (event_ended _ _ _ _ _ _ _ c.in_ok-event.event c.next.new.self.way _ _ _ _ _ _ last.0 turn.0 turn.1 runs))
 
 pub returns-in-Exhausted : goal.returns-in-Exhausted
@@ -90,7 +90,7 @@ returns-in-Exhausted g c =
     let turn = turn_of c.events.matcher c.next.new.self _ _ _ _ _ c.in_ok-event.event i.follows c.in_ok-event.ensures.same c.in_ok-event.ensures.ok c.in_ok-event.ensures.counts in
     let last = last_told c.in_ok-event.event c.in-Exhausted.is in
     let did = c.in_ok-list_event-in-Exhausted.ensures in
-    let runs = performs_runs _ _ _ _ _ _ (g.W.Sink.broken c.events.writer) _ (Ok tt) i.can.reads did.nodes did.sound (λ e. absurd (cc e)) (rw c.pending.ensures.value at did.does) in
+    let runs = performs_runs _ _ _ _ (g.W.Sink.drain c.events.writer) _ (Ok tt) i.can.reads did.nodes did.sound (λ e. absurd (cc e)) (rw c.pending.ensures.value at did.does) in
     let told = c.in_ok-event.ensures.ok in
     let grows = told.grows i.follows.ended in
     let over = told.stops (rw last.1 refl) in
@@ -104,7 +104,7 @@ events-preserved g c =
     let turn = turn_of c.events.matcher c.next.new.self _ _ _ _ _ c.in_ok-event.event i.follows c.in_ok-event.ensures.same c.in_ok-event.ensures.ok c.in_ok-event.ensures.counts in
     let on = line_told c.in_ok-event.event c.in_default.not-Value c.in_default.not-Exhausted c.in_default.not-Aborted c.in_default.not-Limit in
     let did = c.in_ok-list_event-in_default.ensures in
-    let runs = performs_runs _ _ _ _ _ _ (g.W.Sink.broken c.events.writer) _ (Ok tt) i.can.reads did.nodes did.sound (λ e. absurd (cc e)) (rw c.pending-in_default.ensures.value at did.does) in
+    let runs = performs_runs _ _ _ _ (g.W.Sink.drain c.events.writer) _ (Ok tt) i.can.reads did.nodes did.sound (λ e. absurd (cc e)) (rw c.pending-in_default.ensures.value at did.does) in
     let told = c.in_ok-event.ensures.ok in
     let grows = told.grows i.follows.ended in
     let table = c.in_ok-event.ensures.table ∙ c.patterns-in-events.ensures in
@@ -125,5 +125,5 @@ returns-in_err-list_event-in_default g c =
     let turn = turn_of c.events.matcher c.next.new.self _ _ _ _ _ c.in_ok-event.event i.follows c.in_ok-event.ensures.same c.in_ok-event.ensures.ok c.in_ok-event.ensures.counts in
     let on = line_told c.in_ok-event.event c.in_default.not-Value c.in_default.not-Exhausted c.in_default.not-Aborted c.in_default.not-Limit in
     let did = c.in_err-list_event-in_default.ensures in
-    let runs = performs_runs _ _ _ _ _ _ (g.W.Sink.broken c.events.writer) _ (Err c.in_err-list_event-in_default.field-0.0) i.can.reads did.nodes tt did.fault (rw c.pending-in_default.ensures.value at did.does) in
+    let runs = performs_runs _ _ _ _ (g.W.Sink.drain c.events.writer) _ (Err c.in_err-list_event-in_default.field-0.0) i.can.reads did.nodes tt did.fault (rw c.pending-in_default.ensures.value at did.does) in
     rw (p.1, p.2, ← whole_listing c.args.scope.now.code.now _ c.args.subject.now c.args.anchored c.args.limit) (i.leads _ _ _ (event_ended _ _ _ _ _ _ _ c.in_ok-event.event c.next.new.self.way _ _ _ _ _ _ on.0 turn.0 turn.1 runs))

@@ -13,13 +13,13 @@ abbrev pub invariant-events : goal.invariant-events
 invariant-events g l = record {
   follows : Follows l.matcher l.machine.nodes (tree l.fn.machine.nodes l.fn.pattern.0) l.fn.subject l.fn.anchored l.fn.limit;
   waits : l.matcher.waits ≡ false;
-  can : CanRun l.machine (devices (g.R.Source.left l.reader) (g.R.Source.at_end l.reader) (g.R.Source.broken l.reader) (g.W.Sink.taken l.writer) (g.W.Sink.broken l.writer));
+  can : CanRun l.machine (devices (g.R.Source.feed l.reader) (g.W.Sink.drain l.writer));
   calls : l.machine.store.calls ≡ l.fn.machine.store.calls;
   leads : (c : State) (z : Devices) (r : Result Unit Exit)
       → Runs itself any (to_end l.scope.code.now (tree l.fn.machine.nodes l.fn.pattern.0) l.fn.subject l.fn.anchored l.fn.limit (given_to l.matcher) l.matcher.told) l.machine c
-      (devices (g.R.Source.left l.reader) (g.R.Source.at_end l.reader) (g.R.Source.broken l.reader) (g.W.Sink.taken l.writer) (g.W.Sink.broken l.writer)) z r
+      (devices (g.R.Source.feed l.reader) (g.W.Sink.drain l.writer)) z r
       → Runs itself any (to_end l.scope.code.now (tree l.fn.machine.nodes l.fn.pattern.0) l.fn.subject l.fn.anchored l.fn.limit [] 0) l.fn.machine c
-      (devices (g.R.Source.left l.fn.reader) (g.R.Source.at_end l.fn.reader) (g.R.Source.broken l.fn.reader) (g.W.Sink.taken l.fn.writer) (g.W.Sink.broken l.fn.writer)) z r;
+      (devices (g.R.Source.feed l.fn.reader) (g.W.Sink.drain l.fn.writer)) z r;
 }
 
 -- the events still to be told

@@ -7,11 +7,11 @@ use Rattle.sno_io.proofs.lines.Lines.fill.Given as goal
 abbrev pub invariant-reads : goal.invariant-reads
 invariant-reads g l = record {
   len_is : l.len ≡ line_length l.self.held;
-  given : Joins (g.R.Source.left l.fn.reader) (g.R.Source.left l.reader) l.fn.self l.self;
+  given : Joins (g.R.Source.feed l.fn.reader).left (g.R.Source.feed l.reader).left l.fn.self l.self;
   unasked : (l.fn.self.told_end ≡ true) ⊎ Contains l.fn.self.held 10 → l.reader ≡ l.fn.reader;
   stopped : l.self.stopped ≡ l.fn.self.stopped;
-  sound : g.R.Source.broken l.reader ≡ false;
-  same : l.self.told_end ≡ true → g.R.Source.at_end l.reader ≡ true;
+  sound : (g.R.Source.feed l.reader).broken ≡ false;
+  same : l.self.told_end ≡ true → (g.R.Source.feed l.reader).at_end ≡ true;
 }
 
 -- a read brings a byte or tells the end
