@@ -41,8 +41,8 @@ pub(crate) fn holds(alloc: Global) -> Result<bool, AllocError> {
     Ok(holds == Some(true))
 }
 
-/// Asks a new machine for the pattern of a part, then for that of the whole, and then for a match of it. None where memory
-/// for the machine was refused.
+/// Asks a new machine for the pattern of a part, then for that of the whole, and then for a match of it. None where
+/// memory for the machine was refused.
 fn answers(alloc: Global, program: &Program, whole: ExprId) -> Result<Option<bool>, AllocError> {
     let mut reader = Device::new(b"".as_slice());
     let mut writer = Device::new(Vec::with_capacity(alloc, ROOM)?);
@@ -73,7 +73,8 @@ fn find<R: Source, W: Sink>(
     writer: &mut W,
     expression: ExprId,
 ) -> Found
-    requires ready { machine.old.stopped ≡ None → CanRun machine.old.state (devices (R.feed reader.old) (W.drain writer.old)) }
+    requires ready { machine.old.stopped ≡ None
+        → CanRun machine.old.state (devices (R.feed reader.old) (W.drain writer.old)) }
     ensures stopped { OnErr result (machine.new.stopped ≡ None → ⊥) }
     ensures nodes { length machine.old.state.nodes ≤ length machine.new.state.nodes }
 {

@@ -14,7 +14,8 @@ const CALLS: u32 = 8;
 
 const X: Name = Name::Var(SymId(9));
 
-/// Whether each builder that is refused leaves the table as it was, and builds what its twin does where it is called again.
+/// Whether each builder that is refused leaves the table as it
+/// was, and builds what its twin does where it is called again.
 pub(crate) fn holds(alloc: Global) -> Result<bool, AllocError> {
     for builder in 0..BUILDERS {
         if !builds(alloc, builder)? {

@@ -1,10 +1,10 @@
-//! The program `refusals`: calls of the library, of which one growth may be refused, whichever it is. `tests/refused-calls`
-//! runs it with each growth of the process refused in turn.
+//! The program `refusals`: calls of the library, of which one growth may be refused, whichever it is.
+//! `tests/refused-calls` runs it with each growth of the process refused in turn.
 //!
-//! It does the row that each of its words names, or all rows, and writes `ok` where all that it compared was as it must be.
-//! A row makes calls, and where one answers that memory was refused, it sees that nothing has changed and makes the call
-//! again, which has to succeed: no more than one growth is refused. Where a growth of the row's own is refused, in making
-//! arguments or in comparing, the row is done again.
+//! It does the row that each of its words names, or all rows, and writes `ok` where all that it compared was as it must
+//! be. A row makes calls, and where one answers that memory was refused, it sees that nothing has changed and makes the
+//! call again, which has to succeed: no more than one growth is refused. Where a growth of the row's own is refused, in
+//! making arguments or in comparing, the row is done again.
 #![tactic(auto)]
 
 mod asking;

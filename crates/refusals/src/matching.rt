@@ -236,8 +236,8 @@ fn begin<P: Points>(alloc: Global, table: &Patterns, pattern: PatId, row: Row) -
     }
 }
 
-/// The next event, which is asked for again behind a refusal: none was told, and the steps are no fewer than before and no
-/// more than those of this event.
+/// The next event, which is asked for again behind a refusal: none was told, and the steps are no fewer than before and
+/// no more than those of this event.
 fn ask<P: Points>(m: &mut Engine<P>, table: &Patterns, most: u32) -> Option<Event>
     requires table { m.old.nodes ≡ table.now }
     requires asked { m.old.waits ≡ false }

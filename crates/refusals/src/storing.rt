@@ -35,8 +35,8 @@ enum Answer {
     Done,
 }
 
-/// Each list is done in a new store, and has so many calls that what it makes outgrows the room that is first made for it.
-/// Symbols are numbered from 9 on, objects and types from 0 on.
+/// Each list is done in a new store, and has so many calls that what it makes outgrows the room that is first made for
+/// it. Symbols are numbered from 9 on, objects and types from 0 on.
 const SYMBOLS: &[Call] = &[
     Call::Symbol(b"X"),
     Call::Symbol(b"a symbol with blanks, which is long"),
@@ -150,8 +150,8 @@ pub(crate) fn holds(alloc: Global) -> Result<bool, AllocError> {
     Ok(true)
 }
 
-/// Makes calls of a new store and of its twin. Where both answer the same and are the same it is how many calls are refused
-/// with ample memory.
+/// Makes calls of a new store and of its twin. Where both answer the same and are the same it is how many calls are
+/// refused with ample memory.
 fn are_answered(alloc: Global, calls: &[Call]) -> Result<Option<u32>, AllocError> {
     let key = text(alloc, b"key")?;
     let mut store = Store::new(alloc, &mut Patterns::new(alloc))?;

@@ -16,12 +16,14 @@ overwritten v all buf end same within size =
     let front : length (take end all) ≡ end = length-take-le end all within in
     let none : length (post_of end k all) ≡ 0 = omega (arith, length-drop k (drop end all), length-drop end all) in
     let back : length (buf ++ post_of end k all) ≡ length buf + length (post_of end k all) = length-append buf (post_of end k all) in
-    let whole : length (put_mid end k all buf) ≡ length (take end all) + length (buf ++ post_of end k all) = length-append (take end all) (buf ++ post_of end k all) in
+    let whole : length (put_mid end k all buf) ≡ length (take end all) + length (buf ++ post_of end k all) =
+    length-append (take end all) (buf ++ post_of end k all) in
     let len : v.len ≡ length v.items = v.ok.0 in
     with_items_is v (put_mid end k all buf) (omega (arith, ap length same))
 
 -- the first n of the bytes that were put behind have joined
-pub grown : (xs ys : List ℕ) (start end k n : ℕ) → start ≤ end → end ≤ length xs → n ≤ length ys → slice_range (put_mid end k xs ys) start (end + n) ≡ slice_range xs start end ++ take n ys
+pub grown : (xs ys : List ℕ) (start end k n : ℕ) → start ≤ end → end ≤ length xs → n ≤ length ys → slice_range (put_mid end k xs ys) start (end + n)
+    ≡ slice_range xs start end ++ take n ys
 grown xs ys start end k n ordered within fits =
     let front = length-take-le end xs within in
     let held = drop start (take end xs) in

@@ -2,7 +2,8 @@
 use Rattle.std.proofs.Common.{◌≡◌, ◌∙◌, ℕ, Bool, List, [], Option, None, Some, IfNone, ap, codes, refl, subst, true}
 use Rattle.std.specs.Prelude.{Box, option_map}
 use Rattle.std.specs.Box.{box_value}
-use Rattle.clap.specs.Words.{App, HasKind, HasMatchesOf, Row, Text, fault_of, is_simple, is_simple_and_free, subcommand_name_of, subcommand_of, subcommand_rows_of}
+use Rattle.clap.specs.Words.{App, HasKind, HasMatchesOf, Row, Text, fault_of, is_simple, is_simple_and_free, subcommand_name_of, subcommand_of}
+use Rattle.clap.specs.Words.{subcommand_rows_of}
 use Rattle.clap.specs.Simple.{subcommand_rows}
 use Rattle.clap.specs.declared.error.Error.{Error}
 use Rattle.clap.specs.declared.parser.matches.ArgMatches.{ArgMatches}
@@ -14,10 +15,12 @@ use Rattle.sno_io.specs.declared.jobs.Limits.{Limits}
 use Rattle.sno_io.specs.Commands.{HoldsJob, IsCheck, IsJobOf, IsRun, IsWays, snobol4}
 
 -- the command that a parse found, of that name and with these rows
-pub found_is : (m : ArgMatches) (name : Text) (rows : List Row) → Some name ≡ subcommand_name_of m → Some rows ≡ option_map (λ f. f.1) (subcommand_rows_of m) → subcommand_rows_of m ≡ Some (name, rows)
+pub found_is : (m : ArgMatches) (name : Text) (rows : List Row) → Some name ≡ subcommand_name_of m → Some rows ≡ option_map (λ f. f.1) (subcommand_rows_of m)
+    → subcommand_rows_of m ≡ Some (name, rows)
 found_is m name rows = go (out-ArgMatches m).subcommand
   where
-    go : {Z : Type 0} (o : Option (Box SubCommand Z)) → Some name ≡ option_map (λ b. (out-SubCommand (box_value b)).name.now) o → Some rows ≡ option_map (λ f. f.1) (subcommand_rows o) → subcommand_rows o ≡ Some (name, rows)
+    go : {Z : Type 0} (o : Option (Box SubCommand Z)) → Some name ≡ option_map (λ b. (out-SubCommand (box_value b)).name.now) o
+        → Some rows ≡ option_map (λ f. f.1) (subcommand_rows o) → subcommand_rows o ≡ Some (name, rows)
     go None e h = absurd (cc)
     go (Some b) e h = cc
 
@@ -33,7 +36,8 @@ no_run rows None refuted = go
     go (Ways anchored steps pattern subject) h = let is = h.0 in absurd (cc)
 
 -- where the rows hold no words of `check`, they hold no job of that name
-pub no_check : (rows : List Row) (o : Option Job) → IfNone o ((file : Text) → IsCheck rows file → ⊥) → IfNone o ((job : Job) → HoldsJob (Some (codes "check", rows)) job → ⊥)
+pub no_check : (rows : List Row) (o : Option Job) → IfNone o ((file : Text) → IsCheck rows file → ⊥)
+    → IfNone o ((job : Job) → HoldsJob (Some (codes "check", rows)) job → ⊥)
 no_check rows (Some job) refuted = tt
 no_check rows None refuted = go
   where
@@ -43,7 +47,8 @@ no_check rows None refuted = go
     go (Ways anchored steps pattern subject) h = let is = h.0 in absurd (cc)
 
 -- where the rows hold no words of `ways`, they hold no job of that name
-pub no_ways : (rows : List Row) (o : Option Job) → IfNone o ((anchored : Bool) (steps : ℕ) (pattern subject : Text) → IsWays rows anchored steps pattern subject → ⊥)
+pub no_ways : (rows : List Row) (o : Option Job)
+    → IfNone o ((anchored : Bool) (steps : ℕ) (pattern subject : Text) → IsWays rows anchored steps pattern subject → ⊥)
     → IfNone o ((job : Job) → HoldsJob (Some (codes "ways", rows)) job → ⊥)
 no_ways rows (Some job) refuted = tt
 no_ways rows None refuted = go
@@ -64,7 +69,8 @@ module _ (app : App) (words : List Text) (is : app ≡ snobol4) where
   pub refused : (e : Error) → (is_simple_and_free app ≡ true → HasKind (fault_of app words) e) → HasKind (fault_of snobol4 words) e
   refused e h = subst (λ (a : App). HasKind (fault_of a words) e) is (h (ap is_simple_and_free is ∙ simple_and_free))
 
-  pub job_held : (m : ArgMatches) (job : Job) → (is_simple_and_free app ≡ true → fault_of app words ≡ []) → HasMatchesOf app words m → HoldsJob (subcommand_rows_of m) job → IsJobOf words job
+  pub job_held : (m : ArgMatches) (job : Job) → (is_simple_and_free app ≡ true → fault_of app words ≡ []) → HasMatchesOf app words m
+      → HoldsJob (subcommand_rows_of m) job → IsJobOf words job
   job_held m job none matches h = (
     subst (λ (a : App). fault_of a words ≡ []) is (none (ap is_simple_and_free is ∙ simple_and_free)),
     subst (λ (f : Option (Text × List Row)). HoldsJob f job) ((matches (ap is_simple is ∙ simple)).1 ∙ ap (λ (a : App). subcommand_of a words) is) h,

@@ -1,5 +1,6 @@
 -- What a call of `next` gives, from what its parts do.
-use Rattle.std.proofs.Common.{◌≡◌, ℕ, ◌+◌, ◌<◌, ◌≤◌, ◌⊎◌, inl, inr, true, false, List, [], ◌++◌, length, take, drop, ap, ap₂, subst, sym, ◌∙◌, append_assoc, arith, refl, Option, Some, Result, Err}
+use Rattle.std.proofs.Common.{◌≡◌, ℕ, ◌+◌, ◌<◌, ◌≤◌, ◌⊎◌, inl, inr, true, false, List, [], ◌++◌, length, take, drop, ap, ap₂, subst, sym, ◌∙◌, append_assoc}
+use Rattle.std.proofs.Common.{arith, refl, Option, Some, Result, Err}
 use Rattle.std.specs.Prelude.{Contains}
 use Rattle.std.proofs.lemmas.Bool.{both_ways}
 use Rattle.std.proofs.lemmas.List.{length-append, length-take-le}
@@ -14,7 +15,8 @@ use Rattle.sno_io.proofs.Bytes.{consumes_then}
 use Rattle.sno_io.proofs.FirstLines.{has_feed, line_length-le, line_length-whole, next_last, next_whole}
 
 -- a further read, before which the end was not told
-pub joins_more : (a b c : Option (List ℕ)) (old mid new : Reading) → Joins a b old mid → mid.told_end ≡ false → (xs : List ℕ) → Consumes b c xs → new.held ≡ mid.held ++ xs → Joins a c old new
+pub joins_more : (a b c : Option (List ℕ)) (old mid new : Reading) → Joins a b old mid → mid.told_end ≡ false → (xs : List ℕ) → Consumes b c xs
+    → new.held ≡ mid.held ++ xs → Joins a c old new
 joins_more a b c old mid new j open_end xs k e = record {
   given = j.given ++ xs;
   consumed = consumes_then a b c j.given xs j.consumed k;
@@ -23,7 +25,8 @@ joins_more a b c old mid new j open_end xs k e = record {
 }
 
 -- where more is wanted, the call began with no line feed held and no end told
-pub still_open : (a b : Option (List ℕ)) (old new : Reading) → Joins a b old new → line_length new.held ≡ length new.held → new.told_end ≡ false → (old.told_end ≡ true) ⊎ Contains old.held 10 → ⊥
+pub still_open : (a b : Option (List ℕ)) (old new : Reading) → Joins a b old new → line_length new.held ≡ length new.held → new.told_end ≡ false
+    → (old.told_end ≡ true) ⊎ Contains old.held 10 → ⊥
 still_open a b old new j none open_end (inl t) = both_ways new.told_end open_end (j.ended t).1
 still_open a b old new j none open_end (inr feed) =
     let first = has_feed old.held feed in
@@ -32,7 +35,8 @@ still_open a b old new j none open_end (inr feed) =
     absurd (omega arith)
 
 -- the line that is handed out
-pub handed : (reading : Reading) (line rest more : List ℕ) (len : ℕ) → len ≡ line_length reading.held → IsSettled len reading → len ≤ 1000000 → 0 < length reading.held → line ≡ take len reading.held → rest ≡ drop (len + 1) reading.held
+pub handed : (reading : Reading) (line rest more : List ℕ) (len : ℕ) → len ≡ line_length reading.held → IsSettled len reading → len ≤ 1000000
+    → 0 < length reading.held → line ≡ take len reading.held → rest ≡ drop (len + 1) reading.held
     → (reading.told_end ≡ true → more ≡ []) → (next_line (reading.held ++ more) ≡ Some (line, rest ++ more)) × (length line ≤ 1000000)
 handed reading line rest more len is settled short some front back nothing = (go settled ∙ ap₂ (λ l r. Some (l, r ++ more)) (sym same) (sym behind), size)
   where
@@ -51,7 +55,8 @@ handed reading line rest more len is settled short some front back nothing = (go
     go (inr (inr told)) = next_last reading.held more some (nothing told)
 
 -- what was read and what is handed out
-pub reads_line : (a b : Option (List ℕ)) (old mid new : Reading) (r : Result (Option (Vec ℕ Global)) LineError) → Joins a b old mid → new.told_end ≡ mid.told_end
+pub reads_line : (a b : Option (List ℕ)) (old mid new : Reading) (r : Result (Option (Vec ℕ Global)) LineError) → Joins a b old mid
+    → new.told_end ≡ mid.told_end
     → ((more : List ℕ) → (mid.told_end ≡ true → more ≡ []) → GivesLine r (mid.held ++ more) (new.held ++ more)) → ReadsLine a b old new r
 reads_line a b old mid new r j told gives = record {
   given = j.given;

@@ -1,7 +1,8 @@
 -- The program's commands, as `clap` knows them, and the job that the words hold.
 use Rattle.std.specs.Prelude.{◌≡◌, ℕ, ◌≤◌, ◌⊎◌, Bool, List, [], Option, None, Some, MatchOption, codes, true, false}
 use Rattle.std.specs.Str.Parse.{IsNumeral, digits_value, without_leading_plus}
-use Rattle.clap.specs.Words.{App, HasKind, Row, Rule, Text, app_of, fault_of, first_of, new_app, new_rule, one_of, subcommand_of, with_rule, with_subcommand}
+use Rattle.clap.specs.Words.{App, HasKind, Row, Rule, Text, app_of, fault_of, first_of, new_app, new_rule, one_of}
+use Rattle.clap.specs.Words.{subcommand_of, with_rule, with_subcommand}
 use Rattle.clap.specs.Simple.{on_top}
 use Rattle.clap.specs.declared.builder.action.ArgAction.TheVariants.{Set, SetTrue}
 use Rattle.clap.specs.declared.builder.value_parser.ValueParser.{ValueParser}
@@ -23,7 +24,12 @@ word_rule id = record (new_rule id) { action = Some Set; required = true }
 
 -- an option `--id N`
 abbrev pub number_rule : Text → ValueParser → Rule
-number_rule id parser = record (new_rule id) { long = Some id; action = Some Set; value_names = 1; parser = Some parser }
+number_rule id parser = record (new_rule id) {
+  long = Some id;
+  action = Some Set;
+  value_names = 1;
+  parser = Some parser;
+}
 
 -- a flag `--id`
 abbrev pub flag_rule : Text → Rule
@@ -52,7 +58,8 @@ ways_app =
 
 -- the program with no command, which wants one; it has a version to tell
 abbrev pub bare_app : App
-bare_app = on_top (λ s. record s { has_version = true; arg_required_else_help = true; subcommand_required = true }) (new_app (codes "snobol4"))
+bare_app = on_top (λ s. record s { has_version = true; arg_required_else_help = true; subcommand_required = true })
+    (new_app (codes "snobol4"))
 
 -- the program with its commands
 abbrev pub snobol4 : App
@@ -68,7 +75,8 @@ pub record Makes (c : Command) (app : App) : Type 0 where
 -- The number of an option: what its text says, or the default where it is absent; in its range.
 pub record IsNumber (least most default : ℕ) (id : Text) (rows : List Row) (n : ℕ) : Type 0 where
   pub absent : one_of id rows ≡ None → n ≡ default
-  pub given : (text : Text) → one_of id rows ≡ Some text → IsNumeral 10 (without_leading_plus text) × (n ≡ digits_value 10 (without_leading_plus text))
+  pub given : (text : Text) → one_of id rows ≡ Some text → IsNumeral 10 (without_leading_plus text)
+      × (n ≡ digits_value 10 (without_leading_plus text))
   pub least_holds : least ≤ n
   pub most_holds : n ≤ most
 
@@ -99,7 +107,8 @@ pub record IsWays (rows : List Row) (anchored : Bool) (steps : ℕ) (pattern sub
 abbrev pub IsJob : Text → List Row → Job → Type 0
 IsJob name rows (Run file limits) = (name ≡ codes "run") × IsRun rows file.now limits
 IsJob name rows (Check file) = (name ≡ codes "check") × IsCheck rows file.now
-IsJob name rows (Ways anchored steps pattern subject) = (name ≡ codes "ways") × IsWays rows anchored steps pattern.now subject.now
+IsJob name rows (Ways anchored steps pattern subject) =
+    (name ≡ codes "ways") × IsWays rows anchored steps pattern.now subject.now
 
 -- the job of what was found: the name of a command, and the rows of its words
 abbrev pub HoldsJob : Option (Text × List Row) → Job → Type 0
@@ -109,9 +118,11 @@ HoldsJob found job = MatchOption found ⊥ (λ f. IsJob f.0 f.1 job)
 abbrev pub IsJobOf : List Text → Job → Type 0
 IsJobOf words job = (fault_of snobol4 words ≡ []) × HoldsJob (subcommand_of snobol4 words) job
 
--- memory ran out, the words ask for help or something is wrong with them, of which the error has the kind, or they hold no job
+-- memory ran out, the words ask for help or something is wrong
+-- with them, of which the error has the kind, or they hold no job
 abbrev pub IsRefusalOf : List Text → Error → Type 0
-IsRefusalOf words e = HasKind (fault_of snobol4 words) e ⊎ ((job : Job) → HoldsJob (subcommand_of snobol4 words) job → ⊥)
+IsRefusalOf words e = HasKind (fault_of snobol4 words) e
+    ⊎ ((job : Job) → HoldsJob (subcommand_of snobol4 words) job → ⊥)
 
 -- ---- where they hold none
 

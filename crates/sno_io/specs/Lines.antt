@@ -1,5 +1,6 @@
 -- The lines of an input.
-use Rattle.std.specs.Prelude.{◌≡◌, ℕ, ◌+◌, ◌<◌, ◌≤◌, ◌==◌, Bool, true, List, [], ◌∷◌, ◌++◌, length, take, drop, Option, None, Some, Result, Ok, Err}
+use Rattle.std.specs.Prelude.{◌≡◌, ℕ, ◌+◌, ◌<◌, ◌≤◌, ◌==◌, Bool, true, List, [], ◌∷◌, ◌++◌, length, take, drop, Option}
+use Rattle.std.specs.Prelude.{None, Some, Result, Ok, Err}
 use Rattle.std.specs.List.{position_or_len}
 use Rattle.std.specs.Io.KnownBytes.{Consumes}
 use Rattle.std.specs.declared.vec.Vec.{Vec}
@@ -50,8 +51,10 @@ GivesLine (Err NoMemory) text rest = rest ≡ text
 -- The next line of an input, where the reader has these bytes left before and after. It gave some bytes, none where it
 -- had told its end. Whatever may still come behind them, nothing where the end is told, the answer is of all that was
 -- held, was given and may come, and what is held then stands behind it.
-pub record ReadsLine (before after : Option (List ℕ)) (old new : Reading) (result : Result (Option (Vec ℕ Global)) LineError) : Type 0 where
+pub record ReadsLine (before after : Option (List ℕ)) (old new : Reading)
+    (result : Result (Option (Vec ℕ Global)) LineError) : Type 0 where
   pub given : List ℕ
   pub consumed : Consumes before after given
   pub ended : old.told_end ≡ true → (given ≡ []) × (new.told_end ≡ true)
-  pub line : (more : List ℕ) → (new.told_end ≡ true → more ≡ []) → GivesLine result (old.held ++ given ++ more) (new.held ++ more)
+  pub line : (more : List ℕ) → (new.told_end ≡ true → more ≡ [])
+      → GivesLine result (old.held ++ given ++ more) (new.held ++ more)

@@ -1,5 +1,6 @@
 //! Bytes that are read ahead of their use.
-ghost use Rattle.std.specs.Prelude.{◌≡◌, ℕ, ◌<◌, ◌≤◌, ◌↔◌, ◌==◌, ◌++◌, false, true, [], List, drop, length, vec_len, IfOk, IsErrOf, OnOk};
+ghost use Rattle.std.specs.Prelude.{◌≡◌, ℕ, ◌<◌, ◌≤◌, ◌↔◌, ◌==◌, ◌++◌, false, true, [], List, drop, length, vec_len};
+ghost use Rattle.std.specs.Prelude.{IfOk, IsErrOf, OnOk};
 ghost use Rattle.std.specs.Io.KnownBytes.{Consumes};
 
 use crate::devices::Source;

@@ -10,7 +10,8 @@ pub struct DeviceFault;
 
 /// What bytes are read from. The caller owes that it has not failed yet and that there is room for a byte.
 pub trait Source {
-    /// What it tells: the bytes that it has left to give, whether its last read told the end, and whether one has failed.
+    /// What it tells: the bytes that it has left to give, whether
+    /// its last read told the end, and whether one has failed.
     ghost feed: { Self → Feed };
 
     /// Puts bytes at the front of `buf` and answers how many; 0 tells the end. An `Err` is a failure, and gives none.

@@ -1,5 +1,6 @@
 //! The lines of an input.
-ghost use Rattle.std.specs.Prelude.{◌≡◌, ◌↔◌, ◌⊎◌, ℕ, ◌≤◌, ◌++◌, [], false, length, true, Contains, IfErr, IfOk, IfSome, IsErrOf, List, None, OnOk, Some};
+ghost use Rattle.std.specs.Prelude.{◌≡◌, ◌↔◌, ◌⊎◌, ℕ, ◌≤◌, ◌++◌, [], false, length, true, Contains, IfErr, IfOk};
+ghost use Rattle.std.specs.Prelude.{IfSome, IsErrOf, List, None, OnOk, Some};
 ghost use Rattle.sno_io.specs.Lines.{line_length, GivesLine, ReadsLine};
 ghost use Rattle.sno_io.specs.Held.{IsSettled, Joins};
 
@@ -44,7 +45,8 @@ impl From<AllocError> for LineError {
     }
 }
 
-/// How many bytes stand before the first line feed, or in all where there is none. It is not among the first `searched`.
+/// How many bytes stand before the first line feed, or in all
+/// where there is none. It is not among the first `searched`.
 fn line_end(bytes: &[u8], searched: usize) -> usize
     requires { searched ≤ line_length bytes.now }
     ensures { result ≡ line_length bytes.now }
@@ -96,26 +98,30 @@ impl Lines {
         self.buffer.held()
     }
 
-    /// The next line without its line feed, `None` at the end: what a use of `INPUT` reads, by the book's chapter on input
-    /// and output. A line ends at a line feed alone, a carriage return is a byte of it, and a last line without a line
-    /// feed counts: by this profile.
+    /// The next line without its line feed, `None` at the end: what a use of `INPUT` reads, by the book's chapter on
+    /// input and output. A line ends at a line feed alone, a carriage return is a byte of it, and a last line without a
+    /// line feed counts: by this profile.
     ///
-    /// `TooLong` comes where the next line has more than 1,000,000 bytes, `ReadFault` where the reader fails in the call,
-    /// and `NoMemory` where memory is refused; what was read stays held. After an `Err` each call gives it again, asks
-    /// nothing and changes nothing. The reader is asked only where no line feed is held, and no more once it has told its
-    /// end.
+    /// `TooLong` comes where the next line has more than 1,000,000 bytes, `ReadFault` where the reader fails in the
+    /// call, and `NoMemory` where memory is refused; what was read stays held. After an `Err` each call gives it again,
+    /// asks nothing and changes nothing. The reader is asked only where no line feed is held, and no more once it has
+    /// told its end.
     ///
-    /// The caller owes a reader that has not failed, and that of the call before as that left it; after an `Err` neither.
+    /// The caller owes a reader that has not failed, and that of
+    /// the call before as that left it; after an `Err` neither.
     pub fn next<R: Source>(&mut self, reader: &mut R) -> Result<Option<Vec<u8>>, LineError>
         requires sound { self.old.stopped ≡ None → (R.feed reader.old).broken ≡ false }
         requires same { self.old.stopped ≡ None → self.old.told_end ≡ true → (R.feed reader.old).at_end ≡ true }
-        ensures line { self.old.stopped ≡ None → ReadsLine (R.feed reader.old).left (R.feed reader.new).left self.old self.new result }
+        ensures line { self.old.stopped ≡ None → ReadsLine (R.feed reader.old).left (R.feed reader.new).left
+            self.old self.new result }
         ensures unasked { (self.old.told_end ≡ true) ⊎ Contains self.old.held 10 → reader.new ≡ reader.old }
         ensures ok { OnOk result (self.new.stopped ≡ None) }
         ensures stops { IfErr result (λ e. self.new.stopped ≡ Some e) }
-        ensures again { IfSome self.old.stopped (λ e. (result ≡ Err e) × (self.new ≡ self.old) × (reader.new ≡ reader.old)) }
+        ensures again { IfSome self.old.stopped (λ e. (result ≡ Err e) × (self.new ≡ self.old)
+            × (reader.new ≡ reader.old)) }
         ensures sound { OnOk result ((R.feed reader.new).broken ≡ false) }
-        ensures fault { self.old.stopped ≡ None → (IsErrOf result LineError.ReadFault ↔ ((R.feed reader.new).broken ≡ true)) }
+        ensures fault { self.old.stopped ≡ None
+            → (IsErrOf result LineError.ReadFault ↔ ((R.feed reader.new).broken ≡ true)) }
         ensures same { self.old.stopped ≡ None → self.new.told_end ≡ true → (R.feed reader.new).at_end ≡ true }
     {
         if let Some(error) = self.stopped {
@@ -146,8 +152,8 @@ impl Lines {
         Ok(line)
     }
 
-    /// Reads until a line feed is held, more bytes are held than a line may have, or the end is told. The answer says how
-    /// many bytes stand before the line feed, or in all where there is none.
+    /// Reads until a line feed is held, more bytes are held than a line may have, or the end is told. The answer says
+    /// how many bytes stand before the line feed, or in all where there is none.
     fn fill<R: Source>(&mut self, reader: &mut R) -> Result<usize, LineError>
         requires sound { (R.feed reader.old).broken ≡ false }
         requires same { self.old.told_end ≡ true → (R.feed reader.old).at_end ≡ true }

@@ -4,7 +4,9 @@ ghost use Rattle.clap.specs.Words.{app_of, found_of, kind_of, rows_of, rule_of, 
 ghost use Rattle.clap.specs.declared.builder.value_parser.ValueParser.TheVariants as parsers;
 ghost use Rattle.sno_io.specs.declared.jobs.Job.{Job};
 ghost use Rattle.sno_io.specs.declared.jobs.Limits.{Limits};
-ghost use Rattle.sno_io.specs.Commands.{check_app, flag_rule, number_rule, run_app, snobol4, status, ways_app, word_rule, HoldsJob, IsCheck, IsJob, IsJobOf, IsNumber, IsRefusalOf, IsRun, IsWays, Makes};
+ghost use Rattle.sno_io.specs.Commands.{check_app, flag_rule, number_rule, run_app, snobol4, status, ways_app};
+ghost use Rattle.sno_io.specs.Commands.{word_rule, HoldsJob, IsCheck, IsJob, IsJobOf, IsNumber, IsRefusalOf, IsRun};
+ghost use Rattle.sno_io.specs.Commands.{IsWays, Makes};
 
 use crate::help;
 use crate::jobs::{Job, Limits};
@@ -172,7 +174,8 @@ fn job_of<'a>(matches: &ArgMatches<'a>) -> Option<Job<'a>>
 /// The job of the matches of the command `run`, None where they hold none.
 fn run_of<'a>(found: &ArgMatches<'a>) -> Option<Job<'a>>
     ensures some { IfSome result (IsJob (codes "run") (rows_of (found_of found.now))) }
-    ensures none { IfNone result ((file : List ℕ) (limits : Limits) → IsRun (rows_of (found_of found.now)) file limits → ⊥) }
+    ensures none { IfNone result ((file : List ℕ) (limits : Limits)
+        → IsRun (rows_of (found_of found.now)) file limits → ⊥) }
 {
     let statements = number_of(found, "statements", 1, MOST_STATEMENTS, DEFAULT_STATEMENTS)?;
     let match_steps = steps_of(found, "match-steps")?;

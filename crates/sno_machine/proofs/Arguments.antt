@@ -1,5 +1,6 @@
 -- Functions on their arguments.
-use Rattle.std.proofs.Common.{◌≡◌, ℕ, ◌-◌, arith, ℤ, pos, negsuc, List, [], ◌∷◌, refl, ap, sym, ◌∙◌, subst, map, take, drop, min, slice_set, length, Option, None, Some, Result, Ok, Err}
+use Rattle.std.proofs.Common.{◌≡◌, ℕ, ◌-◌, arith, ℤ, pos, negsuc, List, [], ◌∷◌, refl, ap, sym, ◌∙◌, subst, map, take, drop, min, slice_set, length, Option}
+use Rattle.std.proofs.Common.{None, Some, Result, Ok, Err}
 use Rattle.std.specs.List.{AllByRecursion}
 use Rattle.std.proofs.lemmas.List.{take_all}
 use Rattle.sno_value.specs.declared.ids.PatId.{PatId}
@@ -35,7 +36,8 @@ set_value kind [] = refl
 set_value kind (byte ∷ bytes) = refl
 
 -- an argument that is no expression makes the primitive at once
-pub primitive_at_once : (kind : PrimitiveKind) (nodes : List Node) (x : Stored) → ((expression : ExprId) → x ≡ stored.Expr expression → ⊥) → primitive_value kind (shown nodes x) ≡ as_value (primitive kind (shown nodes x))
+pub primitive_at_once : (kind : PrimitiveKind) (nodes : List Node) (x : Stored) → ((expression : ExprId) → x ≡ stored.Expr expression → ⊥)
+    → primitive_value kind (shown nodes x) ≡ as_value (primitive kind (shown nodes x))
 primitive_at_once kind nodes (stored.Str bytes) isnt = refl
 primitive_at_once kind nodes (stored.Int number) isnt = refl
 primitive_at_once kind nodes (stored.Pat id) isnt = refl
@@ -46,24 +48,29 @@ primitive_at_once kind nodes (stored.Table id) isnt = refl
 primitive_at_once kind nodes (stored.Data id) isnt = refl
 
 -- a pattern over that of a value
-pub body_refused : (over : Pattern → Pattern) (x : Value) (a b : State) (e : Exit) → Does {X = PatId} tree_of IsPatternOf (as_pattern x) a b (Err e) → Does {X = Stored} shown IsValueOf (and_then (as_pattern x) (λ p. makes_value (over p))) a b (Err e)
+pub body_refused : (over : Pattern → Pattern) (x : Value) (a b : State) (e : Exit) → Does {X = PatId} tree_of IsPatternOf (as_pattern x) a b (Err e)
+    → Does {X = Stored} shown IsValueOf (and_then (as_pattern x) (λ p. makes_value (over p))) a b (Err e)
 body_refused over x a b e h = then_err tree_of IsPatternOf shown IsValueOf (as_pattern x) (λ p. makes_value (over p)) a b e h
 
-pub body_made : (over : Pattern → Pattern) (x : Value) (a b c : State) (id : PatId) (r : Result Stored Exit) → Does tree_of IsPatternOf (as_pattern x) a b (Ok id) → Does shown IsValueOf (makes_value (over (tree_of b.nodes id))) b c r →
+pub body_made : (over : Pattern → Pattern) (x : Value) (a b c : State) (id : PatId) (r : Result Stored Exit)
+    → Does tree_of IsPatternOf (as_pattern x) a b (Ok id) → Does shown IsValueOf (makes_value (over (tree_of b.nodes id))) b c r →
     Does shown IsValueOf (and_then (as_pattern x) (λ p. makes_value (over p))) a c r
 body_made over x a b c id r h k = then_got tree_of IsPatternOf shown IsValueOf (as_pattern x) (λ p. makes_value (over p)) a b c id r h k
 
 -- the second argument stays where the first is taken out
-pub second_stays : (nodes : List Node) (v : Stored) (xs ys : List Stored) → ys ≡ slice_set xs 0 v → argument (map (shown nodes) ys) 1 ≡ argument (map (shown nodes) xs) 1
+pub second_stays : (nodes : List Node) (v : Stored) (xs ys : List Stored) → ys ≡ slice_set xs 0 v → argument (map (shown nodes) ys) 1
+    ≡ argument (map (shown nodes) xs) 1
 second_stays nodes v [] ys h = rw h refl
 second_stays nodes v (x ∷ xs) ys h = rw h refl
 
-pub third_stays : (nodes : List Node) (v w : Stored) (xs ys zs : List Stored) → ys ≡ slice_set xs 0 v → zs ≡ slice_set ys 1 w → argument (map (shown nodes) zs) 2 ≡ argument (map (shown nodes) xs) 2
+pub third_stays : (nodes : List Node) (v w : Stored) (xs ys zs : List Stored) → ys ≡ slice_set xs 0 v → zs ≡ slice_set ys 1 w
+    → argument (map (shown nodes) zs) 2 ≡ argument (map (shown nodes) xs) 2
 third_stays nodes v w [] ys zs h k = rw (k, h) refl
 third_stays nodes v w (x ∷ []) ys zs h k = rw (k, h) refl
 third_stays nodes v w (x ∷ y ∷ xs) ys zs h k = rw (k, h) refl
 
-pub second_known : (nodes : List Node) (v : Stored) (xs ys : List Stored) → ys ≡ slice_set xs 0 v → IsValueOf nodes v → AllByRecursion (IsValueOf nodes) xs → AllByRecursion (IsValueOf nodes) ys
+pub second_known : (nodes : List Node) (v : Stored) (xs ys : List Stored) → ys ≡ slice_set xs 0 v → IsValueOf nodes v → AllByRecursion (IsValueOf nodes) xs
+    → AllByRecursion (IsValueOf nodes) ys
 second_known nodes v [] ys h k all = rw h tt
 second_known nodes v (x ∷ xs) ys h k all = rw h (k, all.1)
 
@@ -83,13 +90,16 @@ behind_known : (nodes : List Node) (xs : List Stored) → AllByRecursion (IsValu
 behind_known nodes [] h = tt
 behind_known nodes (x ∷ xs) h = h.1
 
-pub subscripts_known : (nodes : List Node) (v : Stored) (xs ys : List Stored) (at : ℕ) → ys ≡ slice_set xs 0 v → at ≡ min (length ys) 1 → AllByRecursion (IsValueOf nodes) xs → AllByRecursion (IsValueOf nodes) (take (length ys - at) (drop at ys))
+pub subscripts_known : (nodes : List Node) (v : Stored) (xs ys : List Stored) (at : ℕ) → ys ≡ slice_set xs 0 v → at ≡ min (length ys) 1
+    → AllByRecursion (IsValueOf nodes) xs → AllByRecursion (IsValueOf nodes) (take (length ys - at) (drop at ys))
 subscripts_known nodes v xs ys at h k all = subst (AllByRecursion (IsValueOf nodes)) (sym (behind v xs ys at h k)) (behind_known nodes xs all)
 
 -- what is done with the first value and those behind it, as the code takes them
-pub on_item : (act : Value → List Value → Action Value) (nodes : List Node) (v x : Stored) (xs ys : List Stored) (at : ℕ) (a b : State) (r : Result Stored Exit) → shown nodes x ≡ argument (map (shown nodes) xs) 0
+pub on_item : (act : Value → List Value → Action Value) (nodes : List Node) (v x : Stored) (xs ys : List Stored) (at : ℕ) (a b : State) (r : Result Stored Exit)
+    → shown nodes x ≡ argument (map (shown nodes) xs) 0
     → ys ≡ slice_set xs 0 v → at ≡ min (length ys) 1 → Does shown IsValueOf (act (shown nodes x) (map (shown nodes) (take (length ys - at) (drop at ys)))) a b r
     → Does shown IsValueOf (act (argument (map (shown nodes) xs) 0) (rest (map (shown nodes) xs))) a b r
 on_item act nodes v x xs ys at a b r e h k did =
-    let seen : map (shown nodes) (take (length ys - at) (drop at ys)) ≡ rest (map (shown nodes) xs) = ap (map (shown nodes)) (behind v xs ys at h k) ∙ behind_seen nodes xs in
+    let seen : map (shown nodes) (take (length ys - at) (drop at ys)) ≡ rest (map (shown nodes) xs) =
+    ap (map (shown nodes)) (behind v xs ys at h k) ∙ behind_seen nodes xs in
     subst (λ (m : Action Value). Does shown IsValueOf m a b r) (λ i. act (e i) (seen i)) did

@@ -19,7 +19,8 @@ tree_stays old new id g h = ap (λ nodes. tree nodes id) g.1 ∙ tree-append old
 pub number_stays : (old new : List Node) (id : ℕ) → Grows old new → id < length old → id < length new
 number_stays old new id g h = rw g.1 (omega (arith, length-append old g.0))
 
-last_tree : (before : List Pattern) (nodes : List Node) (node : Node) → get_or (trees_onto before (nodes ++ node ∷ [])) (length before + length nodes) no_pattern ≡ tree_over (trees_onto before nodes) node
+last_tree : (before : List Pattern) (nodes : List Node) (node : Node) → get_or (trees_onto before (nodes ++ node ∷ [])) (length before + length nodes)
+    no_pattern ≡ tree_over (trees_onto before nodes) node
 last_tree before [] node =
     let e : length before + 0 ≡ length before = omega arith in
     rw e (get_or-append_seam before (tree_over before node) [] no_pattern)
@@ -28,7 +29,8 @@ last_tree before (x ∷ nodes) node =
     let e : length before + length (x ∷ nodes) ≡ length next + length nodes = omega (arith, length-append before (tree_over before x ∷ [])) in
     rw e (last_tree next nodes node)
 
-pub made : (node : Node) (a b : State) (id : PatId) → IsKnown a.nodes a.store → b ≡ record a { nodes = b.nodes } → Appends a.nodes b.nodes node id → Does tree_of IsPatternOf (makes (tree_over (trees_onto [] a.nodes) node)) a b (Ok id)
+pub made : (node : Node) (a b : State) (id : PatId) → IsKnown a.nodes a.store → b ≡ record a { nodes = b.nodes } → Appends a.nodes b.nodes node id
+    → Does tree_of IsPatternOf (makes (tree_over (trees_onto [] a.nodes) node)) a b (Ok id)
 made node a b id known only h =
     let room : nat_lt (length a.nodes) 4_000_000 ≡ true = lt-ltb (length a.nodes) 4_000_000 h.2 in
     let count : length b.nodes ≡ length a.nodes + 1 = ap length h.1 ∙ length-append a.nodes (node ∷ []) in

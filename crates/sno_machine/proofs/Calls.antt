@@ -1,5 +1,6 @@
 -- What the store's calls on functions do to the world.
-use Rattle.std.proofs.Common.{◌≡◌, ℕ, zero, suc, ◌+◌, ◌-◌, ◌≤◌, List, [], ◌∷◌, ◌++◌, length, map, replicate, refl, ap, sym, ◌∙◌, subst, arith, Bor, false, Option, None, Some, is_none, option_copied, Result, Ok, Err}
+use Rattle.std.proofs.Common.{◌≡◌, ℕ, zero, suc, ◌+◌, ◌-◌, ◌≤◌, List, [], ◌∷◌, ◌++◌, length, map, replicate, refl, ap, sym, ◌∙◌, subst, arith, Bor, false}
+use Rattle.std.proofs.Common.{Option, None, Some, is_none, option_copied, Result, Ok, Err}
 use Rattle.std.proofs.lemmas.List.{map-append, length-append}
 use Rattle.sno_value.specs.declared.ids.SymId.{SymId}
 use Rattle.sno_value.specs.declared.value.Value.{Value as Stored}
@@ -28,7 +29,8 @@ use Rattle.sno_machine.proofs.Outcomes.{grows_none, no_memory_does, gives_does, 
 use Rattle.sno_machine.proofs.Stores.{calls_untouched, store_untouched}
 
 -- what a call saves of the store is shown as what it saves of the world
-pub saved_shown : (nodes : List Node) (function : ℕ) (d : Definition) (values : List Stored) → shown_saved nodes (saved (stored.Str []) function d values) ≡ saved (Str []) function d (map (shown nodes) values)
+pub saved_shown : (nodes : List Node) (function : ℕ) (d : Definition) (values : List Stored) → shown_saved nodes (saved (stored.Str []) function d values)
+    ≡ saved (Str []) function d (map (shown nodes) values)
 saved_shown nodes function d values = saved_map (shown nodes) (stored.Str []) function d values
 
 -- DEFINE
@@ -37,17 +39,23 @@ pub nulls_shown : (nodes : List Node) (n : ℕ) → map (shown nodes) (replicate
 nulls_shown nodes zero = refl
 nulls_shown nodes (suc n) = ap (λ vs. Str [] ∷ vs) (nulls_shown nodes n)
 
-pub more_shown : (nodes : List Node) (values : List Stored) (n : ℕ) → map (shown nodes) (values ++ replicate n (stored.Str [])) ≡ map (shown nodes) values ++ replicate n (Str [])
+pub more_shown : (nodes : List Node) (values : List Stored) (n : ℕ) → map (shown nodes) (values ++ replicate n (stored.Str []))
+    ≡ map (shown nodes) values ++ replicate n (Str [])
 more_shown nodes values n = map-append (shown nodes) values (replicate n (stored.Str [])) ∙ ap (λ vs. map (shown nodes) values ++ vs) (nulls_shown nodes n)
 
-pub defined : (s : State) (new : Contents) (text entry : List ℕ) (done : Unit {0}) → IsDefined text entry s.store new (Ok done) → Does itself any (defines text entry) s (record s { store = new }) (Ok done)
+pub defined : (s : State) (new : Contents) (text entry : List ℕ) (done : Unit {0}) → IsDefined text entry s.store new (Ok done)
+    → Does itself any (defines text entry) s (record s { store = new }) (Ok done)
 defined s new text entry done h = record {
   grows = grows_none s.nodes;
   meets = λ more.
       ap (λ (r : Result (List (List ℕ) × List Function) ℕ). after_definition r (world s more)) h.0
       ∙ ((λ i. record {
         ending = Got tt;
-        world = record (world s more) { symbols = new.symbols; functions = new.functions; values = sym (more_shown s.nodes s.store.values (length new.symbols - length s.store.symbols)) i };
+        world = record (world s more) {
+          symbols = new.symbols;
+          functions = new.functions;
+          values = sym (more_shown s.nodes s.store.values (length new.symbols - length s.store.symbols)) i;
+        };
         wrote = [];
       })
       ∙ ap (λ (c : Contents). record { ending = Got tt; world = world (record s { store = c }) more; wrote = [] }) (sym h.1));
@@ -55,7 +63,8 @@ defined s new text entry done h = record {
   unread = calls_untouched s new (ap (λ (c : Contents). c.calls) h.1);
 }
 
-refused_with : (s : State) (new : Contents) (text entry : List ℕ) (code : ℕ) → new ≡ s.store → with_definition text entry s.store.symbols s.store.functions ≡ Err code
+refused_with : (s : State) (new : Contents) (text entry : List ℕ) (code : ℕ) → new ≡ s.store
+    → with_definition text entry s.store.symbols s.store.functions ≡ Err code
     → Does {X = Unit {0}} itself any (defines text entry) s (record s { store = new }) (Err (Halt (HasError code)))
 refused_with s new text entry code same is =
     let ended : (more : List ℕ) → defines text entry (world s more) ≡ record { ending = Stops (Error code); world = world s more; wrote = [] } =
@@ -68,29 +77,36 @@ refused_with s new text entry code same is =
       unread = store_untouched s new same;
     }
 
-pub not_defined : (s : State) (new : Contents) (text entry : List ℕ) (e : StoreError) → IsDefined text entry s.store new (Err e) → Does {X = Unit {0}} itself any (defines text entry) s (record s { store = new }) (Err (exit_of_store e))
+pub not_defined : (s : State) (new : Contents) (text entry : List ℕ) (e : StoreError) → IsDefined text entry s.store new (Err e)
+    → Does {X = Unit {0}} itself any (defines text entry) s (record s { store = new }) (Err (exit_of_store e))
 not_defined s new text entry NullName h = refused_with s new text entry 6 h.1 h.0
 not_defined s new text entry Full h = refused_with s new text entry 9 h.1 h.0
 not_defined s new text entry WrongType h = refused_with s new text entry 1 h.1 h.0
 not_defined s new text entry BadPrototype h = refused_with s new text entry 12 h.1 h.0
 not_defined s new text entry CallLevel h = refused_with s new text entry 10 h.1 h.0
-not_defined s new text entry NoMemory h = no_memory_does itself any (defines text entry) s (record s { store = new }) (grows_none s.nodes) (store_untouched s new h.1)
+not_defined s new text entry NoMemory h = no_memory_does itself any (defines text entry) s (record s { store = new }) (grows_none s.nodes)
+    (store_untouched s new h.1)
 
-pub defined_known : (nodes : List Node) (old new : Contents) (text entry : List ℕ) (done : Unit {0}) → length text ≤ 1_000_000 → IsKnown nodes old → IsDefined text entry old new (Ok done) → IsKnown nodes new
+pub defined_known : (nodes : List Node) (old new : Contents) (text entry : List ℕ) (done : Unit {0}) → length text ≤ 1_000_000 → IsKnown nodes old
+    → IsDefined text entry old new (Ok done) → IsKnown nodes new
 defined_known nodes old new text entry done short k h = subst (IsKnown nodes) (sym h.1) (record {
   symbols = defined_short 1_000_000 text entry old.symbols old.functions (new.symbols, new.functions) h.0 short k.symbols;
   numbered = defined_numbered text entry old.symbols old.functions (new.symbols, new.functions) h.0 k.numbered;
-  values = all_append (IsValueOf nodes) old.values (replicate (length new.symbols - length old.symbols) (stored.Str [])) k.values (all_same (IsValueOf nodes) (length new.symbols - length old.symbols) (stored.Str []) (omega arith));
+  values = all_append (IsValueOf nodes) old.values (replicate (length new.symbols - length old.symbols) (stored.Str [])) k.values
+      (all_same (IsValueOf nodes) (length new.symbols - length old.symbols) (stored.Str []) (omega arith));
   objects = k.objects;
   types = k.types;
   calls = k.calls;
 })
 
 -- the null string behind it
-pub defined_null : (act : Action Unit) (a b : State) (done : Unit {0}) → Does itself any act a b (Ok done) → Does shown IsValueOf (and_then act (λ done. gives (Str []))) a b (Ok (stored.Str []))
-defined_null act a b done h = then_got itself any shown IsValueOf act (λ done. gives (Str [])) a b b done (Ok (stored.Str [])) h (gives_does shown IsValueOf b (stored.Str []) (Str []) refl (omega arith))
+pub defined_null : (act : Action Unit) (a b : State) (done : Unit {0}) → Does itself any act a b (Ok done)
+    → Does shown IsValueOf (and_then act (λ done. gives (Str []))) a b (Ok (stored.Str []))
+defined_null act a b done h = then_got itself any shown IsValueOf act (λ done. gives (Str [])) a b b done (Ok (stored.Str [])) h
+    (gives_does shown IsValueOf b (stored.Str []) (Str []) refl (omega arith))
 
-pub not_defined_null : (act : Action Unit) (a b : State) (e : Exit) → Does {X = Unit {0}} itself any act a b (Err e) → Does {X = Stored} shown IsValueOf (and_then act (λ done. gives (Str []))) a b (Err e)
+pub not_defined_null : (act : Action Unit) (a b : State) (e : Exit) → Does {X = Unit {0}} itself any act a b (Err e)
+    → Does {X = Stored} shown IsValueOf (and_then act (λ done. gives (Str []))) a b (Err e)
 not_defined_null act a b e h = then_err {X = Unit {0}} itself any shown IsValueOf act (λ done. gives (Str [])) a b e h
 
 -- a definition that is there
@@ -100,10 +116,12 @@ some_copied (Some d) h = (d.now, refl)
 
 -- calls
 
-pub enters : (s : State) (new : Contents) (function : SymId) (d : Definition) (arguments : List Stored) (done : Unit {0}) → IsKnown s.nodes s.store → IsEntered function d arguments s.store new (Ok done)
+pub enters : (s : State) (new : Contents) (function : SymId) (d : Definition) (arguments : List Stored) (done : Unit {0}) → IsKnown s.nodes s.store
+    → IsEntered function d arguments s.store new (Ok done)
     → Enters function.0 d (map (shown s.nodes) arguments) s (record s { store = new }) (Ok done)
 enters s new function d arguments done k h =
-    let one : length (s.store.calls ++ saved (stored.Str []) function.0 d s.store.values ∷ []) ≡ length s.store.calls + 1 = length-append s.store.calls (saved (stored.Str []) function.0 d s.store.values ∷ []) in
+    let one : length (s.store.calls ++ saved (stored.Str []) function.0 d s.store.values ∷ []) ≡ length s.store.calls + 1 =
+    length-append s.store.calls (saved (stored.Str []) function.0 d s.store.values ∷ []) in
     record {
       nodes = refl;
       reading = refl;
@@ -116,7 +134,8 @@ enters s new function d arguments done k h =
           ∙ (λ i. record (world s more) { values = sym (entered_map (shown s.nodes) (stored.Str []) function.0 d arguments s.store.values) i; level = one i });
     }
 
-pub not_entered : (s : State) (new : Contents) (function : SymId) (d : Definition) (arguments : List Stored) (xs : List Value) (e : StoreError) → IsEntered function d arguments s.store new (Err e) → Enters function.0 d xs s (record s { store = new }) (Err (exit_of_store e))
+pub not_entered : (s : State) (new : Contents) (function : SymId) (d : Definition) (arguments : List Stored) (xs : List Value) (e : StoreError)
+    → IsEntered function d arguments s.store new (Err e) → Enters function.0 d xs s (record s { store = new }) (Err (exit_of_store e))
 not_entered s new function d arguments xs NullName h = absurd h
 not_entered s new function d arguments xs Full h = absurd h
 not_entered s new function d arguments xs WrongType h = absurd h
@@ -124,7 +143,8 @@ not_entered s new function d arguments xs BadPrototype h = absurd h
 not_entered s new function d arguments xs CallLevel h = (refl, h.0, ap (λ (c : Contents). record s { store = c }) h.1)
 not_entered s new function d arguments xs NoMemory h = ap (λ (c : Contents). record s { store = c }) h.1
 
-pub leaves : (s : State) (new : Contents) (calls : List (List (ℕ × Stored))) (call : List (ℕ × Stored)) (statement : ℕ) (value : Stored) → IsKnown s.nodes s.store → s.store.calls ≡ calls ++ call ∷ []
+pub leaves : (s : State) (new : Contents) (calls : List (List (ℕ × Stored))) (call : List (ℕ × Stored)) (statement : ℕ) (value : Stored)
+    → IsKnown s.nodes s.store → s.store.calls ≡ calls ++ call ∷ []
     → value ≡ function_value (stored.Str []) call s.store.values → new ≡ without_call s.nodes calls call s.store
     → Leaves calls call statement s (record s { store = new; keywords = record s.keywords { statement = statement } }) value
 leaves s new calls call statement value k has told is =
@@ -138,6 +158,10 @@ leaves s new calls call statement value k has told is =
       known = subst (IsValueOf s.nodes) (sym told) (function_known s.nodes call s.store.values k.values);
       meets = λ more.
           ap (λ (c : Contents). world (record s { store = c; keywords = record s.keywords { statement = statement } }) more) is
-          ∙ (λ i. record (world s more) { values = sym (restored_map (shown s.nodes) call s.store.values) i; level = fewer i; keywords = record s.keywords { statement = statement } });
+          ∙ (λ i. record (world s more) {
+            values = sym (restored_map (shown s.nodes) call s.store.values) i;
+            level = fewer i;
+            keywords = record s.keywords { statement = statement };
+          });
       returned = λ more. ap (shown s.nodes) told ∙ sym (function_value_map (shown s.nodes) (stored.Str []) call s.store.values);
     }

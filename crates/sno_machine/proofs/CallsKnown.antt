@@ -26,14 +26,19 @@ module _ (nodes : List Node) where
 
   nulls_known : (symbols : List ℕ) (values : List Stored) → AllValues values → AllValues (with_nulls (stored.Str []) symbols values)
   nulls_known [] values h = h
-  nulls_known (symbol ∷ symbols) values h = nulls_known symbols (slice_set values symbol (stored.Str [])) (all_set (IsValueOf nodes) values symbol (stored.Str []) h (omega arith))
+  nulls_known (symbol ∷ symbols) values h =
+      nulls_known symbols (slice_set values symbol (stored.Str [])) (all_set (IsValueOf nodes) values symbol (stored.Str []) h (omega arith))
 
-  arguments_known : (formals : List ℕ) (arguments values : List Stored) → AllValues arguments → AllValues values → AllValues (with_arguments (stored.Str []) formals arguments values)
+  arguments_known : (formals : List ℕ) (arguments values : List Stored) → AllValues arguments → AllValues values
+      → AllValues (with_arguments (stored.Str []) formals arguments values)
   arguments_known [] arguments values a h = h
-  arguments_known (formal ∷ formals) [] values a h = arguments_known formals [] (slice_set values formal (stored.Str [])) a (all_set (IsValueOf nodes) values formal (stored.Str []) h (omega arith))
-  arguments_known (formal ∷ formals) (argument ∷ arguments) values a h = arguments_known formals arguments (slice_set values formal argument) a.1 (all_set (IsValueOf nodes) values formal argument h a.0)
+  arguments_known (formal ∷ formals) [] values a h =
+      arguments_known formals [] (slice_set values formal (stored.Str [])) a (all_set (IsValueOf nodes) values formal (stored.Str []) h (omega arith))
+  arguments_known (formal ∷ formals) (argument ∷ arguments) values a h =
+      arguments_known formals arguments (slice_set values formal argument) a.1 (all_set (IsValueOf nodes) values formal argument h a.0)
 
-  pub saved_known : (symbols : List ℕ) (values : List Stored) → AllValues values → AllSaved (map (λ symbol. (symbol, slice_index_or values symbol (stored.Str []))) symbols)
+  pub saved_known : (symbols : List ℕ) (values : List Stored) → AllValues values
+      → AllSaved (map (λ symbol. (symbol, slice_index_or values symbol (stored.Str []))) symbols)
   saved_known [] values h = tt
   saved_known (symbol ∷ symbols) values h = (all_at (IsValueOf nodes) values symbol (stored.Str []) h (omega arith), saved_known symbols values h)
 
@@ -48,13 +53,16 @@ module _ (nodes : List Node) where
   -- the store where a call has begun, and where it has ended
 
   abbrev pub with_call : ℕ → Definition → List Stored → Contents → Contents
-  with_call function d arguments c = record c { values = entered (stored.Str []) function d arguments c.values; calls = c.calls ++ saved (stored.Str []) function d c.values ∷ [] }
+  with_call function d arguments c =
+      record c { values = entered (stored.Str []) function d arguments c.values; calls = c.calls ++ saved (stored.Str []) function d c.values ∷ [] }
 
-  pub entered_known : (function : ℕ) (d : Definition) (arguments : List Stored) (old new : Contents) → AllValues arguments → IsKnown nodes old → new ≡ with_call function d arguments old → IsKnown nodes new
+  pub entered_known : (function : ℕ) (d : Definition) (arguments : List Stored) (old new : Contents) → AllValues arguments → IsKnown nodes old
+      → new ≡ with_call function d arguments old → IsKnown nodes new
   entered_known function d arguments old new a k is = subst (IsKnown nodes) (sym is) (record {
     symbols = k.symbols;
     numbered = k.numbered;
-    values = arguments_known d.formals arguments (with_nulls (stored.Str []) (function ∷ d.locals) old.values) a (nulls_known (function ∷ d.locals) old.values k.values);
+    values = arguments_known d.formals arguments (with_nulls (stored.Str []) (function ∷ d.locals) old.values) a
+        (nulls_known (function ∷ d.locals) old.values k.values);
     objects = k.objects;
     types = k.types;
     calls = all_end AllSaved old.calls (saved (stored.Str []) function d old.values) k.calls (saved_known (saved_symbols function d) old.values k.values);
@@ -63,7 +71,15 @@ module _ (nodes : List Node) where
   abbrev pub without_call : List (List (ℕ × Stored)) → List (ℕ × Stored) → Contents → Contents
   without_call calls call c = record c { values = restored call c.values; calls = calls }
 
-  pub left_known : (calls : List (List (ℕ × Stored))) (call : List (ℕ × Stored)) (old new : Contents) → IsKnown nodes old → old.calls ≡ calls ++ call ∷ [] → new ≡ without_call calls call old → IsKnown nodes new
+  pub left_known : (calls : List (List (ℕ × Stored))) (call : List (ℕ × Stored)) (old new : Contents) → IsKnown nodes old → old.calls ≡ calls ++ call ∷ []
+      → new ≡ without_call calls call old → IsKnown nodes new
   left_known calls call old new k has is =
       let parts = all_front AllSaved calls call (subst (AllByRecursion AllSaved) has k.calls) in
-      subst (IsKnown nodes) (sym is) (record { symbols = k.symbols; numbered = k.numbered; values = restored_known call old.values parts.1 k.values; objects = k.objects; types = k.types; calls = parts.0 })
+      subst (IsKnown nodes) (sym is) (record {
+        symbols = k.symbols;
+        numbered = k.numbered;
+        values = restored_known call old.values parts.1 k.values;
+        objects = k.objects;
+        types = k.types;
+        calls = parts.0;
+      })

@@ -19,15 +19,19 @@ use Rattle.sno_machine.proofs.Conversions.{value_made, value_refused}
 abbrev array_made : Action ObjId → Action Value
 array_made act = and_then act (λ id. gives (Array id.0))
 
-pub array_given : (act : Action ObjId) (a b : State) (id : ObjId) → Does itself any act a b (Ok id) → Does shown IsValueOf (array_made act) a b (Ok (stored.Array id))
-array_given act a b id h = then_got itself any shown IsValueOf act (λ id. gives (Array id.0)) a b b id (Ok (stored.Array id)) h (gives_does shown IsValueOf b (stored.Array id) (Array id.0) refl tt)
+pub array_given : (act : Action ObjId) (a b : State) (id : ObjId) → Does itself any act a b (Ok id)
+    → Does shown IsValueOf (array_made act) a b (Ok (stored.Array id))
+array_given act a b id h = then_got itself any shown IsValueOf act (λ id. gives (Array id.0)) a b b id (Ok (stored.Array id)) h
+    (gives_does shown IsValueOf b (stored.Array id) (Array id.0) refl tt)
 
-pub array_refused : (act : Action ObjId) (a b : State) (e : Exit) → Does {X = ObjId} itself any act a b (Err e) → Does {X = Stored} shown IsValueOf (array_made act) a b (Err e)
+pub array_refused : (act : Action ObjId) (a b : State) (e : Exit) → Does {X = ObjId} itself any act a b (Err e)
+    → Does {X = Stored} shown IsValueOf (array_made act) a b (Err e)
 array_refused act a b e h = then_err itself any shown IsValueOf act (λ id. gives (Array id.0)) a b e h
 
 -- a new table
 pub table_given : (a b : State) (id : ObjId) → Does itself any (does new_table) a b (Ok id) → Does shown IsValueOf table a b (Ok (stored.Table id))
-table_given a b id h = then_got itself any shown IsValueOf (does new_table) (λ id. gives (Table id.0)) a b b id (Ok (stored.Table id)) h (gives_does shown IsValueOf b (stored.Table id) (Table id.0) refl tt)
+table_given a b id h = then_got itself any shown IsValueOf (does new_table) (λ id. gives (Table id.0)) a b b id (Ok (stored.Table id)) h
+    (gives_does shown IsValueOf b (stored.Table id) (Table id.0) refl tt)
 
 pub table_refused : (a b : State) (e : Exit) → Does {X = ObjId} itself any (does new_table) a b (Err e) → Does {X = Stored} shown IsValueOf table a b (Err e)
 table_refused a b e h = then_err itself any shown IsValueOf (does new_table) (λ id. gives (Table id.0)) a b e h
@@ -40,20 +44,26 @@ entries_of id = does (table_to_array notions id)
 abbrev array_if : Option ObjId → Action Value
 array_if made = either fails (λ id. gives (Array id.0)) made
 
-pub entries_refused : (id : ObjId) (a b : State) (e : Exit) → Does {X = Option ObjId} itself any (entries_of id) a b (Err e) → Does {X = Stored} shown IsValueOf (as_array (Table id.0)) a b (Err e)
+pub entries_refused : (id : ObjId) (a b : State) (e : Exit) → Does {X = Option ObjId} itself any (entries_of id) a b (Err e)
+    → Does {X = Stored} shown IsValueOf (as_array (Table id.0)) a b (Err e)
 entries_refused id a b e h = then_err itself any shown IsValueOf (entries_of id) array_if a b e h
 
-pub entries_given : (id : ObjId) (a b : State) (array : ObjId) → Does itself any (entries_of id) a b (Ok (Some array)) → Does shown IsValueOf (as_array (Table id.0)) a b (Ok (stored.Array array))
+pub entries_given : (id : ObjId) (a b : State) (array : ObjId) → Does itself any (entries_of id) a b (Ok (Some array))
+    → Does shown IsValueOf (as_array (Table id.0)) a b (Ok (stored.Array array))
 entries_given id a b array h =
-    then_got itself any shown IsValueOf (entries_of id) array_if a b b (Some array) (Ok (stored.Array array)) h (gives_does shown IsValueOf b (stored.Array array) (Array array.0) refl tt)
+    then_got itself any shown IsValueOf (entries_of id) array_if a b b (Some array) (Ok (stored.Array array)) h
+    (gives_does shown IsValueOf b (stored.Array array) (Array array.0) refl tt)
 
-pub no_entries : (id : ObjId) (a b : State) → Does itself any (entries_of id) a b (Ok None) → Does {X = Stored} shown IsValueOf (as_array (Table id.0)) a b (Err Failure)
+pub no_entries : (id : ObjId) (a b : State) → Does itself any (entries_of id) a b (Ok None)
+    → Does {X = Stored} shown IsValueOf (as_array (Table id.0)) a b (Err Failure)
 no_entries id a b h = then_got itself any shown IsValueOf (entries_of id) array_if a b b None (Err Failure) h (fails_does shown IsValueOf b)
 
 -- a pattern, where there is one
 
-pub pattern_given : (x : Value) (a b : State) (id : PatId) → is_patternable x ≡ true → Does tree_of IsPatternOf (as_pattern x) a b (Ok id) → Does shown IsValueOf (pattern_if x) a b (Ok (stored.Pat id))
+pub pattern_given : (x : Value) (a b : State) (id : PatId) → is_patternable x ≡ true → Does tree_of IsPatternOf (as_pattern x) a b (Ok id)
+    → Does shown IsValueOf (pattern_if x) a b (Ok (stored.Pat id))
 pattern_given x a b id is h = rw is (value_made (as_pattern x) a b id h)
 
-pub pattern_refused : (x : Value) (a b : State) (e : Exit) → is_patternable x ≡ true → Does {X = PatId} tree_of IsPatternOf (as_pattern x) a b (Err e) → Does {X = Stored} shown IsValueOf (pattern_if x) a b (Err e)
+pub pattern_refused : (x : Value) (a b : State) (e : Exit) → is_patternable x ≡ true → Does {X = PatId} tree_of IsPatternOf (as_pattern x) a b (Err e)
+    → Does {X = Stored} shown IsValueOf (pattern_if x) a b (Err e)
 pattern_refused x a b e is h = rw is (value_refused (as_pattern x) a b e h)

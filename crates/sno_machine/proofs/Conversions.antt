@@ -25,7 +25,8 @@ use Rattle.sno_machine.proofs.Outcomes.{gives_does, stops_does, no_memory_does, 
 use Rattle.sno_machine.proofs.Builders.{tree_stays}
 
 -- what isn't there is error 1
-pub missing_in : {X A Y B : Type 0} (see : X → A) (look : List Node → Y → B) (suits : List Node → Y → Type 0) (o : Option A) (act : Action B) (s : State) (e : Exit)
+pub missing_in : {X A Y B : Type 0} (see : X → A) (look : List Node → Y → B) (suits : List Node → Y → Type 0) (o : Option A)
+    (act : Action B) (s : State) (e : Exit)
     → (o ≡ None → act ≡ wrong_type) → IsThere see o (Err e) → Does look suits act s s (Err e)
 missing_in see look suits o act s Failure none h = absurd h
 missing_in see look suits o act s (Halt (HasError code)) none h = rw (none h.0, h.1) (stops_does look suits s 1)
@@ -35,7 +36,8 @@ missing_in see look suits o act s (Halt WriteFault) none h = absurd h
 missing_in see look suits o act s (Halt (HasErrorIn code statement)) none h = absurd h
 missing_in see look suits o act s (Halt HasEnded) none h = absurd h
 
-pub missing : {X A : Type 0} (see : X → A) (o : Option A) (act : Action Value) (s : State) (e : Exit) → (o ≡ None → act ≡ wrong_type) → IsThere see o (Err e) → Does {X = Stored} shown IsValueOf act s s (Err e)
+pub missing : {X A : Type 0} (see : X → A) (o : Option A) (act : Action Value) (s : State) (e : Exit) → (o ≡ None → act ≡ wrong_type) → IsThere see o (Err e)
+    → Does {X = Stored} shown IsValueOf act s s (Err e)
 missing see o act s e none h = missing_in see shown IsValueOf o act s e none h
 
 -- numbers
@@ -74,7 +76,8 @@ second_missing x y n (Halt WriteFault) is h = h
 second_missing x y n (Halt (HasErrorIn code statement)) is h = h
 second_missing x y n (Halt HasEnded) is h = h
 
-pub arithmetic_operation : (operator : Operator) (x y : Value) → is_arithmetic operator ≡ true → operation operator x y ≡ on_numbers (calculated operator) (number_of x) (number_of y)
+pub arithmetic_operation : (operator : Operator) (x y : Value) → is_arithmetic operator ≡ true → operation operator x y ≡ on_numbers (calculated operator)
+    (number_of x) (number_of y)
 arithmetic_operation Add x y h = refl
 arithmetic_operation Subtract x y h = refl
 arithmetic_operation Divide x y h = refl
@@ -114,13 +117,17 @@ second_textless : (o : Option (List ℕ)) (x y : Value) → joined o None x y �
 second_textless None x y = refl
 second_textless (Some bytes) x y = refl
 
-pub joined_first : (nodes : List Node) (x y : Stored) → is_null (shown nodes x) ≡ false → is_null (shown nodes y) ≡ false → has_text x ≡ false → concatenation (shown nodes x) (shown nodes y) ≡ joined_patterns Cat (shown nodes x) (shown nodes y)
-joined_first nodes x y h k t = concatenation_else (shown nodes x) (shown nodes y) h k ∙ ap (λ o. joined o (text_of (shown nodes y)) (shown nodes x) (shown nodes y)) (text_none nodes x t)
+pub joined_first : (nodes : List Node) (x y : Stored) → is_null (shown nodes x) ≡ false → is_null (shown nodes y) ≡ false → has_text x ≡ false
+    → concatenation (shown nodes x) (shown nodes y) ≡ joined_patterns Cat (shown nodes x) (shown nodes y)
+joined_first nodes x y h k t =
+    concatenation_else (shown nodes x) (shown nodes y) h k ∙ ap (λ o. joined o (text_of (shown nodes y)) (shown nodes x) (shown nodes y)) (text_none nodes x t)
 
-pub joined_second : (nodes : List Node) (x y : Stored) → is_null (shown nodes x) ≡ false → is_null (shown nodes y) ≡ false → has_text y ≡ false → concatenation (shown nodes x) (shown nodes y) ≡ joined_patterns Cat (shown nodes x) (shown nodes y)
+pub joined_second : (nodes : List Node) (x y : Stored) → is_null (shown nodes x) ≡ false → is_null (shown nodes y) ≡ false → has_text y ≡ false
+    → concatenation (shown nodes x) (shown nodes y) ≡ joined_patterns Cat (shown nodes x) (shown nodes y)
 joined_second nodes x y h k t =
     concatenation_else (shown nodes x) (shown nodes y) h k
-    ∙ (ap (λ o. joined (text_of (shown nodes x)) o (shown nodes x) (shown nodes y)) (text_none nodes y t) ∙ second_textless (text_of (shown nodes x)) (shown nodes x) (shown nodes y))
+    ∙ (ap (λ o. joined (text_of (shown nodes x)) o (shown nodes x) (shown nodes y)) (text_none nodes y t) ∙ second_textless (text_of (shown nodes x))
+    (shown nodes x) (shown nodes y))
 
 -- patterns
 
@@ -128,18 +135,21 @@ joined_second nodes x y h k t =
 abbrev pub as_value : Action Pattern → Action Value
 as_value act = and_then act (λ p. gives (Pat p))
 
-pub value_made : (act : Action Pattern) (a b : State) (id : PatId) → Does tree_of IsPatternOf act a b (Ok id) → Does shown IsValueOf (as_value act) a b (Ok (stored.Pat id))
+pub value_made : (act : Action Pattern) (a b : State) (id : PatId) → Does tree_of IsPatternOf act a b (Ok id)
+    → Does shown IsValueOf (as_value act) a b (Ok (stored.Pat id))
 value_made act a b id h = then_got tree_of IsPatternOf shown IsValueOf act (λ p. gives (Pat p)) a b b id (Ok (stored.Pat id)) h
     (gives_does shown IsValueOf b (stored.Pat id) (Pat (tree_of b.nodes id)) refl h.answer)
 
-pub value_refused : (act : Action Pattern) (a b : State) (e : Exit) → Does {X = PatId} tree_of IsPatternOf act a b (Err e) → Does {X = Stored} shown IsValueOf (as_value act) a b (Err e)
+pub value_refused : (act : Action Pattern) (a b : State) (e : Exit) → Does {X = PatId} tree_of IsPatternOf act a b (Err e)
+    → Does {X = Stored} shown IsValueOf (as_value act) a b (Err e)
 value_refused act a b e h = then_err tree_of IsPatternOf shown IsValueOf act (λ p. gives (Pat p)) a b e h
 
 -- what is joined when both are patternable
 abbrev pub in_turn : (Pattern → Pattern → Pattern) → Value → Value → Action Value
 in_turn join x y = and_then (as_pattern x) (λ p. and_then (as_pattern y) (λ q. makes_value (join p q)))
 
-pub patterns_in_turn : (join : Pattern → Pattern → Pattern) (x y : Value) → is_patternable x ≡ true → is_patternable y ≡ true → joined_patterns join x y ≡ in_turn join x y
+pub patterns_in_turn : (join : Pattern → Pattern → Pattern) (x y : Value) → is_patternable x ≡ true → is_patternable y ≡ true
+    → joined_patterns join x y ≡ in_turn join x y
 patterns_in_turn join x y h k = rw (h, k) refl
 
 pub first_refused : (join : Pattern → Pattern → Pattern) (x y : Value) (a b : State) (e : Exit) → is_patternable x ≡ true → is_patternable y ≡ true
@@ -148,7 +158,8 @@ first_refused join x y a b e h k p =
     rw (patterns_in_turn join x y h k)
     (then_err tree_of IsPatternOf shown IsValueOf (as_pattern x) (λ p. and_then (as_pattern y) (λ q. makes_value (join p q))) a b e p)
 
-pub second_refused : (join : Pattern → Pattern → Pattern) (x : Value) (y : Stored) (a b c : State) (id : PatId) (e : Exit) → is_patternable x ≡ true → is_patternable (shown a.nodes y) ≡ true → IsValueOf a.nodes y
+pub second_refused : (join : Pattern → Pattern → Pattern) (x : Value) (y : Stored) (a b c : State) (id : PatId) (e : Exit) → is_patternable x ≡ true
+    → is_patternable (shown a.nodes y) ≡ true → IsValueOf a.nodes y
     → Does tree_of IsPatternOf (as_pattern x) a b (Ok id) → Does {X = PatId} tree_of IsPatternOf (as_pattern (shown b.nodes y)) b c (Err e)
     → Does {X = Stored} shown IsValueOf (joined_patterns join x (shown a.nodes y)) a c (Err e)
 second_refused join x y a b c id e h k v p q =
@@ -167,16 +178,22 @@ both_joined join x y a b c d first second r h k v p q m =
     let stays : tree_of c.nodes first ≡ tree_of b.nodes first = tree_stays b.nodes c.nodes first.0 q.grows p.answer in
     rw (patterns_in_turn join x (shown a.nodes y) h k)
     (then_got tree_of IsPatternOf shown IsValueOf (as_pattern x) (λ t. and_then (as_pattern (shown a.nodes y)) (λ u. makes_value (join t u))) a b d first r p
-    (then_got tree_of IsPatternOf shown IsValueOf (as_pattern (shown a.nodes y)) (λ u. makes_value (join (tree_of b.nodes first) u)) b c d second r (rw old at q) (rw stays at m)))
+    (then_got tree_of IsPatternOf shown IsValueOf (as_pattern (shown a.nodes y)) (λ u. makes_value (join (tree_of b.nodes first) u)) b c d second r
+    (rw old at q) (rw stays at m)))
 
 pub target_refused : (join : Pattern → Target → Pattern) (x : Value) (target : Target) (a b : State) (e : Exit) → is_patternable x ≡ true
     → Does {X = PatId} tree_of IsPatternOf (as_pattern x) a b (Err e) → Does {X = Stored} shown IsValueOf (pattern_with_target join x (Name target)) a b (Err e)
 target_refused join x target a b e h p = rw h (then_err tree_of IsPatternOf shown IsValueOf (as_pattern x) (λ p. makes_value (join p target)) a b e p)
 
-pub target_joined : (join : Pattern → Target → Pattern) (x : Value) (target : Target) (a b c : State) (body : PatId) (r : Result Stored Exit) → is_patternable x ≡ true
-    → Does tree_of IsPatternOf (as_pattern x) a b (Ok body) → Does shown IsValueOf (makes_value (join (tree_of b.nodes body) target)) b c r → Does shown IsValueOf (pattern_with_target join x (Name target)) a c r
-target_joined join x target a b c body r h p m = rw h (then_got tree_of IsPatternOf shown IsValueOf (as_pattern x) (λ p. makes_value (join p target)) a b c body r p m)
+pub target_joined : (join : Pattern → Target → Pattern) (x : Value) (target : Target) (a b c : State) (body : PatId) (r : Result Stored Exit)
+    → is_patternable x ≡ true
+    → Does tree_of IsPatternOf (as_pattern x) a b (Ok body) → Does shown IsValueOf (makes_value (join (tree_of b.nodes body) target)) b c r
+    → Does shown IsValueOf (pattern_with_target join x (Name target)) a c r
+target_joined join x target a b c body r h p m =
+    rw h (then_got tree_of IsPatternOf shown IsValueOf (as_pattern x) (λ p. makes_value (join p target)) a b c body r p m)
 
 -- a text that is there is no error 1
-pub text_refused : (act : Action Value) (v : Stored) (s : State) (e : Exit) → has_text v ≡ true → IsThere {X = Vec ℕ Global} (λ t. t.items) (text_of (shown s.nodes v)) (Err e) → Does {X = Stored} shown IsValueOf act s s (Err e)
-text_refused act v s e h there = missing {X = Vec ℕ Global} (λ t. t.items) (text_of (shown s.nodes v)) act s e (λ none. absurd (text_there s.nodes v h none)) there
+pub text_refused : (act : Action Value) (v : Stored) (s : State) (e : Exit) → has_text v ≡ true
+    → IsThere {X = Vec ℕ Global} (λ t. t.items) (text_of (shown s.nodes v)) (Err e) → Does {X = Stored} shown IsValueOf act s s (Err e)
+text_refused act v s e h there =
+    missing {X = Vec ℕ Global} (λ t. t.items) (text_of (shown s.nodes v)) act s e (λ none. absurd (text_there s.nodes v h none)) there

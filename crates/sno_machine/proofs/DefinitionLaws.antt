@@ -1,5 +1,6 @@
 -- What DEFINE does to the symbols: which names join them, and what is known of these.
-use Rattle.std.proofs.Common.{◌≡◌, ℕ, zero, suc, ◌+◌, ◌==◌, ◌≤◌, nat_lt, Bool, true, false, cond, List, [], ◌∷◌, ◌++◌, if◌then◌else◌, length, take, drop, position, option_map, refl, ap, sym, subst, arith, Option, None, Some, Result, Ok, Err}
+use Rattle.std.proofs.Common.{◌≡◌, ℕ, zero, suc, ◌+◌, ◌==◌, ◌≤◌, nat_lt, Bool, true, false, cond, List, [], ◌∷◌, ◌++◌, if◌then◌else◌, length, take, drop}
+use Rattle.std.proofs.Common.{position, option_map, refl, ap, sym, subst, arith, Option, None, Some, Result, Ok, Err}
 use Rattle.std.specs.List.{AllByRecursion, slice_split, onto_first}
 use Rattle.std.proofs.lemmas.List.{length-drop}
 use Rattle.sno_store.specs.Arrays.{is_comma}
@@ -37,7 +38,8 @@ parts_short : (xs : List ℕ) → AreShort (length xs) (slice_split is_comma xs)
 parts_short [] = (omega arith, tt)
 parts_short (x ∷ xs) = by (is_comma x) (parts_short xs)
   where
-    by : (b : Bool) → AreShort (length xs) (slice_split is_comma xs) → AreShort (suc (length xs)) (cond b ([] ∷ slice_split is_comma xs) (onto_first x (slice_split is_comma xs)))
+    by : (b : Bool) → AreShort (length xs) (slice_split is_comma xs)
+        → AreShort (suc (length xs)) (cond b ([] ∷ slice_split is_comma xs) (onto_first x (slice_split is_comma xs)))
     by true h = (omega arith, short_more (length xs) (suc (length xs)) (slice_split is_comma xs) (omega arith) h)
     by false h = onto_short x (length xs) (slice_split is_comma xs) h
 
@@ -48,14 +50,18 @@ listed_short n (x ∷ xs) h = short_more (length (x ∷ xs)) n (slice_split is_c
 abbrev cut_by : List ℕ → Option ℕ → Option (List ℕ × List ℕ)
 cut_by text o = option_map (λ place. (take place text, drop (place + 1) text)) o
 
-names_in_lists : (n : ℕ) (function rest : List ℕ) (p : Prototype) (o : Option ℕ) → length function ≤ n → length rest ≤ n → lists_of function (cut_by rest o) ≡ Some p → AreShort n (names p)
+names_in_lists : (n : ℕ) (function rest : List ℕ) (p : Prototype) (o : Option ℕ) → length function ≤ n → length rest ≤ n → lists_of function (cut_by rest o)
+    ≡ Some p → AreShort n (names p)
 names_in_lists n function rest p None f r is = absurd (cc is)
 names_in_lists n function rest p (Some k) f r is =
     let formals = take_short k rest in
     let locals = drop_short (k + 1) rest in
     let e : record { function = function; formals = listed (take k rest); locals = listed (drop (k + 1) rest) } ≡ p = cc is in
-    subst (λ (q : Prototype). AreShort n (names q)) e
-    (f, all_append (λ text. length text ≤ n) (listed (take k rest)) (listed (drop (k + 1) rest)) (listed_short n (take k rest) (omega arith)) (listed_short n (drop (k + 1) rest) (omega arith)))
+    subst (λ (q : Prototype). AreShort n (names q)) e (
+      f,
+      all_append (λ text. length text ≤ n) (listed (take k rest)) (listed (drop (k + 1) rest)) (listed_short n (take k rest) (omega arith))
+          (listed_short n (drop (k + 1) rest) (omega arith)),
+    )
 
 names_in_text : (n : ℕ) (text : List ℕ) (p : Prototype) (o : Option ℕ) → length text ≤ n → prototype_in (cut_by text o) ≡ Some p → AreShort n (names p)
 names_in_text n text p None h is = absurd (cc is)
@@ -94,18 +100,25 @@ abbrev Told : Type 0
 Told = Result (List (List ℕ) × List Function) ℕ
 
 abbrev made_by : List ℕ → List (List ℕ) → List Function → Prototype → List (List ℕ) × List Function
-made_by entry symbols functions p = (with_names (names p) symbols, with_function (place p.function (with_names (names p) symbols)) (Defined (definition entry p (with_names (names p) symbols))) functions)
+made_by entry symbols functions p = (
+  with_names (names p) symbols,
+  with_function (place p.function (with_names (names p) symbols))
+      (Defined (definition entry p (with_names (names p) symbols))) functions,
+)
 
-defined_names : (text entry : List ℕ) (symbols : List (List ℕ)) (functions : List Function) (new : List (List ℕ) × List Function) → with_definition text entry symbols functions ≡ Ok new → HasNames text symbols new.0
+defined_names : (text entry : List ℕ) (symbols : List (List ℕ)) (functions : List Function) (new : List (List ℕ) × List Function)
+    → with_definition text entry symbols functions ≡ Ok new → HasNames text symbols new.0
 defined_names text entry symbols functions new is = by (prototype text) refl is
   where
-    within : (p : Prototype) (many : Bool) → prototype text ≡ Some p → if◌then◌else◌ {A = Told} many (Err 9) (Ok (made_by entry symbols functions p)) ≡ Ok new → HasNames text symbols new.0
+    within : (p : Prototype) (many : Bool) → prototype text ≡ Some p → if◌then◌else◌ {A = Told} many (Err 9) (Ok (made_by entry symbols functions p)) ≡ Ok new
+        → HasNames text symbols new.0
     within p true has is = absurd (cc is)
     within p false has is =
         let same : made_by entry symbols functions p ≡ new = cc is in
         has_names p has (sym (ap (λ (made : List (List ℕ) × List Function). made.0) same))
 
-    sound : (p : Prototype) (b : Bool) → prototype text ≡ Some p → if◌then◌else◌ {A = Told} b (definition_in entry p (with_names (names p) symbols) functions) (Err 12) ≡ Ok new → HasNames text symbols new.0
+    sound : (p : Prototype) (b : Bool) → prototype text ≡ Some p → if◌then◌else◌ {A = Told} b (definition_in entry p (with_names (names p) symbols) functions)
+        (Err 12) ≡ Ok new → HasNames text symbols new.0
     sound p true has is = within p (nat_lt 1_000_000 (length (with_names (names p) symbols))) has is
     sound p false has is = absurd (cc is)
 
@@ -113,13 +126,15 @@ defined_names text entry symbols functions new is = by (prototype text) refl is
     by None has is = absurd (cc is)
     by (Some p) has is = sound p (is_sound p) has is
 
-pub defined_numbered : (text entry : List ℕ) (symbols : List (List ℕ)) (functions : List Function) (new : List (List ℕ) × List Function) → with_definition text entry symbols functions ≡ Ok new → IsNumbered symbols → IsNumbered new.0
+pub defined_numbered : (text entry : List ℕ) (symbols : List (List ℕ)) (functions : List Function) (new : List (List ℕ) × List Function)
+    → with_definition text entry symbols functions ≡ Ok new → IsNumbered symbols → IsNumbered new.0
 defined_numbered text entry symbols functions new is k = by (defined_names text entry symbols functions new is)
   where
     by : HasNames text symbols new.0 → IsNumbered new.0
     by (has_names p has same) = subst IsNumbered (sym same) (joined_numbered (names p) symbols k)
 
-pub defined_short : (n : ℕ) (text entry : List ℕ) (symbols : List (List ℕ)) (functions : List Function) (new : List (List ℕ) × List Function) → with_definition text entry symbols functions ≡ Ok new → length text ≤ n
+pub defined_short : (n : ℕ) (text entry : List ℕ) (symbols : List (List ℕ)) (functions : List Function) (new : List (List ℕ) × List Function)
+    → with_definition text entry symbols functions ≡ Ok new → length text ≤ n
     → AreShort n symbols → AreShort n new.0
 defined_short n text entry symbols functions new is short k = by (defined_names text entry symbols functions new is)
   where

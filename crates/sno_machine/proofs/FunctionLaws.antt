@@ -1,5 +1,6 @@
 -- What the functions of numbers, texts and types give.
-use Rattle.std.proofs.Common.{◌≡◌, ℕ, zero, suc, ◌+◌, ◌*◌, ◌≤◌, ℤ, pos, negsuc, Bool, true, false, nat_lt, ◌==◌, subst, List, [], ◌∷◌, length, map, refl, sym, ap, ◌∙◌, arith, Option, None, Some, Result, Ok, Err, if◌then◌else◌}
+use Rattle.std.proofs.Common.{◌≡◌, ℕ, zero, suc, ◌+◌, ◌*◌, ◌≤◌, ℤ, pos, negsuc, Bool, true, false, nat_lt, ◌==◌, subst, List, [], ◌∷◌, length, map, refl, sym}
+use Rattle.std.proofs.Common.{ap, ◌∙◌, arith, Option, None, Some, Result, Ok, Err, if◌then◌else◌}
 use Rattle.std.specs.List.{list_all}
 use Rattle.std.proofs.Math.Nat.{suc-mul}
 use Rattle.std.proofs.lemmas.Bool.Decides.{nat_tests}
@@ -39,7 +40,8 @@ unfolding copies
 length-copies zero text = omega arith
 length-copies (suc n) text = length-append text (copies n text) ∙ (ap (λ k. length text + k) (length-copies n text) ∙ omega (arith, suc-mul n (length text)))
 
-short_copies : (long : Bool) (n : ℕ) (text bytes : List ℕ) → nat_lt 1_000_000 (n * length text) ≡ long → (if long then Err TooLong else Ok (Some (copies n text))) ≡ Ok (Some bytes) → length bytes ≤ 1_000_000
+short_copies : (long : Bool) (n : ℕ) (text bytes : List ℕ) → nat_lt 1_000_000 (n * length text) ≡ long
+    → (if long then Err TooLong else Ok (Some (copies n text))) ≡ Ok (Some bytes) → length bytes ≤ 1_000_000
 short_copies true n text bytes h is = absurd (cc)
 short_copies false n text bytes h is =
     let e : copies n text ≡ bytes = cc in

@@ -1,5 +1,6 @@
 -- A line of input that becomes a value.
-use Rattle.std.proofs.Common.{Vec, Global, ◌≡◌, ℕ, zero, suc, ◌+◌, ℤ, pos, negsuc, ◌==◌, ◌<◌, ◌≤◌, nat_lt, Bool, true, false, if◌then◌else◌, List, [], ◌∷◌, ◌++◌, length, take, refl, ap, sym, ◌∙◌, subst, arith, append_assoc, Option, None, Some, Result, Ok, Err, OnOk, IsErrOf}
+use Rattle.std.proofs.Common.{Vec, Global, ◌≡◌, ℕ, zero, suc, ◌+◌, ℤ, pos, negsuc, ◌==◌, ◌<◌, ◌≤◌, nat_lt, Bool, true, false, if◌then◌else◌, List, [], ◌∷◌}
+use Rattle.std.proofs.Common.{◌++◌, length, take, refl, ap, sym, ◌∙◌, subst, arith, append_assoc, Option, None, Some, Result, Ok, Err, OnOk, IsErrOf}
 use Rattle.std.specs.List.{list_all, range_with_len}
 use Rattle.std.proofs.lemmas.Bool.{le-ltb, lt-ltb}
 use Rattle.sno_value.specs.Strings.{trimmed}
@@ -24,7 +25,8 @@ pub trimmed_begins : (xs : List ℕ) → take (length (trimmed xs)) xs ≡ trimm
 unfolding trimmed
 trimmed_begins [] = refl
 trimmed_begins (x ∷ xs) =
-    elim (list_all (λ b. b == 32) (x ∷ xs)) as (λ b. take (length (if b then [] else x ∷ trimmed xs)) (x ∷ xs) ≡ (if b then [] else x ∷ trimmed xs)) [ true ↦ refl | false ↦ ap (λ r. x ∷ r) (trimmed_begins xs) ]
+    elim (list_all (λ b. b == 32) (x ∷ xs)) as (λ b. take (length (if b then [] else x ∷ trimmed xs)) (x ∷ xs) ≡ (if b then [] else x ∷ trimmed xs))
+    [ true ↦ refl | false ↦ ap (λ r. x ∷ r) (trimmed_begins xs) ]
 
 trimmed_short : (xs : List ℕ) → length (trimmed xs) ≤ length xs
 unfolding trimmed
@@ -49,7 +51,8 @@ long_line : (text : List ℕ) → 1_000_000 < length (first_line text) → (rest
 long_line [] h = absurd (omega arith)
 long_line (byte ∷ bytes) h = (_, refl)
 
-line_meets : (a b : State) (text rest : List ℕ) (w after : World) (outcome : Result (Option (Vec ℕ Global)) LineError) → w.input ≡ text → after ≡ record w { input = rest } → GivesLine outcome text rest
+line_meets : (a b : State) (text rest : List ℕ) (w after : World) (outcome : Result (Option (Vec ℕ Global)) LineError) → w.input ≡ text
+    → after ≡ record w { input = rest } → GivesLine outcome text rest
     → MeetsReading (shown b.nodes) (reads_line w) after (value_of_line w.keywords.trim outcome)
 line_meets a b text rest w after (Ok None) is same h = rw (is, h.0, same, h.1) refl
 line_meets a b text rest w after (Ok (Some line)) is same h =
@@ -62,14 +65,16 @@ line_meets a b text rest w after (Err too.TooLong) is same h =
 line_meets a b text rest w after (Err too.ReadFault) is same h = tt
 line_meets a b text rest w after (Err too.NoMemory) is same h = tt
 
-line_answer : (nodes : List Node) (trim : ℤ) (text rest : List ℕ) (outcome : Result (Option (Vec ℕ Global)) LineError) → GivesLine outcome text rest → OnAnswer (IsValueOf nodes) (value_of_line trim outcome)
+line_answer : (nodes : List Node) (trim : ℤ) (text rest : List ℕ) (outcome : Result (Option (Vec ℕ Global)) LineError) → GivesLine outcome text rest
+    → OnAnswer (IsValueOf nodes) (value_of_line trim outcome)
 line_answer nodes trim text rest (Ok None) h = tt
 line_answer nodes trim text rest (Ok (Some line)) h = kept_short trim line.items 1_000_000 h.1
 line_answer nodes trim text rest (Err too.TooLong) h = tt
 line_answer nodes trim text rest (Err too.ReadFault) h = tt
 line_answer nodes trim text rest (Err too.NoMemory) h = tt
 
-line_ready : (b : State) (g : Feed) (trim : ℤ) (outcome : Result (Option (Vec ℕ Global)) LineError) → OnOk outcome (b.reading.stopped ≡ None) → OnOk outcome (g.broken ≡ false) → (b.reading.told_end ≡ true → g.at_end ≡ true)
+line_ready : (b : State) (g : Feed) (trim : ℤ) (outcome : Result (Option (Vec ℕ Global)) LineError) → OnOk outcome (b.reading.stopped ≡ None)
+    → OnOk outcome (g.broken ≡ false) → (b.reading.told_end ≡ true → g.at_end ≡ true)
     → OnGoing (value_of_line trim outcome) (IsReady b g)
 line_ready b g trim (Ok None) going sound same = record { going = going; same = same; sound = sound }
 line_ready b g trim (Ok (Some line)) going sound same = record { going = going; same = same; sound = sound }
@@ -77,14 +82,16 @@ line_ready b g trim (Err too.TooLong) going sound same = tt
 line_ready b g trim (Err too.ReadFault) going sound same = tt
 line_ready b g trim (Err too.NoMemory) going sound same = tt
 
-line_cause : (g : Feed) (trim : ℤ) (outcome : Result (Option (Vec ℕ Global)) LineError) → (IsErrOf outcome too.ReadFault → g.broken ≡ true) → HasCause (value_of_line trim outcome) g
+line_cause : (g : Feed) (trim : ℤ) (outcome : Result (Option (Vec ℕ Global)) LineError) → (IsErrOf outcome too.ReadFault → g.broken ≡ true)
+    → HasCause (value_of_line trim outcome) g
 line_cause g trim (Ok None) h = tt
 line_cause g trim (Ok (Some line)) h = tt
 line_cause g trim (Err too.TooLong) h = tt
 line_cause g trim (Err too.ReadFault) h = h refl
 line_cause g trim (Err too.NoMemory) h = tt
 
-pub line_reads : (a : State) (reading : Reading) (f g : Feed) (outcome : Result (Option (Vec ℕ Global)) LineError) → ReadsLine f.left g.left a.reading reading outcome → OnOk outcome (reading.stopped ≡ None) → OnOk outcome (g.broken ≡ false)
+pub line_reads : (a : State) (reading : Reading) (f g : Feed) (outcome : Result (Option (Vec ℕ Global)) LineError)
+    → ReadsLine f.left g.left a.reading reading outcome → OnOk outcome (reading.stopped ≡ None) → OnOk outcome (g.broken ≡ false)
     → (reading.told_end ≡ true → g.at_end ≡ true) → (IsErrOf outcome too.ReadFault → g.broken ≡ true)
     → Reads shown IsValueOf reads_line a (record a { reading = reading }) f g (value_of_line a.keywords.trim outcome)
 line_reads a reading f g outcome line going sound same fault = record {
@@ -92,7 +99,8 @@ line_reads a reading f g outcome line going sound same fault = record {
   consumed = line.consumed;
   ended = line.ended;
   grows = grows_none a.nodes;
-  meets = λ more none. line_meets a (record a { reading = reading }) _ _ (world a (line.given ++ more)) (world (record a { reading = reading }) more) outcome (sym (append_assoc a.reading.held line.given more)) refl (line.line more none);
+  meets = λ more none. line_meets a (record a { reading = reading }) _ _ (world a (line.given ++ more)) (world (record a { reading = reading }) more) outcome
+      (sym (append_assoc a.reading.held line.given more)) refl (line.line more none);
   answer = line_answer a.nodes a.keywords.trim _ _ outcome (line.line [] (λ told. refl));
   kept = refl;
   calls = refl;
@@ -109,10 +117,12 @@ reads_input name h = let f : Bool → Action Value = λ b w. if b then reads_lin
 reads_held : (name : Target) → is_input name ≡ false → reads name ≡ holds name
 reads_held name h = let f : Bool → Action Value = λ b w. if b then reads_line w else holds name w in ap f h
 
-pub input_read : (name : Target) (a b : State) (f g : Feed) (r : Result Stored Exit) → is_input name ≡ true → Reads shown IsValueOf reads_line a b f g r → Reads shown IsValueOf (reads name) a b f g r
+pub input_read : (name : Target) (a b : State) (f g : Feed) (r : Result Stored Exit) → is_input name ≡ true → Reads shown IsValueOf reads_line a b f g r
+    → Reads shown IsValueOf (reads name) a b f g r
 input_read name a b f g r h did = subst (λ (act : Action Value). Reads shown IsValueOf act a b f g r) (sym (reads_input name h)) did
 
-pub held_read : (name : Target) (a b : State) (f g : Feed) (r : Result Stored Exit) → is_input name ≡ false → Reads shown IsValueOf (holds name) a b f g r → Reads shown IsValueOf (reads name) a b f g r
+pub held_read : (name : Target) (a b : State) (f g : Feed) (r : Result Stored Exit) → is_input name ≡ false → Reads shown IsValueOf (holds name) a b f g r
+    → Reads shown IsValueOf (reads name) a b f g r
 held_read name a b f g r h did = subst (λ (act : Action Value). Reads shown IsValueOf act a b f g r) (sym (reads_held name h)) did
 
 -- the numbers from one on, and one more

@@ -1,5 +1,6 @@
 -- Items of arrays and tables, as the code finds them.
-use Rattle.std.proofs.Common.{Vec, Global, ◌≡◌, ℕ, zero, suc, ◌+◌, ◌<◌, arith, ℤ, List, [], ◌∷◌, ◌++◌, take, length, get_or, map, refl, ap, ◌∙◌, Option, None, Some, Result, Ok, Err}
+use Rattle.std.proofs.Common.{Vec, Global, ◌≡◌, ℕ, zero, suc, ◌+◌, ◌<◌, arith, ℤ, List, [], ◌∷◌, ◌++◌, take, length, get_or, map, refl, ap, ◌∙◌, Option, None}
+use Rattle.std.proofs.Common.{Some, Result, Ok, Err}
 use Rattle.std.specs.Option.{option_map}
 use Rattle.sno_value.specs.declared.ids.ObjId.{ObjId}
 use Rattle.sno_value.specs.declared.value.Name.{Name as Target}
@@ -42,10 +43,12 @@ unfolding with_last
 numbers_last nodes [] k x n h is has = absurd (omega arith)
 numbers_last nodes (y ∷ xs) zero x n h is has = rw (← is, has) refl
 numbers_last nodes (y ∷ xs) (suc k) x n h is has =
-    ap (before (number_of (shown nodes y))) (numbers_last nodes xs k x n (omega arith) is has) ∙ before_last (number_of (shown nodes y)) (numbers_of (map (shown nodes) (take k xs))) n
+    ap (before (number_of (shown nodes y))) (numbers_last nodes xs k x n (omega arith) is has) ∙ before_last (number_of (shown nodes y))
+    (numbers_of (map (shown nodes) (take k xs))) n
 
 -- one more subscript, with its number
-pub numbers_next : (nodes : List Node) (xs : List Stored) (k : ℕ) (x : Stored) (ns : List ℤ) (n : ℤ) → k < length xs → x ≡ get_or xs k x → number_of (shown nodes x) ≡ Some n
+pub numbers_next : (nodes : List Node) (xs : List Stored) (k : ℕ) (x : Stored) (ns : List ℤ) (n : ℤ) → k < length xs → x ≡ get_or xs k x
+    → number_of (shown nodes x) ≡ Some n
     → numbers_of (map (shown nodes) (take k xs)) ≡ Some ns → numbers_of (map (shown nodes) (take (k + 1) xs)) ≡ Some (ns ++ n ∷ [])
 unfolding with_last
 numbers_next nodes xs k x ns n h is has so_far =
@@ -53,12 +56,14 @@ numbers_next nodes xs k x ns n h is has so_far =
     rw next (numbers_last nodes xs k x n h is has ∙ ap (with_last n) so_far)
 
 -- one that has no number
-numbers_end : (nodes : List Node) (xs : List Stored) (k : ℕ) (x : Stored) → k < length xs → x ≡ get_or xs k x → number_of (shown nodes x) ≡ None → numbers_of (map (shown nodes) xs) ≡ None
+numbers_end : (nodes : List Node) (xs : List Stored) (k : ℕ) (x : Stored) → k < length xs → x ≡ get_or xs k x → number_of (shown nodes x) ≡ None
+    → numbers_of (map (shown nodes) xs) ≡ None
 numbers_end nodes [] k x h is none = absurd (omega arith)
 numbers_end nodes (y ∷ xs) zero x h is none = rw (← is, none) refl
 numbers_end nodes (y ∷ xs) (suc k) x h is none = rw (numbers_end nodes xs k x (omega arith) is none) (before_none (number_of (shown nodes y)))
 
-pub numbers_refused : (nodes : List Node) (xs : List Stored) (k : ℕ) (x : Stored) (e : Exit) → k < length xs → x ≡ get_or xs k x → IsThere {X = ℤ} (λ n. n) (number_of (shown nodes x)) (Err e)
+pub numbers_refused : (nodes : List Node) (xs : List Stored) (k : ℕ) (x : Stored) (e : Exit) → k < length xs → x ≡ get_or xs k x
+    → IsThere {X = ℤ} (λ n. n) (number_of (shown nodes x)) (Err e)
     → IsThere {X = Vec ℤ Global} (λ ns. ns.items) (numbers_of (map (shown nodes) xs)) (Err e)
 numbers_refused nodes xs k x Failure h is there = there
 numbers_refused nodes xs k x (Halt (HasError code)) h is there = (numbers_end nodes xs k x h is there.0, there.1)
@@ -76,13 +81,17 @@ unnumbered id o h = rw h refl
 abbrev named : ObjId → List ℤ → Action (Option Target)
 named id numbers = asks (λ objects. element_name objects id numbers)
 
-pub element_refused : (id : ObjId) (numbers : List ℤ) (s : State) (e : Exit) → Does {X = Option Target} itself any (named id numbers) s s (Err e) → Does {X = Target} itself any (element_numbered id (Some numbers)) s s (Err e)
+pub element_refused : (id : ObjId) (numbers : List ℤ) (s : State) (e : Exit) → Does {X = Option Target} itself any (named id numbers) s s (Err e)
+    → Does {X = Target} itself any (element_numbered id (Some numbers)) s s (Err e)
 element_refused id numbers s e h = then_err itself any itself any (named id numbers) (either fails gives) s s e h
 
-pub element_there : (id : ObjId) (numbers : List ℤ) (s : State) (name : Target) → Does itself any (named id numbers) s s (Ok (Some name)) → Does itself any (element_numbered id (Some numbers)) s s (Ok name)
-element_there id numbers s name h = then_got itself any itself any (named id numbers) (either fails gives) s s s (Some name) (Ok name) h (gives_does itself any s name name refl tt)
+pub element_there : (id : ObjId) (numbers : List ℤ) (s : State) (name : Target) → Does itself any (named id numbers) s s (Ok (Some name))
+    → Does itself any (element_numbered id (Some numbers)) s s (Ok name)
+element_there id numbers s name h = then_got itself any itself any (named id numbers) (either fails gives) s s s (Some name) (Ok name) h
+    (gives_does itself any s name name refl tt)
 
-pub out_of_range : (id : ObjId) (numbers : List ℤ) (s : State) → Does itself any (named id numbers) s s (Ok None) → Does {X = Target} itself any (element_numbered id (Some numbers)) s s (Err Failure)
+pub out_of_range : (id : ObjId) (numbers : List ℤ) (s : State) → Does itself any (named id numbers) s s (Ok None)
+    → Does {X = Target} itself any (element_numbered id (Some numbers)) s s (Err Failure)
 out_of_range id numbers s h = then_got itself any itself any (named id numbers) (either fails gives) s s s None (Err Failure) h (fails_does itself any s)
 
 -- what a table holds
@@ -90,30 +99,36 @@ out_of_range id numbers s h = then_got itself any itself any (named id numbers) 
 abbrev entry_of : ObjId → Value → Action (Option Target)
 entry_of id key = asks (λ objects. find_entry notions objects id key)
 
-pub entry_refused : (id : ObjId) (key : Value) (s : State) (e : Exit) → Does {X = Option Target} itself any (entry_of id key) s s (Err e) → Does {X = Stored} shown IsValueOf (entry_read id key) s s (Err e)
+pub entry_refused : (id : ObjId) (key : Value) (s : State) (e : Exit) → Does {X = Option Target} itself any (entry_of id key) s s (Err e)
+    → Does {X = Stored} shown IsValueOf (entry_read id key) s s (Err e)
 entry_refused id key s e h = then_err itself any shown IsValueOf (entry_of id key) (either (gives (Str [])) holds) s s e h
 
-pub entry_there : (id : ObjId) (key : Value) (s : State) (name : Target) (r : Result Stored Exit) → Does itself any (entry_of id key) s s (Ok (Some name)) → Does shown IsValueOf (holds name) s s r
+pub entry_there : (id : ObjId) (key : Value) (s : State) (name : Target) (r : Result Stored Exit) → Does itself any (entry_of id key) s s (Ok (Some name))
+    → Does shown IsValueOf (holds name) s s r
     → Does shown IsValueOf (entry_read id key) s s r
 entry_there id key s name r h held = then_got itself any shown IsValueOf (entry_of id key) (either (gives (Str [])) holds) s s s (Some name) r h held
 
-pub no_entry : (id : ObjId) (key : Value) (s : State) → Does itself any (entry_of id key) s s (Ok None) → Does shown IsValueOf (entry_read id key) s s (Ok (stored.Str []))
+pub no_entry : (id : ObjId) (key : Value) (s : State) → Does itself any (entry_of id key) s s (Ok None)
+    → Does shown IsValueOf (entry_read id key) s s (Ok (stored.Str []))
 no_entry id key s h =
     then_got itself any shown IsValueOf (entry_of id key) (either (gives (Str [])) holds) s s s None (Ok (stored.Str [])) h
     (gives_does shown IsValueOf s (stored.Str []) (Str []) refl (omega arith))
 
 -- the item of an array
 
-pub item_refused : (id : ObjId) (subscripts : List Value) (s : State) (e : Exit) → Does {X = Target} itself any (element_numbered id (numbers_of subscripts)) s s (Err e) → Does {X = Stored} shown IsValueOf (item (Array id.0) subscripts) s s (Err e)
+pub item_refused : (id : ObjId) (subscripts : List Value) (s : State) (e : Exit) → Does {X = Target} itself any (element_numbered id (numbers_of subscripts)) s
+    s (Err e) → Does {X = Stored} shown IsValueOf (item (Array id.0) subscripts) s s (Err e)
 item_refused id subscripts s e h = then_err itself any shown IsValueOf (element_numbered id (numbers_of subscripts)) holds s s e h
 
-pub item_there : (id : ObjId) (subscripts : List Value) (s : State) (name : Target) (r : Result Stored Exit) → Does itself any (element_numbered id (numbers_of subscripts)) s s (Ok name) → Does shown IsValueOf (holds name) s s r
+pub item_there : (id : ObjId) (subscripts : List Value) (s : State) (name : Target) (r : Result Stored Exit)
+    → Does itself any (element_numbered id (numbers_of subscripts)) s s (Ok name) → Does shown IsValueOf (holds name) s s r
     → Does shown IsValueOf (item (Array id.0) subscripts) s s r
 item_there id subscripts s name r h held = then_got itself any shown IsValueOf (element_numbered id (numbers_of subscripts)) holds s s s name r h held
 
 -- what is neither an array nor a table has no items
 
-pub no_item : (nodes : List Node) (x : Stored) (subscripts : List Value) → ((id : ObjId) → x ≡ stored.Array id → ⊥) → ((id : ObjId) → x ≡ stored.Table id → ⊥) → item (shown nodes x) subscripts ≡ wrong_type
+pub no_item : (nodes : List Node) (x : Stored) (subscripts : List Value) → ((id : ObjId) → x ≡ stored.Array id → ⊥) → ((id : ObjId) → x ≡ stored.Table id → ⊥)
+    → item (shown nodes x) subscripts ≡ wrong_type
 no_item nodes (stored.Str bytes) subscripts a t = refl
 no_item nodes (stored.Int number) subscripts a t = refl
 no_item nodes (stored.Pat id) subscripts a t = refl
@@ -123,7 +138,8 @@ no_item nodes (stored.Array id) subscripts a t = absurd (a id refl)
 no_item nodes (stored.Table id) subscripts a t = absurd (t id refl)
 no_item nodes (stored.Data id) subscripts a t = refl
 
-pub no_item_name : (nodes : List Node) (x : Stored) (subscripts : List Value) → ((id : ObjId) → x ≡ stored.Array id → ⊥) → ((id : ObjId) → x ≡ stored.Table id → ⊥) → item_named (shown nodes x) subscripts ≡ wrong_type
+pub no_item_name : (nodes : List Node) (x : Stored) (subscripts : List Value) → ((id : ObjId) → x ≡ stored.Array id → ⊥)
+    → ((id : ObjId) → x ≡ stored.Table id → ⊥) → item_named (shown nodes x) subscripts ≡ wrong_type
 no_item_name nodes (stored.Str bytes) subscripts a t = refl
 no_item_name nodes (stored.Int number) subscripts a t = refl
 no_item_name nodes (stored.Pat id) subscripts a t = refl

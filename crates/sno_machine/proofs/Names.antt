@@ -13,15 +13,18 @@ use Rattle.sno_machine.specs.Action.{either}
 use Rattle.sno_machine.specs.State.{State, Does, itself, any}
 use Rattle.sno_machine.proofs.Outcomes.{then_got, then_err, gives_does}
 
-pub name_given : (act : Action Target) (a b : State) (target : Target) → Does itself any act a b (Ok target) → Does shown IsValueOf (as_value act) a b (Ok (stored.Name target))
+pub name_given : (act : Action Target) (a b : State) (target : Target) → Does itself any act a b (Ok target)
+    → Does shown IsValueOf (as_value act) a b (Ok (stored.Name target))
 name_given act a b target h = then_got itself any shown IsValueOf act (λ target. gives (Name target)) a b b target (Ok (stored.Name target)) h
     (gives_does shown IsValueOf b (stored.Name target) (Name target) refl tt)
 
-pub name_refused : (act : Action Target) (a b : State) (e : Exit) → Does {X = Target} itself any act a b (Err e) → Does {X = Stored} shown IsValueOf (as_value act) a b (Err e)
+pub name_refused : (act : Action Target) (a b : State) (e : Exit) → Does {X = Target} itself any act a b (Err e)
+    → Does {X = Stored} shown IsValueOf (as_value act) a b (Err e)
 name_refused act a b e h = then_err itself any shown IsValueOf act (λ target. gives (Name target)) a b e h
 
 -- a value that is no name names by its text
-pub named_by_text : (nodes : List Node) (x : Stored) → ((target : Target) → x ≡ stored.Name target → ⊥) → named_by (shown nodes x) ≡ either wrong_type variable_named (text_of (shown nodes x))
+pub named_by_text : (nodes : List Node) (x : Stored) → ((target : Target) → x ≡ stored.Name target → ⊥) → named_by (shown nodes x)
+    ≡ either wrong_type variable_named (text_of (shown nodes x))
 named_by_text nodes (stored.Str bytes) isnt = refl
 named_by_text nodes (stored.Int number) isnt = refl
 named_by_text nodes (stored.Pat id) isnt = refl

@@ -1,5 +1,6 @@
 -- Each symbol stands once, so its number is its place.
-use Rattle.std.proofs.Common.{◌≡◌, ℕ, zero, suc, ◌+◌, ◌<◌, ◌≤◌, nat_lt, Bool, true, false, List, [], ◌∷◌, ◌++◌, if◌then◌else◌, length, slice_index_or, refl, ap, sym, ◌∙◌, subst, arith}
+use Rattle.std.proofs.Common.{◌≡◌, ℕ, zero, suc, ◌+◌, ◌<◌, ◌≤◌, nat_lt, Bool, true, false, List, [], ◌∷◌, ◌++◌, if◌then◌else◌, length, slice_index_or, refl, ap}
+use Rattle.std.proofs.Common.{sym, ◌∙◌, subst, arith}
 use Rattle.std.specs.Str.{bytes_eq}
 use Rattle.std.proofs.lemmas.Bool.{ltb-true, ltb-false}
 use Rattle.std.proofs.lemmas.Slice.Eq.{bytes_eq-Decides}
@@ -16,16 +17,20 @@ place_stays : (name new : List ℕ) (symbols : List (List ℕ)) → place name s
 place_stays name new [] h = absurd (omega arith)
 place_stays name new (symbol ∷ symbols) h = by (bytes_eq name symbol) (place_stays name new symbols) h
   where
-    by : (b : Bool) → (place name symbols < length symbols → place name (symbols ++ new ∷ []) ≡ place name symbols) → (if b then 0 else suc (place name symbols)) < suc (length symbols) → (if b then 0 else suc (place name (symbols ++ new ∷ []))) ≡ (if b then 0 else suc (place name symbols))
+    by : (b : Bool) → (place name symbols < length symbols → place name (symbols ++ new ∷ []) ≡ place name symbols)
+        → (if b then 0 else suc (place name symbols)) < suc (length symbols) → (if b then 0 else suc (place name (symbols ++ new ∷ [])))
+        ≡ (if b then 0 else suc (place name symbols))
     by true next h = refl
     by false next h = ap suc (next (omega arith))
 
 -- one that is none goes last
-place_new : (name : List ℕ) (symbols : List (List ℕ)) → bytes_eq name name ≡ true → length symbols ≤ place name symbols → place name (symbols ++ name ∷ []) ≡ length symbols
+place_new : (name : List ℕ) (symbols : List (List ℕ)) → bytes_eq name name ≡ true → length symbols ≤ place name symbols
+    → place name (symbols ++ name ∷ []) ≡ length symbols
 place_new name [] self h = ap (λ b. if b then 0 else 1) self
 place_new name (symbol ∷ symbols) self h = by (bytes_eq name symbol) (place_new name symbols self) h
   where
-    by : (b : Bool) → (length symbols ≤ place name symbols → place name (symbols ++ name ∷ []) ≡ length symbols) → suc (length symbols) ≤ (if b then 0 else suc (place name symbols)) → (if b then 0 else suc (place name (symbols ++ name ∷ []))) ≡ suc (length symbols)
+    by : (b : Bool) → (length symbols ≤ place name symbols → place name (symbols ++ name ∷ []) ≡ length symbols)
+        → suc (length symbols) ≤ (if b then 0 else suc (place name symbols)) → (if b then 0 else suc (place name (symbols ++ name ∷ []))) ≡ suc (length symbols)
     by true next h = absurd (omega arith)
     by false next h = ap suc (next (omega arith))
 
@@ -52,7 +57,8 @@ numbered_with name symbols none numbered i h = by (nat_lt i (length symbols)) re
         let past : length symbols ≤ i = ltb-false i (length symbols) is in
         let whole : length (symbols ++ name ∷ []) ≡ length symbols + 1 = length-append symbols (name ∷ []) in
         let last : i ≡ length symbols = omega arith in
-        ap (λ k. place (slice_index_or (symbols ++ name ∷ []) k []) (symbols ++ name ∷ [])) last ∙ (ap (λ s. place s (symbols ++ name ∷ [])) at ∙ (place_of_last name symbols none ∙ sym last))
+        ap (λ k. place (slice_index_or (symbols ++ name ∷ []) k []) (symbols ++ name ∷ [])) last
+        ∙ (ap (λ s. place s (symbols ++ name ∷ [])) at ∙ (place_of_last name symbols none ∙ sym last))
 
 -- the symbols of a new store
 pub new_numbered : IsNumbered new_contents.symbols
@@ -68,7 +74,8 @@ new_numbered (suc (suc (suc (suc (suc (suc (suc (suc zero)))))))) h = refl
 new_numbered (suc (suc (suc (suc (suc (suc (suc (suc (suc i))))))))) h = absurd (omega arith)
 
 -- a number whose text is a name is the name's
-pub numbered_place : (name : List ℕ) (symbols : List (List ℕ)) (i : ℕ) → IsNumbered symbols → 0 < length name → slice_index_or symbols i [] ≡ name → (i < length symbols) × (place name symbols ≡ i)
+pub numbered_place : (name : List ℕ) (symbols : List (List ℕ)) (i : ℕ) → IsNumbered symbols → 0 < length name → slice_index_or symbols i [] ≡ name
+    → (i < length symbols) × (place name symbols ≡ i)
 numbered_place name symbols i numbered some is = by (nat_lt i (length symbols)) refl
   where
     by : (b : Bool) → nat_lt i (length symbols) ≡ b → (i < length symbols) × (place name symbols ≡ i)

@@ -101,7 +101,8 @@ shown_agrees nodes = record { null = refl; is_null = null_shown nodes; is_key = 
 
 -- an operation on the objects
 
-pub done_ok : {X : Type 0} (s : State) (new : Contents) (operation : List (Object Stored) → Result (X × List (Object Stored)) ℕ) (meant : List (Object Value) → Result (X × List (Object Value)) ℕ) (x : X)
+pub done_ok : {X : Type 0} (s : State) (new : Contents) (operation : List (Object Stored) → Result (X × List (Object Stored)) ℕ) (meant : List (Object Value)
+    → Result (X × List (Object Value)) ℕ) (x : X)
     → ((objects : List (Object Stored)) → meant (mapped (shown s.nodes) objects) ≡ map_made (shown s.nodes) (operation objects))
     → IsDone as_told operation s.store new (Ok x) → Does itself any (does meant) s (record s { store = new }) (Ok x)
 done_ok {X = X} s new operation meant x same h = record {
@@ -113,20 +114,27 @@ done_ok {X = X} s new operation meant x same h = record {
   unread = calls_untouched s new (ap (λ (c : Contents). c.calls) h.1);
 }
 
-refused_as : {X : Type 0} (s : State) (new : Contents) (meant : List (Object Value) → Result (X × List (Object Value)) ℕ) (code : ℕ) → meant (mapped (shown s.nodes) s.store.objects) ≡ Err code
+refused_as : {X : Type 0} (s : State) (new : Contents) (meant : List (Object Value) → Result (X × List (Object Value)) ℕ) (code : ℕ)
+    → meant (mapped (shown s.nodes) s.store.objects) ≡ Err code
     → (more : List ℕ) → does meant (world s more) ≡ record { ending = Stops (Error code); world = world s more; wrote = [] }
 refused_as {X = X} s new meant code is more = ap (λ (r : Result (X × List (Object Value)) ℕ). after_change r (world s more)) is
 
-does_refused : {X : Type 0} (s : State) (new : Contents) (meant : List (Object Value) → Result (X × List (Object Value)) ℕ) (code : ℕ) → new ≡ s.store → meant (mapped (shown s.nodes) s.store.objects) ≡ Err code
+does_refused : {X : Type 0} (s : State) (new : Contents) (meant : List (Object Value) → Result (X × List (Object Value)) ℕ) (code : ℕ) → new ≡ s.store
+    → meant (mapped (shown s.nodes) s.store.objects) ≡ Err code
     → Does {X = X} itself any (does meant) s (record s { store = new }) (Err (Halt (HasError code)))
 does_refused s new meant code same is = record {
   grows = grows_none s.nodes;
-  meets = λ more. (ap (λ (o : Outcome _). o.ending) (refused_as s new meant code is more), ap (λ (o : Outcome _). o.wrote) (refused_as s new meant code is more));
+  meets = λ more. (
+    ap (λ (o : Outcome _). o.ending) (refused_as s new meant code is more),
+    ap (λ (o : Outcome _). o.wrote)
+        (refused_as s new meant code is more),
+  );
   answer = tt;
   unread = store_untouched s new same;
 }
 
-pub done_err : {X : Type 0} (s : State) (new : Contents) (operation : List (Object Stored) → Result (X × List (Object Stored)) ℕ) (meant : List (Object Value) → Result (X × List (Object Value)) ℕ) (e : StoreError)
+pub done_err : {X : Type 0} (s : State) (new : Contents) (operation : List (Object Stored) → Result (X × List (Object Stored)) ℕ) (meant : List (Object Value)
+    → Result (X × List (Object Value)) ℕ) (e : StoreError)
     → ((objects : List (Object Stored)) → meant (mapped (shown s.nodes) objects) ≡ map_made (shown s.nodes) (operation objects))
     → IsDone {X = X} as_told operation s.store new (Err e) → Does {X = X} itself any (does meant) s (record s { store = new }) (Err (exit_of_store e))
 done_err s new operation meant NullName same h = does_refused s new meant 6 h.1 (same s.store.objects ∙ ap (map_made (shown s.nodes)) h.0)
@@ -134,29 +142,43 @@ done_err s new operation meant Full same h = does_refused s new meant 9 h.1 (sam
 done_err s new operation meant WrongType same h = does_refused s new meant 1 h.1 (same s.store.objects ∙ ap (map_made (shown s.nodes)) h.0)
 done_err s new operation meant BadPrototype same h = does_refused s new meant 12 h.1 (same s.store.objects ∙ ap (map_made (shown s.nodes)) h.0)
 done_err s new operation meant CallLevel same h = does_refused s new meant 10 h.1 (same s.store.objects ∙ ap (map_made (shown s.nodes)) h.0)
-done_err s new operation meant NoMemory same h = no_memory_does itself any (does meant) s (record s { store = new }) (grows_none s.nodes) (store_untouched s new h.1)
+done_err s new operation meant NoMemory same h =
+    no_memory_does itself any (does meant) s (record s { store = new }) (grows_none s.nodes) (store_untouched s new h.1)
 
-left_known : {X : Type 0} (nodes : List Node) (x : X) (objects : List (Object Stored)) (r : Result (X × List (Object Stored)) ℕ) → r ≡ Ok (x, objects) → Leaves nodes r → AllKnown nodes objects
+left_known : {X : Type 0} (nodes : List Node) (x : X) (objects : List (Object Stored)) (r : Result (X × List (Object Stored)) ℕ) → r ≡ Ok (x, objects)
+    → Leaves nodes r → AllKnown nodes objects
 left_known nodes x objects r is h = subst (λ r. Leaves nodes r) is h
 
 -- what is known stays known
-pub done_known : {X : Type 0} (nodes : List Node) (old new : Contents) (operation : List (Object Stored) → Result (X × List (Object Stored)) ℕ) (r : Result X StoreError)
+pub done_known : {X : Type 0} (nodes : List Node) (old new : Contents) (operation : List (Object Stored) → Result (X × List (Object Stored)) ℕ)
+    (r : Result X StoreError)
     → IsKnown nodes old → Leaves nodes (operation old.objects) → IsDone as_told operation old new r → IsKnown nodes new
 done_known nodes old new operation (Ok x) k leaves h =
-    subst (IsKnown nodes) (sym h.1) (record { symbols = k.symbols; numbered = k.numbered; values = k.values; objects = left_known nodes x new.objects (operation old.objects) h.0 leaves; types = k.types; calls = k.calls })
+    subst (IsKnown nodes) (sym h.1)
+    (record {
+      symbols = k.symbols;
+      numbered = k.numbered;
+      values = k.values;
+      objects = left_known nodes x new.objects (operation old.objects) h.0 leaves;
+      types = k.types;
+      calls = k.calls;
+    })
 done_known nodes old new operation (Err e) k leaves h = subst (IsKnown nodes) (sym h.1) k
 
 -- a question to the objects
 
-pub asked_ok : {X A : Type 0} (see : X → A) (s : State) (told : Result A ℕ) (meant : List (Object Value) → Result A ℕ) (x : X) → meant (mapped (shown s.nodes) s.store.objects) ≡ told → IsAnswered see told (Ok x)
+pub asked_ok : {X A : Type 0} (see : X → A) (s : State) (told : Result A ℕ) (meant : List (Object Value) → Result A ℕ) (x : X)
+    → meant (mapped (shown s.nodes) s.store.objects) ≡ told → IsAnswered see told (Ok x)
     → (more : List ℕ) → asks meant (world s more) ≡ record { ending = Got (see x); world = world s more; wrote = [] }
 asked_ok {A = A} see s told meant x same h more = ap (λ (r : Result A ℕ). answers r (world s more)) (same ∙ h)
 
-pub asked_does : {X : Type 0} (s : State) (told : Result X ℕ) (meant : List (Object Value) → Result X ℕ) (x : X) → meant (mapped (shown s.nodes) s.store.objects) ≡ told → IsAnswered as_told told (Ok x)
+pub asked_does : {X : Type 0} (s : State) (told : Result X ℕ) (meant : List (Object Value) → Result X ℕ) (x : X)
+    → meant (mapped (shown s.nodes) s.store.objects) ≡ told → IsAnswered as_told told (Ok x)
     → Does itself any (asks meant) s s (Ok x)
 asked_does s told meant x same h = record { grows = grows_none s.nodes; meets = asked_ok as_told s told meant x same h; answer = tt; unread = refl }
 
-asked_refused : {X A : Type 0} (s : State) (meant : List (Object Value) → Result A ℕ) (see : List Node → X → A) (fits : List Node → X → Type 0) (code : ℕ) → meant (mapped (shown s.nodes) s.store.objects) ≡ Err code → Does {X = X} see fits (asks meant) s s (Err (Halt (HasError code)))
+asked_refused : {X A : Type 0} (s : State) (meant : List (Object Value) → Result A ℕ) (see : List Node → X → A) (fits : List Node → X → Type 0) (code : ℕ)
+    → meant (mapped (shown s.nodes) s.store.objects) ≡ Err code → Does {X = X} see fits (asks meant) s s (Err (Halt (HasError code)))
 asked_refused {A = A} s meant see fits code is = record {
   grows = grows_none s.nodes;
   meets = λ more. (ap (λ (r : Result A ℕ). (answers r (world s more)).ending) is, ap (λ (r : Result A ℕ). (answers r (world s more)).wrote) is);
@@ -164,7 +186,8 @@ asked_refused {A = A} s meant see fits code is = record {
   unread = refl;
 }
 
-pub asked_err : {X Y A : Type 0} (look : Y → A) (s : State) (told : Result A ℕ) (meant : List (Object Value) → Result A ℕ) (see : List Node → X → A) (fits : List Node → X → Type 0) (e : StoreError) → meant (mapped (shown s.nodes) s.store.objects) ≡ told → IsAnswered look told (Err e)
+pub asked_err : {X Y A : Type 0} (look : Y → A) (s : State) (told : Result A ℕ) (meant : List (Object Value) → Result A ℕ) (see : List Node → X → A)
+    (fits : List Node → X → Type 0) (e : StoreError) → meant (mapped (shown s.nodes) s.store.objects) ≡ told → IsAnswered look told (Err e)
     → Does {X = X} see fits (asks meant) s s (Err (exit_of_store e))
 asked_err look s told meant see fits NullName same h = asked_refused s meant see fits 6 (same ∙ h)
 asked_err look s told meant see fits Full same h = asked_refused s meant see fits 9 (same ∙ h)
@@ -175,10 +198,14 @@ asked_err look s told meant see fits NoMemory same h = absurd h
 
 -- the text of a prototype
 
-pub asked_text : (s : State) (meant : List (Object Value) → Result (List ℕ) ℕ) (text : List ℕ) → meant (mapped (shown s.nodes) s.store.objects) ≡ Ok text → length text ≤ 1_000_000
+pub asked_text : (s : State) (meant : List (Object Value) → Result (List ℕ) ℕ) (text : List ℕ) → meant (mapped (shown s.nodes) s.store.objects) ≡ Ok text
+    → length text ≤ 1_000_000
     → Does shown IsValueOf (and_then (asks meant) (λ text. gives (Str text))) s s (Ok (stored.Str text))
-asked_text s meant text is short = then_got itself any shown IsValueOf (asks meant) (λ text. gives (Str text)) s s s text (Ok (stored.Str text)) (asked_does s (Ok text) meant text is refl) (gives_does shown IsValueOf s (stored.Str text) (Str text) refl short)
+asked_text s meant text is short = then_got itself any shown IsValueOf (asks meant) (λ text. gives (Str text)) s s s text (Ok (stored.Str text))
+    (asked_does s (Ok text) meant text is refl) (gives_does shown IsValueOf s (stored.Str text) (Str text) refl short)
 
-pub asked_text_err : {Y : Type 0} (look : Y → List ℕ) (s : State) (told : Result (List ℕ) ℕ) (meant : List (Object Value) → Result (List ℕ) ℕ) (e : StoreError) → meant (mapped (shown s.nodes) s.store.objects) ≡ told → IsAnswered look told (Err e)
+pub asked_text_err : {Y : Type 0} (look : Y → List ℕ) (s : State) (told : Result (List ℕ) ℕ) (meant : List (Object Value) → Result (List ℕ) ℕ) (e : StoreError)
+    → meant (mapped (shown s.nodes) s.store.objects) ≡ told → IsAnswered look told (Err e)
     → Does {X = Stored} shown IsValueOf (and_then (asks meant) (λ text. gives (Str text))) s s (Err (exit_of_store e))
-asked_text_err look s told meant e same h = then_err {X = List ℕ} itself any shown IsValueOf (asks meant) (λ text. gives (Str text)) s s (exit_of_store e) (asked_err look s told meant itself any e same h)
+asked_text_err look s told meant e same h = then_err {X = List ℕ} itself any shown IsValueOf (asks meant) (λ text. gives (Str text)) s s (exit_of_store e)
+    (asked_err look s told meant itself any e same h)

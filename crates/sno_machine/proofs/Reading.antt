@@ -57,7 +57,8 @@ pub ready_unread : (a b : State) (f : Feed) → untouched b ≡ untouched a → 
 ready_unread a b f u ready = let s = same_reading a b u in record { going = rw s ready.going; same = λ told. ready.same (rw s at told); sound = ready.sound }
 
 -- what reads nothing
-pub reads_nothing : {X A : Type 0} (see : List Node → X → A) (fits : List Node → X → Type 0) (act : Action A) (a b : State) (f : Feed) (r : Result X Exit) → IsReady a f → Does see fits act a b r → Reads see fits act a b f f r
+pub reads_nothing : {X A : Type 0} (see : List Node → X → A) (fits : List Node → X → Type 0) (act : Action A) (a b : State) (f : Feed) (r : Result X Exit)
+    → IsReady a f → Does see fits act a b r → Reads see fits act a b f f r
 reads_nothing see fits act a b f r ready did = record {
   given = [];
   consumed = consumes_nothing f.left;
@@ -74,13 +75,15 @@ reads_nothing see fits act a b f r ready did = record {
 
 -- an action that ended in one way, and what follows that
 
-settled_reading : {Y A B : Type 0} (look : Y → B) (k : Option A → Action B) (o p : Outcome A) (w : World) (r : Result Y Exit) → o ≡ p → MeetsReading {X = Y} look (settled p.ending p.world p.wrote k) w r → MeetsReading look (settled o.ending o.world o.wrote k) w r
+settled_reading : {Y A B : Type 0} (look : Y → B) (k : Option A → Action B) (o p : Outcome A) (w : World) (r : Result Y Exit) → o ≡ p
+    → MeetsReading {X = Y} look (settled p.ending p.world p.wrote k) w r → MeetsReading look (settled o.ending o.world o.wrote k) w r
 settled_reading look k o p w r is h = subst (λ (q : Outcome _). MeetsReading look (settled q.ending q.world q.wrote k) w r) (sym is) h
 
 pub none_given : (first second : List ℕ) → first ≡ [] → second ≡ [] → first ++ second ≡ []
 none_given first second h k = rw (h, k) refl
 
-pub reads_got : {X Y A B : Type 0} (see : List Node → X → A) (fits : List Node → X → Type 0) (look : List Node → Y → B) (suits : List Node → Y → Type 0) (act : Action A) (k : Option A → Action B) (a b c : State) (f g h : Feed) (x : X) (r : Result Y Exit)
+pub reads_got : {X Y A B : Type 0} (see : List Node → X → A) (fits : List Node → X → Type 0) (look : List Node → Y → B) (suits : List Node → Y → Type 0)
+    (act : Action A) (k : Option A → Action B) (a b c : State) (f g h : Feed) (x : X) (r : Result Y Exit)
     → Reads see fits act a b f g (Ok x) → Reads look suits (k (Some (see b.nodes x))) b c g h r → Reads look suits (settles act k) a c f h r
 unfolding settles
 reads_got {A = A} see fits look suits act k a b c f g h x r p q = record {
@@ -89,8 +92,10 @@ reads_got {A = A} see fits look suits act k a b c f g h x r p q = record {
   ended = λ told. let m = p.ended told in let n = q.ended m.1 in (none_given p.given q.given m.0 n.0, n.1);
   grows = grows_twice a.nodes b.nodes c.nodes p.grows q.grows;
   meets = λ more none.
-      subst (λ (bytes : List ℕ). MeetsReading (look c.nodes) (settled (act (world a bytes)).ending (act (world a bytes)).world (act (world a bytes)).wrote k) (world c more) r) (sym (append_assoc p.given q.given more))
-      (settled_reading (look c.nodes) k (act (world a (p.given ++ (q.given ++ more)))) _ (world c more) r (p.meets (q.given ++ more) (λ told. let n = q.ended told in none_given q.given more n.0 (none n.1))) (q.meets more none));
+      subst (λ (bytes : List ℕ). MeetsReading (look c.nodes) (settled (act (world a bytes)).ending (act (world a bytes)).world (act (world a bytes)).wrote k)
+      (world c more) r) (sym (append_assoc p.given q.given more))
+      (settled_reading (look c.nodes) k (act (world a (p.given ++ (q.given ++ more)))) _ (world c more) r
+      (p.meets (q.given ++ more) (λ told. let n = q.ended told in none_given q.given more n.0 (none n.1))) (q.meets more none));
   answer = q.answer;
   kept = q.kept ∙ p.kept;
   calls = q.calls ∙ p.calls;
@@ -99,7 +104,8 @@ reads_got {A = A} see fits look suits act k a b c f g h x r p q = record {
   cause = q.cause;
 }
 
-pub reads_failed : {X Y A B : Type 0} (see : List Node → X → A) (fits : List Node → X → Type 0) (look : List Node → Y → B) (suits : List Node → Y → Type 0) (act : Action A) (k : Option A → Action B) (a b c : State) (f g h : Feed) (r : Result Y Exit)
+pub reads_failed : {X Y A B : Type 0} (see : List Node → X → A) (fits : List Node → X → Type 0) (look : List Node → Y → B) (suits : List Node → Y → Type 0)
+    (act : Action A) (k : Option A → Action B) (a b c : State) (f g h : Feed) (r : Result Y Exit)
     → Reads {X = X} see fits act a b f g (Err Failure) → Reads look suits (k None) b c g h r → Reads look suits (settles act k) a c f h r
 unfolding settles
 reads_failed {A = A} see fits look suits act k a b c f g h r p q = record {
@@ -108,8 +114,10 @@ reads_failed {A = A} see fits look suits act k a b c f g h r p q = record {
   ended = λ told. let m = p.ended told in let n = q.ended m.1 in (none_given p.given q.given m.0 n.0, n.1);
   grows = grows_twice a.nodes b.nodes c.nodes p.grows q.grows;
   meets = λ more none.
-      subst (λ (bytes : List ℕ). MeetsReading (look c.nodes) (settled (act (world a bytes)).ending (act (world a bytes)).world (act (world a bytes)).wrote k) (world c more) r) (sym (append_assoc p.given q.given more))
-      (settled_reading (look c.nodes) k (act (world a (p.given ++ (q.given ++ more)))) _ (world c more) r (p.meets (q.given ++ more) (λ told. let n = q.ended told in none_given q.given more n.0 (none n.1))) (q.meets more none));
+      subst (λ (bytes : List ℕ). MeetsReading (look c.nodes) (settled (act (world a bytes)).ending (act (world a bytes)).world (act (world a bytes)).wrote k)
+      (world c more) r) (sym (append_assoc p.given q.given more))
+      (settled_reading (look c.nodes) k (act (world a (p.given ++ (q.given ++ more)))) _ (world c more) r
+      (p.meets (q.given ++ more) (λ told. let n = q.ended told in none_given q.given more n.0 (none n.1))) (q.meets more none));
   answer = q.answer;
   kept = q.kept ∙ p.kept;
   calls = q.calls ∙ p.calls;
@@ -118,7 +126,8 @@ reads_failed {A = A} see fits look suits act k a b c f g h r p q = record {
   cause = q.cause;
 }
 
-settled_halt : {X Y A B : Type 0} (see : X → A) (look : Y → B) (k : Option A → Action B) (o : Outcome A) (w : World) (why : Stop) → MeetsReading {X = X} see o w (Err (Halt why)) → MeetsReading {X = Y} look (settled o.ending o.world o.wrote k) w (Err (Halt why))
+settled_halt : {X Y A B : Type 0} (see : X → A) (look : Y → B) (k : Option A → Action B) (o : Outcome A) (w : World) (why : Stop)
+    → MeetsReading {X = X} see o w (Err (Halt why)) → MeetsReading {X = Y} look (settled o.ending o.world o.wrote k) w (Err (Halt why))
 settled_halt see look k o w (HasError code) h = rw h.0 (refl, h.1)
 settled_halt see look k o w NoMemory h = tt
 settled_halt see look k o w ReadFault h = tt
@@ -134,7 +143,8 @@ same_cause X Y WriteFault f h = tt
 same_cause X Y (HasErrorIn code statement) f h = tt
 same_cause X Y HasEnded f h = tt
 
-pub reads_halt : {X Y A B : Type 0} (see : List Node → X → A) (fits : List Node → X → Type 0) (look : List Node → Y → B) (suits : List Node → Y → Type 0) (act : Action A) (k : Option A → Action B) (a b : State) (f g : Feed) (why : Stop)
+pub reads_halt : {X Y A B : Type 0} (see : List Node → X → A) (fits : List Node → X → Type 0) (look : List Node → Y → B) (suits : List Node → Y → Type 0)
+    (act : Action A) (k : Option A → Action B) (a b : State) (f g : Feed) (why : Stop)
     → Reads {X = X} see fits act a b f g (Err (Halt why)) → Reads {X = Y} look suits (settles act k) a b f g (Err (Halt why))
 unfolding settles
 reads_halt {X = X} {Y = Y} see fits look suits act k a b f g why p = record {
@@ -153,12 +163,15 @@ reads_halt {X = X} {Y = Y} see fits look suits act k a b f g why p = record {
 
 -- the same of what goes on only with a value
 
-pub then_reads : {X Y A B : Type 0} (see : List Node → X → A) (fits : List Node → X → Type 0) (look : List Node → Y → B) (suits : List Node → Y → Type 0) (act : Action A) (next : A → Action B) (a b c : State) (f g h : Feed) (x : X) (r : Result Y Exit)
+pub then_reads : {X Y A B : Type 0} (see : List Node → X → A) (fits : List Node → X → Type 0) (look : List Node → Y → B) (suits : List Node → Y → Type 0)
+    (act : Action A) (next : A → Action B) (a b c : State) (f g h : Feed) (x : X) (r : Result Y Exit)
     → Reads see fits act a b f g (Ok x) → Reads look suits (next (see b.nodes x)) b c g h r → Reads look suits (and_then act next) a c f h r
 then_reads see fits look suits act next a b c f g h x r p q = reads_got see fits look suits act (either fails next) a b c f g h x r p q
 
-pub then_unread : {X Y A B : Type 0} (see : List Node → X → A) (fits : List Node → X → Type 0) (look : List Node → Y → B) (suits : List Node → Y → Type 0) (act : Action A) (next : A → Action B) (a b : State) (f g : Feed) (e : Exit)
+pub then_unread : {X Y A B : Type 0} (see : List Node → X → A) (fits : List Node → X → Type 0) (look : List Node → Y → B) (suits : List Node → Y → Type 0)
+    (act : Action A) (next : A → Action B) (a b : State) (f g : Feed) (e : Exit)
     → Reads {X = X} see fits act a b f g (Err e) → Reads {X = Y} look suits (and_then act next) a b f g (Err e)
 then_unread see fits look suits act next a b f g Failure p =
-    reads_failed see fits look suits act (either fails next) a b b f g g (Err Failure) p (reads_nothing look suits fails b b g (Err Failure) p.ready (fails_does look suits b))
+    reads_failed see fits look suits act (either fails next) a b b f g g (Err Failure) p
+    (reads_nothing look suits fails b b g (Err Failure) p.ready (fails_does look suits b))
 then_unread see fits look suits act next a b f g (Halt why) p = reads_halt see fits look suits act (either fails next) a b f g why p

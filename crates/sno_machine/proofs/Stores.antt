@@ -1,5 +1,6 @@
 -- What the store's calls do to the world.
-use Rattle.std.proofs.Common.{◌≡◌, ℕ, ◌==◌, ◌<◌, ◌≤◌, Bool, true, false, List, [], ◌∷◌, ◌++◌, if◌then◌else◌, length, slice_index_or, refl, ap, sym, ◌∙◌, subst, arith, Result, Ok, Err}
+use Rattle.std.proofs.Common.{◌≡◌, ℕ, ◌==◌, ◌<◌, ◌≤◌, Bool, true, false, List, [], ◌∷◌, ◌++◌, if◌then◌else◌, length, slice_index_or, refl, ap, sym, ◌∙◌, subst}
+use Rattle.std.proofs.Common.{arith, Result, Ok, Err}
 use Rattle.std.proofs.lemmas.Bool.{le-ltb, lt-ltb}
 use Rattle.std.proofs.lemmas.List.{map-append, map-set}
 use Rattle.std.proofs.Math.ListN.{get_or-map}
@@ -29,12 +30,22 @@ use Rattle.sno_machine.proofs.Outcomes.{grows_none, no_memory_does, all_values_s
 -- what is known of a store
 
 pub known_grown : (old new : List Node) (store : Contents) → Grows old new → IsKnown old store → IsKnown new store
-known_grown old new store g k = record { symbols = k.symbols; numbered = k.numbered; values = all_values_stay old new store.values g k.values; objects = all_objects_stay old new store.objects g k.objects; types = k.types; calls = all_calls_stay old new store.calls g k.calls }
+known_grown old new store g k =
+    record {
+      symbols = k.symbols;
+      numbered = k.numbered;
+      values = all_values_stay old new store.values g k.values;
+      objects = all_objects_stay old new store.objects g k.objects;
+      types = k.types;
+      calls = all_calls_stay old new store.calls g k.calls;
+    }
 
-pub known_joined : (nodes : List Node) (name : List ℕ) (store : Contents) → length name ≤ 1_000_000 → IsKnown nodes store → IsKnown nodes (with_symbol name store)
+pub known_joined : (nodes : List Node) (name : List ℕ) (store : Contents) → length name ≤ 1_000_000 → IsKnown nodes store
+    → IsKnown nodes (with_symbol name store)
 known_joined nodes name store short k = by (is_symbol name store.symbols) refl
   where
-    by : (b : Bool) → is_symbol name store.symbols ≡ b → IsKnown nodes (if b then store else record store { symbols = store.symbols ++ name ∷ []; values = store.values ++ stored.Str [] ∷ [] })
+    by : (b : Bool) → is_symbol name store.symbols ≡ b
+        → IsKnown nodes (if b then store else record store { symbols = store.symbols ++ name ∷ []; values = store.values ++ stored.Str [] ∷ [] })
     by true is = k
     by false is = record {
       numbered = numbered_with name store.symbols is k.numbered;
@@ -45,11 +56,44 @@ known_joined nodes name store short k = by (is_symbol name store.symbols) refl
       calls = k.calls;
     }
 
-pub known_set : (nodes : List Node) (name : Target) (value : Stored) (store : Contents) → IsValueOf nodes value → IsKnown nodes store → IsKnown nodes (with_stored name value store)
-known_set nodes (Var id) value store v k = record { symbols = k.symbols; numbered = k.numbered; values = all_set (IsValueOf nodes) store.values id.0 value k.values v; objects = k.objects; types = k.types; calls = k.calls }
-known_set nodes (Elem object i) value store v k = record { symbols = k.symbols; numbered = k.numbered; values = k.values; objects = element_set_known nodes i value store.objects object v k.objects; types = k.types; calls = k.calls }
-known_set nodes (Entry object i) value store v k = record { symbols = k.symbols; numbered = k.numbered; values = k.values; objects = entry_set_known nodes i value store.objects object v k.objects; types = k.types; calls = k.calls }
-known_set nodes (Field object i) value store v k = record { symbols = k.symbols; numbered = k.numbered; values = k.values; objects = field_set_known nodes i value store.objects object v k.objects; types = k.types; calls = k.calls }
+pub known_set : (nodes : List Node) (name : Target) (value : Stored) (store : Contents) → IsValueOf nodes value → IsKnown nodes store
+    → IsKnown nodes (with_stored name value store)
+known_set nodes (Var id) value store v k =
+    record {
+      symbols = k.symbols;
+      numbered = k.numbered;
+      values = all_set (IsValueOf nodes) store.values id.0 value k.values v;
+      objects = k.objects;
+      types = k.types;
+      calls = k.calls;
+    }
+known_set nodes (Elem object i) value store v k =
+    record {
+      symbols = k.symbols;
+      numbered = k.numbered;
+      values = k.values;
+      objects = element_set_known nodes i value store.objects object v k.objects;
+      types = k.types;
+      calls = k.calls;
+    }
+known_set nodes (Entry object i) value store v k =
+    record {
+      symbols = k.symbols;
+      numbered = k.numbered;
+      values = k.values;
+      objects = entry_set_known nodes i value store.objects object v k.objects;
+      types = k.types;
+      calls = k.calls;
+    }
+known_set nodes (Field object i) value store v k =
+    record {
+      symbols = k.symbols;
+      numbered = k.numbered;
+      values = k.values;
+      objects = field_set_known nodes i value store.objects object v k.objects;
+      types = k.types;
+      calls = k.calls;
+    }
 
 -- a new store
 begins_known : IsKnown first_patterns new_contents
@@ -99,14 +143,24 @@ joined_by true full name a new id k more is same =
 joined_by false true name a new id k more is same = absurd (cc is)
 joined_by false false name a new id k more is same =
     let e : length a.store.symbols ≡ id.0 = cc is in
-    (λ i. record { ending = Got (Var (symbol (e i))); world = record (world a more) { symbols = a.store.symbols ++ name ∷ []; values = sym (map-append (shown a.nodes) a.store.values (stored.Str [] ∷ [])) i }; wrote = [] })
+    (λ i. record {
+      ending = Got (Var (symbol (e i)));
+      world = record (world a more) {
+        symbols = a.store.symbols ++ name ∷ [];
+        values = sym (map-append (shown a.nodes) a.store.values (stored.Str [] ∷ [])) i;
+      };
+      wrote = [];
+    })
     ∙ ap (λ c. record { ending = Got (Var id); world = at_store a c more; wrote = [] }) (sym same)
 
-pub named : (a : State) (new : Contents) (name : List ℕ) (id : SymId) → length name ≤ 1_000_000 → IsJoined name a.store new (Ok id) → Does itself any (variable_named name) a (record a { store = new }) (Ok (Var id))
+pub named : (a : State) (new : Contents) (name : List ℕ) (id : SymId) → length name ≤ 1_000_000 → IsJoined name a.store new (Ok id)
+    → Does itself any (variable_named name) a (record a { store = new }) (Ok (Var id))
 named a new [] id short h = absurd (cc h.0)
 named a new (byte ∷ bytes) id short h = record {
   grows = grows_none a.nodes;
-  meets = λ more. rw (le-ltb 1_000_000 (length (byte ∷ bytes)) short) (joined_by (is_symbol (byte ∷ bytes) a.store.symbols) (length a.store.symbols == 1_000_000) (byte ∷ bytes) a new id (place (byte ∷ bytes) a.store.symbols) more h.0 h.1);
+  meets = λ more. rw (le-ltb 1_000_000 (length (byte ∷ bytes)) short)
+      (joined_by (is_symbol (byte ∷ bytes) a.store.symbols) (length a.store.symbols == 1_000_000) (byte ∷ bytes) a new id
+      (place (byte ∷ bytes) a.store.symbols) more h.0 h.1);
   answer = tt;
   unread = calls_untouched a new (ap (λ (c : Contents). c.calls) h.1 ∙ joined_calls (byte ∷ bytes) a.store);
 }
@@ -117,16 +171,26 @@ full_by true full name w k n e is = absurd (cc is)
 full_by false true name w k n e is = let same : Full ≡ e = cc is in (sym same, refl)
 full_by false false name w k n e is = absurd (cc is)
 
-refused_full : (a : State) (new : Contents) (name : List ℕ) → length name ≤ 1_000_000 → joining name a.store.symbols ≡ Err Full → new ≡ a.store → Does {X = Target} itself any (variable_named name) a (record a { store = new }) (Err (exit_of_store Full))
+refused_full : (a : State) (new : Contents) (name : List ℕ) → length name ≤ 1_000_000 → joining name a.store.symbols ≡ Err Full → new ≡ a.store
+    → Does {X = Target} itself any (variable_named name) a (record a { store = new }) (Err (exit_of_store Full))
 refused_full a new [] short is same = absurd (cc is)
 refused_full a new (byte ∷ bytes) short is same =
-    let is_full : (more : List ℕ) → _ = λ more. full_by (is_symbol (byte ∷ bytes) a.store.symbols) (length a.store.symbols == 1_000_000) (byte ∷ bytes) (world a more) (place (byte ∷ bytes) a.store.symbols) (length a.store.symbols) Full is in
-    record { grows = grows_none a.nodes; meets = λ more. rw (le-ltb 1_000_000 (length (byte ∷ bytes)) short) (ap (λ (o : Outcome Target). o.ending) (is_full more).1, ap (λ (o : Outcome Target). o.wrote) (is_full more).1); answer = tt; unread = store_untouched a new same }
+    let is_full : (more : List ℕ) → _ = λ more. full_by (is_symbol (byte ∷ bytes) a.store.symbols) (length a.store.symbols == 1_000_000) (byte ∷ bytes)
+    (world a more) (place (byte ∷ bytes) a.store.symbols) (length a.store.symbols) Full is in
+    record {
+      grows = grows_none a.nodes;
+      meets = λ more. rw (le-ltb 1_000_000 (length (byte ∷ bytes)) short)
+          (ap (λ (o : Outcome Target). o.ending) (is_full more).1, ap (λ (o : Outcome Target). o.wrote) (is_full more).1);
+      answer = tt;
+      unread = store_untouched a new same;
+    }
 
-refused_null : (a : State) (new : Contents) (name : List ℕ) → joining name a.store.symbols ≡ Err NullName → new ≡ a.store → Does {X = Target} itself any (variable_named name) a (record a { store = new }) (Err (exit_of_store NullName))
+refused_null : (a : State) (new : Contents) (name : List ℕ) → joining name a.store.symbols ≡ Err NullName → new ≡ a.store
+    → Does {X = Target} itself any (variable_named name) a (record a { store = new }) (Err (exit_of_store NullName))
 refused_null a new [] is same = record { grows = grows_none a.nodes; meets = λ more. (refl, refl); answer = tt; unread = store_untouched a new same }
 refused_null a new (byte ∷ bytes) is same =
-    let none = full_by (is_symbol (byte ∷ bytes) a.store.symbols) (length a.store.symbols == 1_000_000) (byte ∷ bytes) (world a []) (place (byte ∷ bytes) a.store.symbols) (length a.store.symbols) NullName is in absurd (cc none.0)
+    let none = full_by (is_symbol (byte ∷ bytes) a.store.symbols) (length a.store.symbols == 1_000_000) (byte ∷ bytes) (world a [])
+    (place (byte ∷ bytes) a.store.symbols) (length a.store.symbols) NullName is in absurd (cc none.0)
 
 -- a name that isn't given is null, or the symbols are full
 named_or_full : (name : List ℕ) (c : Contents) (e : StoreError) → joining name c.symbols ≡ Err e → (e ≡ NullName → ⊥) → (e ≡ Full → ⊥) → ⊥
@@ -138,24 +202,33 @@ named_or_full (byte ∷ bytes) c e is null full = by (is_symbol (byte ∷ bytes)
     by false true is = full (sym (cc is))
     by false false is = cc is
 
-pub not_named : (a : State) (new : Contents) (name : List ℕ) (e : StoreError) → length name ≤ 1_000_000 → IsJoined name a.store new (Err e) → Does {X = Target} itself any (variable_named name) a (record a { store = new }) (Err (exit_of_store e))
+pub not_named : (a : State) (new : Contents) (name : List ℕ) (e : StoreError) → length name ≤ 1_000_000 → IsJoined name a.store new (Err e)
+    → Does {X = Target} itself any (variable_named name) a (record a { store = new }) (Err (exit_of_store e))
 not_named a new name NullName short h = refused_null a new name h.0 h.1
 not_named a new name Full short h = refused_full a new name short h.0 h.1
 not_named a new name WrongType short h = absurd (named_or_full name a.store WrongType h.0 (λ e. cc e) (λ e. cc e))
 not_named a new name BadPrototype short h = absurd (named_or_full name a.store BadPrototype h.0 (λ e. cc e) (λ e. cc e))
 not_named a new name CallLevel short h = absurd (named_or_full name a.store CallLevel h.0 (λ e. cc e) (λ e. cc e))
-not_named a new name NoMemory short h = no_memory_does itself any (variable_named name) a (record a { store = new }) (grows_none a.nodes) (store_untouched a new h.1)
+not_named a new name NoMemory short h = no_memory_does itself any (variable_named name) a (record a { store = new }) (grows_none a.nodes)
+    (store_untouched a new h.1)
 
 -- a name that was found before
-pub found_again : (s : State) (name : List ℕ) (id : SymId) → IsKnown s.nodes s.store → 0 < length name → slice_index_or s.store.symbols id.0 [] ≡ name → Does itself any (variable_named name) s s (Ok (Var id))
+pub found_again : (s : State) (name : List ℕ) (id : SymId) → IsKnown s.nodes s.store → 0 < length name → slice_index_or s.store.symbols id.0 [] ≡ name
+    → Does itself any (variable_named name) s s (Ok (Var id))
 found_again s [] id k some is = absurd (omega arith)
 found_again s (byte ∷ bytes) id k some is =
     let found = numbered_place (byte ∷ bytes) s.store.symbols id.0 k.numbered some is in
-    let short : length (byte ∷ bytes) ≤ 1_000_000 = subst (λ t. length t ≤ 1_000_000) is (all_at (λ symbol. length symbol ≤ 1_000_000) s.store.symbols id.0 [] k.symbols (omega arith)) in
+    let short : length (byte ∷ bytes) ≤ 1_000_000 =
+    subst (λ t. length t ≤ 1_000_000) is (all_at (λ symbol. length symbol ≤ 1_000_000) s.store.symbols id.0 [] k.symbols (omega arith)) in
     let within : place (byte ∷ bytes) s.store.symbols < length s.store.symbols = subst (λ n. n < length s.store.symbols) (sym found.1) found.0 in
     record {
       grows = grows_none s.nodes;
-      meets = λ more. rw (le-ltb 1_000_000 (length (byte ∷ bytes)) short, lt-ltb (place (byte ∷ bytes) s.store.symbols) (length s.store.symbols) within, found.1) refl;
+      meets = λ more. rw (
+        le-ltb 1_000_000 (length (byte ∷ bytes)) short,
+        lt-ltb (place (byte ∷ bytes) s.store.symbols)
+            (length s.store.symbols) within,
+        found.1,
+      ) refl;
       answer = tt;
       unread = refl;
     }
@@ -163,7 +236,12 @@ found_again s (byte ∷ bytes) id k some is =
 -- a name that is too long
 pub name_too_long : (a : State) (name : List ℕ) → 1_000_000 < length name → Does {X = Target} itself any (variable_named name) a a (Err (Halt (HasError 8)))
 name_too_long a [] long = absurd (omega arith)
-name_too_long a (byte ∷ bytes) long = record { grows = grows_none a.nodes; meets = λ more. rw (lt-ltb 1_000_000 (length (byte ∷ bytes)) long) (refl, refl); answer = tt; unread = refl }
+name_too_long a (byte ∷ bytes) long = record {
+  grows = grows_none a.nodes;
+  meets = λ more. rw (lt-ltb 1_000_000 (length (byte ∷ bytes)) long) (refl, refl);
+  answer = tt;
+  unread = refl;
+}
 
 -- a variable that is read
 
@@ -189,7 +267,8 @@ holds_does s name v k same = record {
 
 -- a name as a value
 
-pub named_text : (s : State) (id : SymId) (bytes : List ℕ) → IsKnown s.nodes s.store → bytes ≡ slice_index_or s.store.symbols id.0 [] → Does shown IsValueOf (name_value (Var id)) s s (Ok (stored.Str bytes))
+pub named_text : (s : State) (id : SymId) (bytes : List ℕ) → IsKnown s.nodes s.store → bytes ≡ slice_index_or s.store.symbols id.0 []
+    → Does shown IsValueOf (name_value (Var id)) s s (Ok (stored.Str bytes))
 named_text s id bytes k same = record {
   grows = grows_none s.nodes;
   meets = λ more. rw same refl;
@@ -199,7 +278,8 @@ named_text s id bytes k same = record {
 
 -- a variable that is set
 
-pub set_seen : (s : State) (name : Target) (value : Stored) (more : List ℕ) → world (record s { store = with_stored name value s.store }) more ≡ with_value name (shown s.nodes value) (world s more)
+pub set_seen : (s : State) (name : Target) (value : Stored) (more : List ℕ) → world (record s { store = with_stored name value s.store }) more
+    ≡ with_value name (shown s.nodes value) (world s more)
 set_seen s (Var id) value more = ap (λ vs. record (world s more) { values = vs }) (map-set (shown s.nodes) s.store.values id.0 value)
 set_seen s (Elem object i) value more = ap (λ os. record (world s more) { objects = os }) (sym (element_set (shown s.nodes) i value s.store.objects object))
 set_seen s (Entry object i) value more = ap (λ os. record (world s more) { objects = os }) (sym (entry_set (shown s.nodes) i value s.store.objects object))

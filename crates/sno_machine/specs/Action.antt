@@ -36,8 +36,14 @@ stops why w = record { ending = Stops why; world = w; wrote = [] }
 
 -- what has ended so goes on with its value, or with None where it failed
 abbrev pub settled : {A B : Type 0} → Ending A → World → List ℕ → (Option A → World → Outcome B) → Outcome B
-settled (Got a) w wrote next = record { ending = (next (Some a) w).ending; world = (next (Some a) w).world; wrote = wrote ++ (next (Some a) w).wrote }
-settled Fails w wrote next = record { ending = (next None w).ending; world = (next None w).world; wrote = wrote ++ (next None w).wrote }
+settled (Got a) w wrote next =
+    record {
+      ending = (next (Some a) w).ending;
+      world = (next (Some a) w).world;
+      wrote = wrote ++ (next (Some a) w).wrote;
+    }
+settled Fails w wrote next =
+    record { ending = (next None w).ending; world = (next None w).world; wrote = wrote ++ (next None w).wrote }
 settled (Stops why) w wrote next = record { ending = Stops why; world = w; wrote = wrote }
 
 -- m, and then next with its value, or with None where m fails
@@ -52,7 +58,8 @@ either none some (Some x) = some x
 abbrev pub and_then : {A B : Type 0} → Action A → (A → Action B) → Action B
 and_then m next = settles m (either fails next)
 
--- An error names the statement that is performed. What fails behind a statement is where it goes on, and that is error 11.
+-- An error names the statement that is performed. What fails
+-- behind a statement is where it goes on, and that is error 11.
 abbrev pub named_end : {A : Type 0} → ℕ → Ending A → Ending A
 named_end statement (Got a) = Got a
 named_end statement Fails = Stops (ErrorIn 11 statement)
@@ -61,4 +68,5 @@ named_end statement (Stops (ErrorIn code inner)) = Stops (ErrorIn code inner)
 named_end statement (Stops Ended) = Stops Ended
 
 abbrev pub in_statement : {A : Type 0} → ℕ → Action A → Action A
-in_statement statement m w = record { ending = named_end statement (m w).ending; world = (m w).world; wrote = (m w).wrote }
+in_statement statement m w =
+    record { ending = named_end statement (m w).ending; world = (m w).world; wrote = (m w).wrote }

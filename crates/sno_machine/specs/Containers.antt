@@ -53,7 +53,8 @@ numbers_of (x ∷ xs) = before (number_of x) (numbers_of xs)
 -- range is failure.
 abbrev pub element_numbered : ObjId → Option (List ℤ) → Action Target
 element_numbered id None = wrong_type
-element_numbered id (Some subscripts) = and_then (asks (λ objects. element_name objects id subscripts)) (either fails gives)
+element_numbered id (Some subscripts) =
+    and_then (asks (λ objects. element_name objects id subscripts)) (either fails gives)
 
 -- a table has one subscript; another number of them is error 12
 abbrev pub with_key : {A : Type 0} → List Value → (Value → Action A) → Action A
@@ -92,5 +93,6 @@ prototype other = wrong_type
 -- the array of a table's entries whose value isn't null; where there are none it fails
 abbrev pub as_array : Value → Action Value
 as_array (Array n) = gives (Array n)
-as_array (Table n) = and_then (does (table_to_array notions (object_number n))) (either fails (λ id. gives (Array id.0)))
+as_array (Table n) = and_then (does (table_to_array notions (object_number n)))
+    (either fails (λ id. gives (Array id.0)))
 as_array other = fails

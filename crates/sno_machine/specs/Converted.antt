@@ -4,7 +4,8 @@ use Rattle.sno_value.specs.declared.value.Value.{Value as Stored}
 use Rattle.sno_value.specs.declared.value.Value.TheVariants.{Str, Int}
 use Rattle.sno_machine.specs.declared.machine.Exit.{Exit}
 use Rattle.sno_machine.specs.declared.machine.Exit.TheVariants.{Failure, Halt}
-use Rattle.sno_machine.specs.declared.machine.Stop.TheVariants.{Error as HasError, ErrorIn as HasErrorIn, NoMemory, ReadFault, WriteFault, Ended as HasEnded}
+use Rattle.sno_machine.specs.declared.machine.Stop.TheVariants.{Error as HasError, ErrorIn as HasErrorIn, NoMemory}
+use Rattle.sno_machine.specs.declared.machine.Stop.TheVariants.{ReadFault, WriteFault, Ended as HasEnded}
 
 -- a string or an integer
 abbrev pub has_text : Stored → Bool

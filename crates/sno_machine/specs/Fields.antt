@@ -35,11 +35,14 @@ is_field_named (Some symbol) functions = is_field_at functions symbol
 is_field_named None functions = false
 
 abbrev pub asks_field : List ℕ → Action Value
-asks_field function w = if is_field_named (symbol_found function w.symbols) w.functions then gives (Str []) w else stops (Error 15) w
+asks_field function w = if is_field_named (symbol_found function w.symbols) w.functions
+    then gives (Str []) w else stops (Error 15) w
 
 -- F(x) as a name
 abbrev pub field_as_name : List ℕ → Value → Action Value
-field_as_name function x w = and_then (either wrong_type (λ symbol. field_of symbol x) (symbol_found function w.symbols)) (λ target. gives (Name target)) w
+field_as_name function x w =
+    and_then (either wrong_type (λ symbol. field_of symbol x) (symbol_found function w.symbols))
+    (λ target. gives (Name target)) w
 
 -- whether the program has made a function's name a function
 abbrev pub is_made : Function → Bool

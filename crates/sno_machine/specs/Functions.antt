@@ -1,5 +1,6 @@
 -- What the functions of numbers, texts and types give. They change nothing.
-use Rattle.std.specs.Prelude.{ℕ, ◌==◌, Bool, false, not, List, [], length, Option, None, Some, is_some, Result, Ok, Err, ℤ, pos, int_le, int_lt, if◌then◌else◌}
+use Rattle.std.specs.Prelude.{ℕ, ◌==◌, Bool, false, not, List, [], length, Option, None, Some, is_some, Result, Ok, Err}
+use Rattle.std.specs.Prelude.{ℤ, pos, int_le, int_lt, if◌then◌else◌}
 use Rattle.std.specs.Ordering.{int_eq}
 use Rattle.std.specs.Str.{bytes_eq}
 use Rattle.sno_value.specs.Arithmetic.{remainder_of}
@@ -9,7 +10,8 @@ use Rattle.sno_store.specs.Stored.{same_name}
 use Rattle.sno_machine.specs.declared.builtins.Relation.{Relation}
 use Rattle.sno_machine.specs.declared.builtins.Relation.TheVariants.{Equal, Unequal, Less, AtMost, Greater, AtLeast}
 use Rattle.sno_machine.specs.declared.builtins.Plain.{Plain}
-use Rattle.sno_machine.specs.declared.builtins.Plain.TheVariants.{Compare, Remdr, Ident, Differ, Lgt, Integer, Size, Trim, Dupl, Replace}
+use Rattle.sno_machine.specs.declared.builtins.Plain.TheVariants.{Compare, Remdr, Ident, Differ, Lgt, Integer, Size}
+use Rattle.sno_machine.specs.declared.builtins.Plain.TheVariants.{Trim, Dupl, Replace}
 use Rattle.sno_machine.specs.Values.{Value, Str, Int, Pat, Expr, Name, Array, Table, Data}
 use Rattle.sno_machine.specs.Action.{Error, Action, gives, fails, stops, either}
 use Rattle.sno_machine.specs.Variables.{wrong_type, text_of}
@@ -94,7 +96,8 @@ dupl x n = with_text x (λ bytes. with_number n (λ count. short_text (duplicate
 
 -- REPLACE(x,y,z)
 abbrev pub replace : Value → Value → Value → Action Value
-replace x y z = with_text x (λ bytes. with_text y (λ froms. with_text z (λ tos. text_or_failure (replaced bytes froms tos))))
+replace x y z = with_text x
+    (λ bytes. with_text y (λ froms. with_text z (λ tos. text_or_failure (replaced bytes froms tos))))
 
 -- a function that changes nothing, on its arguments
 abbrev pub plain : Plain → Value → Value → Value → Action Value

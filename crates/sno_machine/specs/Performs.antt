@@ -5,7 +5,8 @@ use Rattle.std.specs.declared.vec.Vec.{Vec}
 use Rattle.std.specs.Io.KnownBytes.{Appends}
 use Rattle.sno_io.specs.Devices.{Begins}
 use Rattle.sno_machine.specs.declared.machine.Stop.{Stop}
-use Rattle.sno_machine.specs.declared.machine.Stop.TheVariants.{Error as HasError, ErrorIn as HasErrorIn, NoMemory, ReadFault, WriteFault, Ended as HasEnded}
+use Rattle.sno_machine.specs.declared.machine.Stop.TheVariants.{Error as HasError, ErrorIn as HasErrorIn, NoMemory}
+use Rattle.sno_machine.specs.declared.machine.Stop.TheVariants.{ReadFault, WriteFault, Ended as HasEnded}
 use Rattle.sno_machine.specs.World.{World}
 use Rattle.sno_machine.specs.Action.{Error, Got, Stops, Outcome, Action}
 use Rattle.sno_machine.specs.State.{State, world, untouched}
@@ -21,7 +22,8 @@ Ends o after wrote (Err WriteFault) = Begins wrote o.wrote
 Ends o after wrote (Err HasEnded) = ⊥
 
 -- The code did what the action does, where the writer had taken `taken` and then `now`.
-pub record Performs (act : Action Unit) (before after : State) (taken now : Option (List ℕ)) (result : Result Unit Stop) : Type 0 where
+pub record Performs (act : Action Unit) (before after : State) (taken now : Option (List ℕ))
+    (result : Result Unit Stop) : Type 0 where
   pub wrote : List ℕ
   pub appends : Appends taken now wrote
   pub ends : (more : List ℕ) → Ends (act (world before more)) (world after more) wrote result

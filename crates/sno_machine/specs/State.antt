@@ -1,5 +1,6 @@
 -- What contracts see of a machine, and what its functions did.
-use Rattle.std.specs.Prelude.{◌≡◌, ℕ, ℤ, ◌<◌, ◌≤◌, Bool, true, false, List, [], ◌++◌, length, map, slice_index_or, Option, None, Some, Result, Ok, Err}
+use Rattle.std.specs.Prelude.{◌≡◌, ℕ, ℤ, ◌<◌, ◌≤◌, Bool, true, false, List, [], ◌++◌, length, map, slice_index_or}
+use Rattle.std.specs.Prelude.{Option, None, Some, Result, Ok, Err}
 use Rattle.std.specs.List.{AllByRecursion}
 use Rattle.sno_value.specs.declared.ids.PatId.{PatId}
 use Rattle.sno_pattern.specs.declared.table.BuildError.{BuildError}
@@ -20,7 +21,8 @@ use Rattle.sno_machine.specs.Variables.{line_kept}
 use Rattle.sno_machine.specs.Values.{shown, shown_objects, IsValueOf, IsObjectOf}
 use Rattle.sno_machine.specs.declared.machine.Exit.{Exit}
 use Rattle.sno_machine.specs.declared.machine.Exit.TheVariants.{Failure, Halt}
-use Rattle.sno_machine.specs.declared.machine.Stop.TheVariants.{Error as HasError, ErrorIn as HasErrorIn, NoMemory, ReadFault, WriteFault, Ended as HasEnded}
+use Rattle.sno_machine.specs.declared.machine.Stop.TheVariants.{Error as HasError, ErrorIn as HasErrorIn, NoMemory}
+use Rattle.sno_machine.specs.declared.machine.Stop.TheVariants.{ReadFault, WriteFault, Ended as HasEnded}
 use Rattle.std.specs.Io.KnownBytes.{Consumes}
 use Rattle.sno_io.specs.Lines.{Reading}
 use Rattle.sno_machine.specs.World.{World, Keywords}
@@ -34,11 +36,26 @@ pub record State : Type 0 where
   pub keywords : Keywords
 
 abbrev pub new_state : Keywords → State
-new_state keywords = record { nodes = first_patterns; store = new_contents; reading = record { held = []; told_end = false; stopped = None }; keywords = keywords }
+new_state keywords = record {
+  nodes = first_patterns;
+  store = new_contents;
+  reading = record { held = []; told_end = false; stopped = None };
+  keywords = keywords;
+}
 
 -- the world that a state shows, where `more` input may come behind what is held
 abbrev pub world : State → List ℕ → World
-world s more = record { nodes = length s.nodes; symbols = s.store.symbols; values = map (shown s.nodes) s.store.values; objects = shown_objects s.nodes s.store.objects; types = s.store.types; functions = s.store.functions; level = length s.store.calls; input = s.reading.held ++ more; keywords = s.keywords }
+world s more = record {
+  nodes = length s.nodes;
+  symbols = s.store.symbols;
+  values = map (shown s.nodes) s.store.values;
+  objects = shown_objects s.nodes s.store.objects;
+  types = s.store.types;
+  functions = s.store.functions;
+  level = length s.store.calls;
+  input = s.reading.held ++ more;
+  keywords = s.keywords;
+}
 
 -- No symbol and no name of a type has more than 1,000,000 bytes, and each symbol stands once; the values are of this
 -- table, those that calls have saved too.
@@ -84,9 +101,10 @@ MeetsReading see o after (Err (Halt HasEnded)) = ⊥
 abbrev pub untouched : State → Reading × Keywords × List (List (ℕ × Stored))
 untouched s = (s.reading, s.keywords, s.store.calls)
 
--- The code did what the action does, and read nothing. `see` says which value an answer stands for, and `fits` what holds
--- of it, in the table after.
-pub record Does {X A : Type 0} (see : List Node → X → A) (fits : List Node → X → Type 0) (act : Action A) (before after : State) (result : Result X Exit) : Type 0 where
+-- The code did what the action does, and read nothing. `see` says which value an answer stands for, and `fits` what
+-- holds of it, in the table after.
+pub record Does {X A : Type 0} (see : List Node → X → A) (fits : List Node → X → Type 0) (act : Action A)
+    (before after : State) (result : Result X Exit) : Type 0 where
   pub grows : Grows before.nodes after.nodes
   pub meets : (more : List ℕ) → Meets (see after.nodes) (act (world before more)) (world after more) result
   pub answer : OnAnswer (fits after.nodes) result
@@ -117,12 +135,14 @@ HasCause (Err (Halt HasEnded)) f = Unit {0}
 
 -- The code did what the action does, for whatever input may still come behind what the reader gave; nothing comes once
 -- the end was told.
-pub record Reads {X A : Type 0} (see : List Node → X → A) (fits : List Node → X → Type 0) (act : Action A) (before after : State) (old new : Feed) (result : Result X Exit) : Type 0 where
+pub record Reads {X A : Type 0} (see : List Node → X → A) (fits : List Node → X → Type 0) (act : Action A)
+    (before after : State) (old new : Feed) (result : Result X Exit) : Type 0 where
   pub given : List ℕ
   pub consumed : Consumes old.left new.left given
   pub ended : before.reading.told_end ≡ true → (given ≡ []) × (after.reading.told_end ≡ true)
   pub grows : Grows before.nodes after.nodes
-  pub meets : (more : List ℕ) → (after.reading.told_end ≡ true → more ≡ []) → MeetsReading (see after.nodes) (act (world before (given ++ more))) (world after more) result
+  pub meets : (more : List ℕ) → (after.reading.told_end ≡ true → more ≡ [])
+      → MeetsReading (see after.nodes) (act (world before (given ++ more))) (world after more) result
   pub answer : OnAnswer (fits after.nodes) result
   pub kept : after.keywords ≡ before.keywords
   pub calls : after.store.calls ≡ before.store.calls

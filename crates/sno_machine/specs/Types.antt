@@ -10,7 +10,16 @@ use Rattle.sno_machine.specs.Functions.{with_text}
 
 -- the prototype's names join the symbols, there is a new type, and the functions have its constructor and its fields
 abbrev pub after_type : Result (List (List ℕ) × List DataType × List Function) ℕ → Action Unit
-after_type (Ok new) w = record { ending = Got tt; world = record w { symbols = new.0; types = new.1; functions = new.2; values = w.values ++ replicate (length new.0 - length w.symbols) (Str []) }; wrote = [] }
+after_type (Ok new) w = record {
+  ending = Got tt;
+  world = record w {
+    symbols = new.0;
+    types = new.1;
+    functions = new.2;
+    values = w.values ++ replicate (length new.0 - length w.symbols) (Str []);
+  };
+  wrote = [];
+}
 after_type (Err code) w = stops (Error code) w
 
 abbrev pub makes_type : List ℕ → Action Unit

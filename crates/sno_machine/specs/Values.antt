@@ -43,7 +43,8 @@ IsValueOf nodes value = Unit {0}
 
 -- each value of an array, of an entry and of an object turned into another
 abbrev pub map_elements : {V W : Type 0} → (V → W) → Elements V → Elements W
-map_elements f elements = record { prototype = elements.prototype; dimensions = elements.dimensions; values = map f elements.values }
+map_elements f elements =
+    record { prototype = elements.prototype; dimensions = elements.dimensions; values = map f elements.values }
 
 abbrev pub map_entry : {V W : Type 0} → (V → W) → V × V → W × W
 map_entry f entry = (f entry.0, f entry.1)
@@ -62,6 +63,7 @@ abbrev pub IsEntryOf : List Node → Stored × Stored → Type 0
 IsEntryOf nodes entry = IsValueOf nodes entry.0 × IsValueOf nodes entry.1
 
 abbrev pub IsObjectOf : List Node → Object Stored → Type 0
-IsObjectOf nodes (ArrayOf elements) = (length elements.prototype ≤ 1_000_000) × AllByRecursion (IsValueOf nodes) elements.values
+IsObjectOf nodes (ArrayOf elements) = (length elements.prototype ≤ 1_000_000)
+    × AllByRecursion (IsValueOf nodes) elements.values
 IsObjectOf nodes (TableOf entries) = AllByRecursion (IsEntryOf nodes) entries
 IsObjectOf nodes (DataOf number fields) = AllByRecursion (IsValueOf nodes) fields

@@ -1,11 +1,13 @@
 -- Variables: how they are named, read and set.
-use Rattle.std.specs.Prelude.{ℕ, zero, ℤ, pos, nat_lt, ◌==◌, Bool, false, List, [], ◌∷◌, ◌++◌, if◌then◌else◌, length, slice_index_or, slice_set, codes, Option, None, Some}
+use Rattle.std.specs.Prelude.{ℕ, zero, ℤ, pos, nat_lt, ◌==◌, Bool, false, List, [], ◌∷◌, ◌++◌, if◌then◌else◌, length}
+use Rattle.std.specs.Prelude.{slice_index_or, slice_set, codes, Option, None, Some}
 use Rattle.std.specs.Fmt.{signed_decimal}
 use Rattle.sno_value.specs.declared.ids.SymId.{SymId}
 use Rattle.sno_value.specs.declared.value.Name.{Name as Target}
 use Rattle.sno_value.specs.declared.value.Name.TheVariants.{Var, Elem, Entry, Field}
 use Rattle.sno_store.specs.Contents.{place, is_symbol}
-use Rattle.sno_store.specs.Objects.{array_at, table_at, fields_at, element_value, entry_value, field_value, with_element, with_entry_value, with_field, changed}
+use Rattle.sno_store.specs.Objects.{array_at, table_at, fields_at, element_value, entry_value, field_value}
+use Rattle.sno_store.specs.Objects.{with_element, with_entry_value, with_field, changed}
 use Rattle.sno_machine.specs.World.{World}
 use Rattle.sno_machine.specs.Values.{Value, Str, Int, Name}
 use Rattle.sno_value.specs.Strings.{trimmed}
@@ -41,7 +43,11 @@ is_output other = false
 
 -- a new symbol, whose variable is null
 abbrev pub joins : List ℕ → Action Target
-joins name w = record { ending = Got (Var (symbol (length w.symbols))); world = record w { symbols = w.symbols ++ name ∷ []; values = w.values ++ Str [] ∷ [] }; wrote = [] }
+joins name w = record {
+  ending = Got (Var (symbol (length w.symbols)));
+  world = record w { symbols = w.symbols ++ name ∷ []; values = w.values ++ Str [] ∷ [] };
+  wrote = [];
+}
 
 -- the variable that a text names; a text that names none yet joins the symbols
 abbrev pub variable_named : List ℕ → Action Target
@@ -75,7 +81,12 @@ value_in w (Field object k) = field_value (Str []) (fields_at w.objects object) 
 -- the next line of the input; at its end there is none, and a line of more than 1,000,000 bytes is error 8
 abbrev pub line_read : Option (List ℕ × List ℕ) → Action Value
 line_read None w = record { ending = Fails; world = record w { input = [] }; wrote = [] }
-line_read (Some line) w = if nat_lt 1_000_000 (length line.0) then stops (Error 8) w else record { ending = Got (Str (line_kept w.keywords.trim line.0)); world = record w { input = line.1 }; wrote = [] }
+line_read (Some line) w = if nat_lt 1_000_000 (length line.0) then stops (Error 8) w
+    else record {
+      ending = Got (Str (line_kept w.keywords.trim line.0));
+      world = record w { input = line.1 };
+      wrote = [];
+    }
 
 abbrev pub reads_line : Action Value
 reads_line w = line_read (next_line w.input) w
@@ -101,7 +112,8 @@ stores name v w = record { ending = Got tt; world = with_value name v w; wrote =
 
 -- OUTPUT is given a value that has a text, and writes it as a line
 abbrev pub outputs : Target → Value → Action Unit
-outputs name v = either wrong_type (λ bytes. and_then (stores name v) (λ done. writes (bytes ++ codes "\n"))) (text_of v)
+outputs name v = either wrong_type
+    (λ bytes. and_then (stores name v) (λ done. writes (bytes ++ codes "\n"))) (text_of v)
 
 -- what is named is set
 abbrev pub assigns : Target → Value → Action Unit

@@ -42,7 +42,17 @@ pub record World : Type 0 where
 
 -- before a program's first statement
 abbrev pub new_keywords : Bool → ℕ → ℕ → Keywords
-new_keywords anchored cap steps = record { anchor = if anchored then pos 1 else pos 0; trim = pos 0; limit = cap; begun = 0; statement = 0; cap = cap; steps = steps; has_data = true }
+new_keywords anchored cap steps =
+    record {
+      anchor = if anchored then pos 1 else pos 0;
+      trim = pos 0;
+      limit = cap;
+      begun = 0;
+      statement = 0;
+      cap = cap;
+      steps = steps;
+      has_data = true;
+    }
 
 -- the same for a listing, in which DATA is no function, so that it assigns to variables alone
 abbrev pub listing_keywords : Bool → ℕ → ℕ → Keywords
@@ -53,8 +63,10 @@ abbrev pub new_world : List ℕ → Keywords → World
 new_world input keywords =
     record {
       nodes = 7;
-      symbols = codes "ARB" ∷ codes "BAL" ∷ codes "REM" ∷ codes "FAIL" ∷ codes "FENCE" ∷ codes "ABORT" ∷ codes "SUCCEED" ∷ codes "INPUT" ∷ codes "OUTPUT" ∷ [];
-      values = Pat (Leaf Arb) ∷ Pat (Leaf Bal) ∷ Pat (Leaf Rem) ∷ Pat (Leaf Fail) ∷ Pat Fence ∷ Pat Abort ∷ Pat Succeed ∷ Str [] ∷ Str [] ∷ [];
+      symbols = codes "ARB" ∷ codes "BAL" ∷ codes "REM" ∷ codes "FAIL" ∷ codes "FENCE" ∷ codes "ABORT" ∷ codes "SUCCEED"
+          ∷ codes "INPUT" ∷ codes "OUTPUT" ∷ [];
+      values = Pat (Leaf Arb) ∷ Pat (Leaf Bal) ∷ Pat (Leaf Rem) ∷ Pat (Leaf Fail) ∷ Pat Fence ∷ Pat Abort
+          ∷ Pat Succeed ∷ Str [] ∷ Str [] ∷ [];
       objects = [];
       types = [];
       functions = [];

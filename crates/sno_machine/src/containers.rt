@@ -15,7 +15,8 @@ use std::alloc::Global;
 pub fn array(machine: &mut Machine, prototype: Value, value: &Value) -> Result<Value, Exit>
     requires prototype { IsValueOf machine.old.nodes prototype }
     requires value { IsValueOf machine.old.nodes value.now }
-    ensures { Does shown IsValueOf (array (shown machine.old.nodes prototype) (shown machine.old.nodes value.now)) machine.old machine.new result }
+    ensures { Does shown IsValueOf (array (shown machine.old.nodes prototype) (shown machine.old.nodes value.now))
+        machine.old machine.new result }
 {
     let text = text_of(machine.alloc(), prototype)?;
     let id = machine.new_array(&text, value)?;
@@ -43,7 +44,8 @@ pub fn prototype(machine: &Machine, array: &Value) -> Result<Value, Exit>
 /// CONVERT(X,T): X as a value of the type that T names; error 1 where it names none.
 pub fn convert(machine: &mut Machine, value: Value, kind: Value) -> Result<Value, Exit>
     requires { IsValueOf machine.old.nodes value }
-    ensures { Does shown IsValueOf (with_text (shown machine.old.nodes kind) (convert (shown machine.old.nodes value))) machine.old machine.new result }
+    ensures { Does shown IsValueOf (with_text (shown machine.old.nodes kind) (convert (shown machine.old.nodes value)))
+        machine.old machine.new result }
 {
     let text = text_of(machine.alloc(), kind)?;
     match conversion_named(&text) {
@@ -55,7 +57,8 @@ pub fn convert(machine: &mut Machine, value: Value, kind: Value) -> Result<Value
 /// A value as one of another type; it fails where it can't be one.
 fn converted(machine: &mut Machine, conversion: Conversion, value: Value) -> Result<Value, Exit>
     requires { IsValueOf machine.old.nodes value }
-    ensures { Does shown IsValueOf (converted conversion (shown machine.old.nodes value)) machine.old machine.new result }
+    ensures { Does shown IsValueOf (converted conversion (shown machine.old.nodes value))
+        machine.old machine.new result }
 {
     match conversion {
         Conversion::ToString => to_string(machine.alloc(), value),
@@ -66,7 +69,8 @@ fn converted(machine: &mut Machine, conversion: Conversion, value: Value) -> Res
 }
 
 fn to_string(alloc: Global, value: Value) -> Result<Value, Exit>
-    ensures { (s : State) → IsValueOf s.nodes value → Does shown IsValueOf (converted Conversion.ToString (shown s.nodes value)) s s result }
+    ensures { (s : State) → IsValueOf s.nodes value
+        → Does shown IsValueOf (converted Conversion.ToString (shown s.nodes value)) s s result }
 {
     if !has_text(&value) {
         return Err(Exit::Failure);

@@ -2,7 +2,8 @@
 ghost use Rattle.std.specs.Prelude.{◌≡◌, map, option_map};
 ghost use Rattle.std.specs.List.{AllByRecursion};
 ghost use Rattle.sno_store.specs.Symbols.{found};
-ghost use Rattle.sno_machine.specs.Fields.{asks_field, constructs, field_as_name, field_of, field_value, is_field_named};
+ghost use Rattle.sno_machine.specs.Fields.{asks_field, constructs, field_as_name, field_of, field_value};
+ghost use Rattle.sno_machine.specs.Fields.{is_field_named};
 ghost use Rattle.sno_machine.specs.Values.{shown, IsValueOf};
 ghost use Rattle.sno_machine.specs.State.{Does, itself, any};
 
@@ -13,7 +14,8 @@ use sno_value::{Name, SymId, Value};
 /// A new object of a type: missing arguments are null, and extra ones are dropped.
 pub fn construct(machine: &mut Machine, number: u32, arguments: Vec<Value>) -> Result<Value, Exit>
     requires { AllByRecursion (IsValueOf machine.old.nodes) arguments.items }
-    ensures { Does shown IsValueOf (constructs number (map (shown machine.old.nodes) arguments.items)) machine.old machine.new result }
+    ensures { Does shown IsValueOf (constructs number (map (shown machine.old.nodes) arguments.items))
+        machine.old machine.new result }
 {
     let id = machine.new_data(number, arguments)?;
     Ok(Value::Data(id))
@@ -21,16 +23,18 @@ pub fn construct(machine: &mut Machine, number: u32, arguments: Vec<Value>) -> R
 
 /// What the field of an object holds; error 1 where the value is no object, or has no such field.
 pub fn field_value(machine: &Machine, symbol: SymId, object: &Value) -> Result<Value, Exit>
-    ensures { Does shown IsValueOf (field_value symbol.0 (shown machine.now.nodes object.now)) machine.now machine.now result }
+    ensures { Does shown IsValueOf (field_value symbol.0 (shown machine.now.nodes object.now))
+        machine.now machine.now result }
 {
     let name = field_of(machine, symbol, object)?;
     machine.stored(name)
 }
 
-/// The name of the field of an object with this function's name, as a value; error 1 where the value is no object, or has
-/// no such field.
+/// The name of the field of an object with this function's name, as a value; error 1 where the value is no object, or
+/// has no such field.
 pub fn field_as_name(machine: &Machine, function: &[u8], object: &Value) -> Result<Value, Exit>
-    ensures { Does shown IsValueOf (field_as_name function.now (shown machine.now.nodes object.now)) machine.now machine.now result }
+    ensures { Does shown IsValueOf (field_as_name function.now (shown machine.now.nodes object.now))
+        machine.now machine.now result }
 {
     let Some(symbol) = machine.find_symbol(function) else {
         return Err(error(DATA_TYPE));

@@ -4,7 +4,8 @@ ghost use Rattle.std.specs.List.{AllByRecursion};
 ghost use Rattle.sno_value.specs.Kind.{takes_count};
 ghost use Rattle.sno_pattern.specs.Table.{Node};
 ghost use Rattle.sno_machine.specs.Values.{shown, IsValueOf};
-ghost use Rattle.sno_machine.specs.Operators.{answer, argument, called, count_primitive, cut, primitive, primitive_value, repetition, set_primitive};
+ghost use Rattle.sno_machine.specs.Operators.{answer, argument, called, count_primitive, cut, primitive};
+ghost use Rattle.sno_machine.specs.Operators.{primitive_value, repetition, set_primitive};
 ghost use Rattle.sno_machine.specs.Calls.{define};
 ghost use Rattle.sno_machine.specs.Numbers.{number_of};
 ghost use Rattle.sno_machine.specs.Functions.{plain};
@@ -29,7 +30,8 @@ pub fn called(
     operands: &mut [Value],
 ) -> Result<Value, Exit>
     requires { AllByRecursion (IsValueOf machine.old.nodes) operands.old }
-    ensures { Does shown IsValueOf (called function (map (shown machine.old.nodes) operands.old)) machine.old machine.new result }
+    ensures { Does shown IsValueOf (called function (map (shown machine.old.nodes) operands.old))
+        machine.old machine.new result }
 {
     match function {
         None => Err(error(UNDEFINED_FUNCTION)),
@@ -85,7 +87,8 @@ pub fn called(
 
 /// A function that changes nothing, on its arguments.
 fn plain(alloc: Global, function: Plain, x: Value, y: Value, z: Value) -> Result<Value, Exit>
-    ensures { (s : State) → IsValueOf s.nodes x → Does shown IsValueOf (plain function (shown s.nodes x) (shown s.nodes y) (shown s.nodes z)) s s result }
+    ensures { (s : State) → IsValueOf s.nodes x
+        → Does shown IsValueOf (plain function (shown s.nodes x) (shown s.nodes y) (shown s.nodes z)) s s result }
 {
     match function {
         Plain::Compare(relation) => comparison(alloc, relation, &x, &y),
@@ -116,7 +119,8 @@ pub fn argument(alloc: Global, operands: &mut [Value], k: usize) -> Value
 
 /// What a function that makes a primitive gives of its argument. An expression makes a deferred one.
 fn primitive_value(machine: &mut Machine, prim: Prim, operand: Value) -> Result<Value, Exit>
-    ensures { Does shown IsValueOf (primitive_value prim (shown machine.old.nodes operand)) machine.old machine.new result }
+    ensures { Does shown IsValueOf (primitive_value prim (shown machine.old.nodes operand))
+        machine.old machine.new result }
 {
     if let Value::Expr(expression) = operand {
         let id = machine.defer_prim(prim, expression)?;
@@ -126,8 +130,8 @@ fn primitive_value(machine: &mut Machine, prim: Prim, operand: Value) -> Result<
     Ok(Value::Pat(id))
 }
 
-/// The answer to a deferred part that a match has reached: the pattern that the value stands for, or the primitive whose
-/// argument it is. It is error 1 where there is none.
+/// The answer to a deferred part that a match has reached: the pattern that the value stands for, or the primitive
+/// whose argument it is. It is error 1 where there is none.
 pub fn answer(machine: &mut Machine, prim: Option<Prim>, value: Value) -> Result<PatId, Exit>
     requires { IsValueOf machine.old.nodes value }
     ensures { Does tree_of IsPatternOf (answer prim (shown machine.old.nodes value)) machine.old machine.new result }
@@ -140,7 +144,8 @@ pub fn answer(machine: &mut Machine, prim: Option<Prim>, value: Value) -> Result
 
 /// A primitive with its argument; error 1 where that has no number, or no text.
 fn primitive(machine: &mut Machine, prim: Prim, operand: Value) -> Result<PatId, Exit>
-    ensures { Does tree_of IsPatternOf (primitive prim (shown machine.old.nodes operand)) machine.old machine.new result }
+    ensures { Does tree_of IsPatternOf (primitive prim (shown machine.old.nodes operand))
+        machine.old machine.new result }
 {
     if prim.takes_count() {
         count_primitive(machine, prim, &operand)
@@ -152,7 +157,8 @@ fn primitive(machine: &mut Machine, prim: Prim, operand: Value) -> Result<PatId,
 /// A primitive with a count.
 fn count_primitive(machine: &mut Machine, prim: Prim, operand: &Value) -> Result<PatId, Exit>
     requires { IsTrue (takes_count prim) }
-    ensures { Does tree_of IsPatternOf (count_primitive prim (number_of (shown machine.old.nodes operand.now))) machine.old machine.new result }
+    ensures { Does tree_of IsPatternOf (count_primitive prim (number_of (shown machine.old.nodes operand.now)))
+        machine.old machine.new result }
 {
     let count = number_of(operand)?;
     let id = machine.prim(prim, Arg::Count(count))?;
@@ -162,7 +168,8 @@ fn count_primitive(machine: &mut Machine, prim: Prim, operand: &Value) -> Result
 /// A primitive with a set of bytes.
 fn set_primitive(machine: &mut Machine, prim: Prim, operand: Value) -> Result<PatId, Exit>
     requires { IsFalse (takes_count prim) }
-    ensures { Does tree_of IsPatternOf (set_primitive prim (text_of (shown machine.old.nodes operand))) machine.old machine.new result }
+    ensures { Does tree_of IsPatternOf (set_primitive prim (text_of (shown machine.old.nodes operand)))
+        machine.old machine.new result }
 {
     let set = text_of(machine.alloc(), operand)?;
     let id = machine.prim(prim, Arg::Set(&set))?;
@@ -172,7 +179,8 @@ fn set_primitive(machine: &mut Machine, prim: Prim, operand: Value) -> Result<Pa
 /// DEFINE(P,E).
 fn define(machine: &mut Machine, prototype: Value, entry: Value) -> Result<Value, Exit>
     requires { IsValueOf machine.old.nodes prototype }
-    ensures { Does shown IsValueOf (define (shown machine.old.nodes prototype) (shown machine.old.nodes entry)) machine.old machine.new result }
+    ensures { Does shown IsValueOf (define (shown machine.old.nodes prototype) (shown machine.old.nodes entry))
+        machine.old machine.new result }
 {
     let prototype = text_of(machine.alloc(), prototype)?;
     let entry = text_of(machine.alloc(), entry)?;

@@ -17,7 +17,9 @@ use std::alloc::Global;
 pub fn item(machine: &mut Machine, holder: Value, subscripts: &mut [Value]) -> Result<Value, Exit>
     requires holder { IsValueOf machine.old.nodes holder }
     requires subscripts { AllByRecursion (IsValueOf machine.old.nodes) subscripts.old }
-    ensures { Does shown IsValueOf (item (shown machine.old.nodes holder) (map (shown machine.old.nodes) subscripts.old)) machine.old machine.new result }
+    ensures { Does shown IsValueOf
+        (item (shown machine.old.nodes holder) (map (shown machine.old.nodes) subscripts.old))
+        machine.old machine.new result }
 {
     match holder {
         Value::Array(array) => {
@@ -32,7 +34,8 @@ pub fn item(machine: &mut Machine, holder: Value, subscripts: &mut [Value]) -> R
     }
 }
 
-/// The name of A<i,..>, where A holds this value: an element, or an entry of a table, which is made where there is none.
+/// The name of A<i,..>, where A holds this value: an element,
+/// or an entry of a table, which is made where there is none.
 pub fn item_name(
     machine: &mut Machine,
     holder: Value,
@@ -40,7 +43,9 @@ pub fn item_name(
 ) -> Result<Value, Exit>
     requires holder { IsValueOf machine.old.nodes holder }
     requires subscripts { AllByRecursion (IsValueOf machine.old.nodes) subscripts.old }
-    ensures { Does shown IsValueOf (item_name (shown machine.old.nodes holder) (map (shown machine.old.nodes) subscripts.old)) machine.old machine.new result }
+    ensures { Does shown IsValueOf
+        (item_name (shown machine.old.nodes holder) (map (shown machine.old.nodes) subscripts.old))
+        machine.old machine.new result }
 {
     let name = item_named(machine, holder, subscripts)?;
     Ok(Value::Name(name))
@@ -49,7 +54,9 @@ pub fn item_name(
 fn item_named(machine: &mut Machine, holder: Value, subscripts: &mut [Value]) -> Result<Name, Exit>
     requires holder { IsValueOf machine.old.nodes holder }
     requires subscripts { AllByRecursion (IsValueOf machine.old.nodes) subscripts.old }
-    ensures { Does itself any (item_named (shown machine.old.nodes holder) (map (shown machine.old.nodes) subscripts.old)) machine.old machine.new result }
+    ensures { Does itself any
+        (item_named (shown machine.old.nodes holder) (map (shown machine.old.nodes) subscripts.old))
+        machine.old machine.new result }
 {
     match holder {
         Value::Array(array) => element(machine, array, subscripts),
@@ -63,7 +70,8 @@ fn item_named(machine: &mut Machine, holder: Value, subscripts: &mut [Value]) ->
 
 /// The element of an array with these subscripts; it fails where one is out of range.
 fn element(machine: &Machine, array: ObjId, subscripts: &[Value]) -> Result<Name, Exit>
-    ensures { Does itself any (element_numbered array (numbers_of (map (shown machine.now.nodes) subscripts.now))) machine.now machine.now result }
+    ensures { Does itself any (element_numbered array (numbers_of (map (shown machine.now.nodes) subscripts.now)))
+        machine.now machine.now result }
 {
     let numbers = numbers_of(machine.alloc(), subscripts)?;
     match machine.element(array, &numbers)? {
@@ -74,7 +82,8 @@ fn element(machine: &Machine, array: ObjId, subscripts: &[Value]) -> Result<Name
 
 /// The numbers of subscripts; error 1 where one has none.
 fn numbers_of(alloc: Global, subscripts: &[Value]) -> Result<Vec<i64>, Exit>
-    ensures { (nodes : List Node) → IsThere (λ numbers. numbers.items) (numbers_of (map (shown nodes) subscripts.now)) result }
+    ensures { (nodes : List Node)
+        → IsThere (λ numbers. numbers.items) (numbers_of (map (shown nodes) subscripts.now)) result }
 {
     let mut numbers = Vec::new(alloc);
     for subscript in subscripts {

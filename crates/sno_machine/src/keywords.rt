@@ -2,7 +2,8 @@
 ghost use Rattle.std.specs.Prelude.{◌≡◌, ◌≤◌, ◌<◌, Bool, true, false, Option, Some, None, IfSome, IfNone};
 ghost use Rattle.sno_machine.specs.World.{Keywords, new_keywords, listing_keywords};
 ghost use Rattle.sno_machine.specs.Builtins.{found};
-ghost use Rattle.sno_machine.specs.Keywords.{keyword_numbers, is_anchored, is_settable, with_keyword, with_limit, with_begun};
+ghost use Rattle.sno_machine.specs.Keywords.{keyword_numbers, is_anchored, is_settable, with_keyword, with_limit};
+ghost use Rattle.sno_machine.specs.Keywords.{with_begun};
 
 use std::marker::Model;
 
@@ -33,7 +34,16 @@ impl Model for Keywords {
 
     ghost Value = { Known };
 
-    ghost view = { λ k. record { anchor = k.anchor; trim = k.trim; limit = k.limit; begun = k.begun; statement = k.statement; cap = k.cap; steps = k.steps; has_data = k.has_data } };
+    ghost view = { λ k. record {
+      anchor = k.anchor;
+      trim = k.trim;
+      limit = k.limit;
+      begun = k.begun;
+      statement = k.statement;
+      cap = k.cap;
+      steps = k.steps;
+      has_data = k.has_data;
+    } };
 
     ghost invariant = { λ k. (k.begun ≤ k.cap) × (k.limit ≤ k.cap) × (k.cap ≤ 1_000_000_000_000) };
 }

@@ -1,5 +1,5 @@
-//! What a running program works on: its variables, keywords, input and patterns, and what the operators and functions of
-//! the language give of values. Evaluation and statements stand above it, in `snobol`.
+//! What a running program works on: its variables, keywords, input and patterns, and what the operators and functions
+//! of the language give of values. Evaluation and statements stand above it, in `snobol`.
 #![tactic(auto)]
 
 mod builtins;

@@ -38,7 +38,8 @@ fn way_line(
     end: usize,
     pending: &[Pending],
 ) -> Result<Vec<u8>, AllocError>
-    ensures { IfOk result (λ line. line.items ≡ line_of machine.now.store.symbols (in_trace (Event.Way start end) pending.now)) }
+    ensures { IfOk result (λ line. line.items ≡ line_of machine.now.store.symbols
+        (in_trace (Event.Way start end) pending.now)) }
 {
     let mut line = format!(in machine.alloc(); "way {start} {end}")?.into_bytes();
     for assignment in pending {
@@ -71,7 +72,8 @@ fn target_line(
     target: Name,
     places: &[u8],
 ) -> Result<Vec<u8>, AllocError>
-    ensures { IfOk result (λ line. line.items ≡ word.now ++ (text_of_name machine.now.store.symbols target ++ places.now)) }
+    ensures { IfOk result (λ line. line.items ≡ word.now
+        ++ (text_of_name machine.now.store.symbols target ++ places.now)) }
 {
     let mut line = word.to_vec(machine.alloc())?;
     line.extend_from_slice(machine.name_text(target))?;

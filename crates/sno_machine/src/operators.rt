@@ -2,7 +2,8 @@
 ghost use Rattle.std.specs.Prelude.{◌≡◌, ◌<◌, List, length, IsTrue};
 ghost use Rattle.sno_pattern.specs.Table.{Node};
 ghost use Rattle.sno_machine.specs.Values.{shown, IsValueOf};
-ghost use Rattle.sno_machine.specs.Operators.{makes_value, joined, joined_patterns, concatenation, alternation, operation, pattern_with_target};
+ghost use Rattle.sno_machine.specs.Operators.{makes_value, joined, joined_patterns, concatenation, alternation};
+ghost use Rattle.sno_machine.specs.Operators.{operation, pattern_with_target};
 ghost use Rattle.sno_machine.specs.Numbers.{number_of, result_of};
 ghost use Rattle.sno_machine.specs.Variables.{text_of};
 ghost use Rattle.sno_machine.specs.Operations.{join_of, assignment_of, both, is_arithmetic, calculated};
@@ -47,7 +48,8 @@ pub fn operation(
 ) -> Result<Value, Exit>
     requires x { IsValueOf machine.old.nodes x }
     requires y { IsValueOf machine.old.nodes y }
-    ensures { Does shown IsValueOf (operation operator (shown machine.old.nodes x) (shown machine.old.nodes y)) machine.old machine.new result }
+    ensures { Does shown IsValueOf (operation operator (shown machine.old.nodes x) (shown machine.old.nodes y))
+        machine.old machine.new result }
 {
     match operator {
         Operator::Alternate => alternation(machine, x, y),
@@ -73,7 +75,9 @@ fn pattern_with_target(
     y: Value,
 ) -> Result<Value, Exit>
     requires { IsValueOf machine.old.nodes x }
-    ensures { Does shown IsValueOf (pattern_with_target (assignment_of assignment) (shown machine.old.nodes x) (shown machine.old.nodes y)) machine.old machine.new result }
+    ensures { Does shown IsValueOf
+        (pattern_with_target (assignment_of assignment) (shown machine.old.nodes x) (shown machine.old.nodes y))
+        machine.old machine.new result }
 {
     let Value::Name(target) = y else {
         return Err(error(DATA_TYPE));
@@ -93,7 +97,8 @@ fn assigned(
     target: Name,
 ) -> Result<Value, Exit>
     requires { body.0 < length machine.old.nodes }
-    ensures { Does shown IsValueOf (makes_value (assignment_of assignment (tree_of machine.old.nodes body) target)) machine.old machine.new result }
+    ensures { Does shown IsValueOf (makes_value (assignment_of assignment (tree_of machine.old.nodes body) target))
+        machine.old machine.new result }
 {
     match assignment {
         Assignment::Conditional => {
@@ -111,7 +116,8 @@ fn assigned(
 fn alternation(machine: &mut Machine, x: Value, y: Value) -> Result<Value, Exit>
     requires x { IsValueOf machine.old.nodes x }
     requires y { IsValueOf machine.old.nodes y }
-    ensures { Does shown IsValueOf (alternation (shown machine.old.nodes x) (shown machine.old.nodes y)) machine.old machine.new result }
+    ensures { Does shown IsValueOf (alternation (shown machine.old.nodes x) (shown machine.old.nodes y))
+        machine.old machine.new result }
 {
     joined_patterns(machine, Join::Alt, x, y)
 }
@@ -120,7 +126,8 @@ fn alternation(machine: &mut Machine, x: Value, y: Value) -> Result<Value, Exit>
 fn concatenation(machine: &mut Machine, x: Value, y: Value) -> Result<Value, Exit>
     requires x { IsValueOf machine.old.nodes x }
     requires y { IsValueOf machine.old.nodes y }
-    ensures { Does shown IsValueOf (concatenation (shown machine.old.nodes x) (shown machine.old.nodes y)) machine.old machine.new result }
+    ensures { Does shown IsValueOf (concatenation (shown machine.old.nodes x) (shown machine.old.nodes y))
+        machine.old machine.new result }
 {
     if is_null(&x) {
         return Ok(y);
@@ -139,7 +146,8 @@ fn joined_texts(alloc: Global, x: Value, y: Value) -> Result<Value, Exit>
     requires x { IsTrue (has_text x) }
     requires y { IsTrue (has_text y) }
     ensures { (s : State) → IsValueOf s.nodes x → IsValueOf s.nodes y
-        → Does shown IsValueOf (joined (text_of (shown s.nodes x)) (text_of (shown s.nodes y)) (shown s.nodes x) (shown s.nodes y)) s s result }
+        → Does shown IsValueOf (joined (text_of (shown s.nodes x)) (text_of (shown s.nodes y)) (shown s.nodes x)
+        (shown s.nodes y)) s s result }
 {
     let mut first = text_of(alloc, x)?;
     let second = text_of(alloc, y)?;
@@ -154,7 +162,9 @@ fn joined_texts(alloc: Global, x: Value, y: Value) -> Result<Value, Exit>
 fn joined_patterns(machine: &mut Machine, join: Join, x: Value, y: Value) -> Result<Value, Exit>
     requires x { IsValueOf machine.old.nodes x }
     requires y { IsValueOf machine.old.nodes y }
-    ensures { Does shown IsValueOf (joined_patterns (join_of join) (shown machine.old.nodes x) (shown machine.old.nodes y)) machine.old machine.new result }
+    ensures { Does shown IsValueOf
+        (joined_patterns (join_of join) (shown machine.old.nodes x) (shown machine.old.nodes y))
+        machine.old machine.new result }
 {
     if !is_patternable(&x) || !is_patternable(&y) {
         return Err(error(DATA_TYPE));
@@ -168,7 +178,9 @@ fn joined_patterns(machine: &mut Machine, join: Join, x: Value, y: Value) -> Res
 fn pattern_of(machine: &mut Machine, join: Join, first: PatId, second: PatId) -> Result<Value, Exit>
     requires first { first.0 < length machine.old.nodes }
     requires second { second.0 < length machine.old.nodes }
-    ensures { Does shown IsValueOf (makes_value (join_of join (tree_of machine.old.nodes first) (tree_of machine.old.nodes second))) machine.old machine.new result }
+    ensures { Does shown IsValueOf
+        (makes_value (join_of join (tree_of machine.old.nodes first) (tree_of machine.old.nodes second)))
+        machine.old machine.new result }
 {
     match join {
         Join::Cat => {
@@ -184,7 +196,8 @@ fn pattern_of(machine: &mut Machine, join: Join, first: PatId, second: PatId) ->
 
 /// The numbers of two operands.
 fn numbers(x: &Value, y: &Value) -> Result<(i64, i64), Exit>
-    ensures { (nodes : List Node) → IsThere (λ p. p) (both (number_of (shown nodes x.now)) (number_of (shown nodes y.now))) result }
+    ensures { (nodes : List Node)
+        → IsThere (λ p. p) (both (number_of (shown nodes x.now)) (number_of (shown nodes y.now))) result }
 {
     let x = number_of(x)?;
     let y = number_of(y)?;

@@ -22,7 +22,8 @@ pub fn take_effect<W: Sink>(
     requires subject { length subject.now ≤ 1_000_000 }
     requires within { IsWithin (length subject.now) (in_trace event []) }
     requires sound { (W.drain writer.old).broken ≡ false }
-    ensures does { Performs (effect subject.now (in_trace event [])) machine.old machine.new (W.drain writer.old).taken (W.drain writer.new).taken result }
+    ensures does { Performs (effect subject.now (in_trace event [])) machine.old machine.new (W.drain writer.old).taken
+        (W.drain writer.new).taken result }
     ensures nodes { machine.new.nodes ≡ machine.old.nodes }
     ensures sound { OnOk result ((W.drain writer.new).broken ≡ false) }
     ensures fault { result ≡ Err Stop.WriteFault → (W.drain writer.new).broken ≡ true }
@@ -46,7 +47,8 @@ pub fn assign<W: Sink>(
 ) -> Result<(), Stop>
     requires value { IsValueOf machine.old.nodes value }
     requires sound { (W.drain writer.old).broken ≡ false }
-    ensures does { Performs (assigns target (shown machine.old.nodes value)) machine.old machine.new (W.drain writer.old).taken (W.drain writer.new).taken result }
+    ensures does { Performs (assigns target (shown machine.old.nodes value))
+        machine.old machine.new (W.drain writer.old).taken (W.drain writer.new).taken result }
     ensures nodes { machine.new.nodes ≡ machine.old.nodes }
     ensures sound { OnOk result ((W.drain writer.new).broken ≡ false) }
     ensures fault { result ≡ Err Stop.WriteFault → (W.drain writer.new).broken ≡ true }

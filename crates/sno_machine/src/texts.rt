@@ -48,10 +48,11 @@ pub fn copies(alloc: Global, x: Value, y: &Value) -> Result<Value, Exit>
     }
 }
 
-/// REPLACE: the first text with each byte that stands in the second replaced by the byte of the third at the same place.
-/// It fails where the second is null, or not as long as the third.
+/// REPLACE: the first text with each byte that stands in the second replaced by the byte of the third at the same
+/// place. It fails where the second is null, or not as long as the third.
 pub fn replaced(alloc: Global, x: Value, y: Value, z: Value) -> Result<Value, Exit>
-    ensures { (s : State) → IsValueOf s.nodes x → Does shown IsValueOf (replace (shown s.nodes x) (shown s.nodes y) (shown s.nodes z)) s s result }
+    ensures { (s : State) → IsValueOf s.nodes x
+        → Does shown IsValueOf (replace (shown s.nodes x) (shown s.nodes y) (shown s.nodes z)) s s result }
 {
     let text = text_of(alloc, x)?;
     let from = text_of(alloc, y)?;

@@ -31,8 +31,8 @@ pub fn differ(alloc: Global, x: &Value, y: &Value) -> Result<Value, Exit>
     }
 }
 
-/// Whether two values are equal in type and value. An object is equal to itself alone. Two patterns aren't compared, and
-/// neither are two expressions.
+/// Whether two values are equal in type and value. An object is equal to itself alone. Two patterns aren't compared,
+/// and neither are two expressions.
 fn same(x: &Value, y: &Value) -> Option<bool>
     ensures { (nodes : List Node) → result ≡ same (shown nodes x.now) (shown nodes y.now) }
 {

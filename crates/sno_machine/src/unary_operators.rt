@@ -13,8 +13,8 @@ use sno_io::Source;
 use sno_text::UnaryOperator;
 use sno_value::{Name, Value, sub};
 
-/// A unary operator on its operand, which is a name behind `.` and `@`. `*` is none, since it leaves its operand as it is:
-/// evaluation gives the expression before it comes here.
+/// A unary operator on its operand, which is a name behind `.` and `@`. `*` is none, since it leaves its operand as it
+/// is: evaluation gives the expression before it comes here.
 pub fn unary<R: Source>(
     machine: &mut Machine,
     reader: &mut R,
@@ -23,7 +23,8 @@ pub fn unary<R: Source>(
 ) -> Result<Value, Exit>
     requires value { IsValueOf machine.old.nodes x }
     requires ready { IsReady machine.old (R.feed reader.old) }
-    ensures { Reads shown IsValueOf (unary operator (shown machine.old.nodes x)) machine.old machine.new (R.feed reader.old) (R.feed reader.new) result }
+    ensures { Reads shown IsValueOf (unary operator (shown machine.old.nodes x))
+        machine.old machine.new (R.feed reader.old) (R.feed reader.new) result }
 {
     match operator {
         UnaryOperator::Plus => plus(&x),

@@ -1,5 +1,6 @@
 -- An answer takes the place of the deferred part.
-use Rattle.std.proofs.Common.{◌≡◌, ℕ, ◌+◌, ◌-◌, ◌≤◌, ◌<◌, Bool, true, List, [], ◌∷◌, ◌++◌, Option, Some, None, length, take, IfSome, refl, sym, ◌∙◌, ap, subst, arith, append_assoc, length-append}
+use Rattle.std.proofs.Common.{◌≡◌, ℕ, ◌+◌, ◌-◌, ◌≤◌, ◌<◌, Bool, true, List, [], ◌∷◌, ◌++◌, Option, Some, None, length, take, IfSome, refl, sym, ◌∙◌, ap, subst}
+use Rattle.std.proofs.Common.{arith, append_assoc, length-append}
 use Rattle.std.proofs.lemmas.List.{map-append}
 use Rattle.std.proofs.Math.Seq.{take-append_seam}
 use Rattle.std.specs.Option.{option_map}
@@ -27,35 +28,42 @@ use Rattle.sno_match.proofs.GrowLaws.{grown, grown_trace}
 abbrev pub answer_of : List Node → Option PatId → Answer
 answer_of nodes given = option_map (λ (id : PatId). tree nodes id.0) given
 
-pub AnswersIn-append : (nodes : List Node) (answers : List (Option PatId)) (given : Option PatId) → AnswersIn nodes answers → IfSome given (λ id. id.0 < length nodes) → AnswersIn nodes (answers ++ given ∷ [])
+pub AnswersIn-append : (nodes : List Node) (answers : List (Option PatId)) (given : Option PatId) → AnswersIn nodes answers
+    → IfSome given (λ id. id.0 < length nodes) → AnswersIn nodes (answers ++ given ∷ [])
 AnswersIn-append nodes [] None h k = tt
 AnswersIn-append nodes [] (Some id) h k = (k, tt)
 AnswersIn-append nodes (None ∷ rest) given h k = AnswersIn-append nodes rest given h k
 AnswersIn-append nodes (Some x ∷ rest) given h k = (h.0, AnswersIn-append nodes rest given h.1 k)
 
-pub answers_of-append : (nodes : List Node) (answers : List (Option PatId)) (given : Option PatId) (more : List Answer) → answers_of nodes (answers ++ given ∷ []) ++ more ≡ answers_of nodes answers ++ (answer_of nodes given ∷ more)
+pub answers_of-append : (nodes : List Node) (answers : List (Option PatId)) (given : Option PatId) (more : List Answer)
+    → answers_of nodes (answers ++ given ∷ []) ++ more ≡ answers_of nodes answers ++ (answer_of nodes given ∷ more)
 answers_of-append nodes answers given more =
-    ap (λ (as' : List Answer). as' ++ more) (map-append (answer_of nodes) answers (given ∷ [])) ∙ append_assoc (answers_of nodes answers) (answer_of nodes given ∷ []) more
+    ap (λ (as' : List Answer). as' ++ more) (map-append (answer_of nodes) answers (given ∷ [])) ∙ append_assoc (answers_of nodes answers)
+    (answer_of nodes given ∷ []) more
 
-pub answered_come : (m : Session) (start : ℕ) (points : List Point) (given : Option PatId) → HasFirst points → AllMarked (below points) → (more : List Answer) (left : ℕ) →
+pub answered_come : (m : Session) (start : ℕ) (points : List Point) (given : Option PatId) → HasFirst points → AllMarked (below points)
+    → (more : List Answer) (left : ℕ) →
     to_come S.Waiting m start points (answer_of m.nodes given ∷ more) left ≡ to_come S.Going m start (answered given points) more left
 answered_come m start [] given h k more left = elim h [ ]
 answered_come m start (point ∷ rest) None h k more left = ap (λ r. further r (later m start)) (resume-exhausted m.nodes m.subject start rest more left k)
 answered_come m start (point ∷ rest) (Some id) h k more left = refl
 
-rest-known : (nodes : List Node) (s : List ℕ) (id : PatId) (point : Point) → id.0 < length nodes → Fits nodes s point → Fits nodes s (with_front (N.Match id ∷ []) point.cursor point)
+rest-known : (nodes : List Node) (s : List ℕ) (id : PatId) (point : Point) → id.0 < length nodes → Fits nodes s point
+    → Fits nodes s (with_front (N.Match id ∷ []) point.cursor point)
 rest-known nodes s id point h f = record { known = (h, known-rest point.goals f.known); inside = f.inside; next = tt }
   where
     known-rest : (gs : List Numbered) → AllKnown nodes gs → AllKnown nodes (rest_of gs)
     known-rest [] k = tt
     known-rest (g ∷ gs) k = k.1
 
-pub answered-stack : (nodes : List Node) (s : List ℕ) (points : List Point) (given : Option PatId) → IfSome given (λ id. id.0 < length nodes) → HasFirst points → IsStack nodes s points → IsStack nodes s (answered given points)
+pub answered-stack : (nodes : List Node) (s : List ℕ) (points : List Point) (given : Option PatId) → IfSome given (λ id. id.0 < length nodes) → HasFirst points
+    → IsStack nodes s points → IsStack nodes s (answered given points)
 answered-stack nodes s [] given k h st = elim h [ ]
 answered-stack nodes s (point ∷ rest) None k h st = below-kept nodes s (point ∷ rest) st.fit st.marked
 answered-stack nodes s (point ∷ rest) (Some id) k h st = record { fit = (rest-known nodes s id point k st.fit.0, st.fit.1); marked = st.marked }
 
-pub answered-cuts : (nodes : List Node) (left : ℕ) (points : List Point) (given : Option PatId) → FirstIsPlain points → HasCuts nodes left points → HasCuts nodes left (answered given points)
+pub answered-cuts : (nodes : List Node) (left : ℕ) (points : List Point) (given : Option PatId) → FirstIsPlain points → HasCuts nodes left points
+    → HasCuts nodes left (answered given points)
 answered-cuts nodes left points None h k = cuts-below nodes left points k
 answered-cuts nodes left [] (Some id) h k = k
 answered-cuts nodes left (point ∷ rest) (Some id) h k =
@@ -67,7 +75,9 @@ answered-few [] (Some id) = omega arith
 answered-few (point ∷ rest) None = omega arith
 answered-few (point ∷ rest) (Some id) = omega arith
 
-module _ (m : Session) (start : ℕ) (points : List Point) (inv : IsMatch m start points S.Waiting) (given : Option PatId) (known : IfSome given (λ id. id.0 < length m.nodes)) (new : List Point) (is : new ≡ answered given points) (records : ℕ) (few : records ≤ m.records + 1) where
+module _ (m : Session) (start : ℕ) (points : List Point) (inv : IsMatch m start points S.Waiting) (given : Option PatId)
+    (known : IfSome given (λ id. id.0 < length m.nodes)) (new : List Point) (is : new ≡ answered given points) (records : ℕ)
+    (few : records ≤ m.records + 1) where
   abbrev answered_so : Session
   answered_so = seen m.nodes m.pattern m.subject m.anchored m.limit (m.answers ++ given ∷ []) m.told m.steps S.Going m.way new records
 
@@ -90,7 +100,8 @@ module _ (m : Session) (start : ℕ) (points : List Point) (inv : IsMatch m star
     story = λ more.
         ap (λ (as' : List Answer). whole (tree m.nodes m.pattern.0) m.subject m.anchored as' m.limit) (answers_of-append m.nodes m.answers given more) ∙
         inv.story (answer_of m.nodes given ∷ more) ∙
-        ap (emit inv.events) (answered_come m start points given inv.asked.0 inv.stack.marked more (m.limit - m.steps) ∙ ap (λ (ps : List Point). to_come S.Going m start ps more (m.limit - m.steps)) (sym is));
+        ap (emit inv.events) (answered_come m start points given inv.asked.0 inv.stack.marked more (m.limit - m.steps)
+        ∙ ap (λ (ps : List Point). to_come S.Going m start ps more (m.limit - m.steps)) (sym is));
   }
 
   -- no event that was told changes
@@ -110,8 +121,10 @@ waiting_of (S.Ended event) h = absurd (cc)
 
 -- a match that waits, seen as o, is lent the table of this call
 
-module _ (o : Session) (nodes : List Node) (pattern : PatId) (s : List ℕ) (anchored : Bool) (limit : ℕ) (answers : List (Option PatId)) (told steps : ℕ) (state : State) (way : List Pending) (points : List Point) (records start : ℕ)
-    (view : seen nodes pattern s anchored limit answers told steps state way points records ≡ o) (inv : IsMatch (seen nodes pattern s anchored limit answers told steps state way points records) start points state)
+module _ (o : Session) (nodes : List Node) (pattern : PatId) (s : List ℕ) (anchored : Bool) (limit : ℕ) (answers : List (Option PatId)) (told steps : ℕ)
+    (state : State) (way : List Pending) (points : List Point) (records start : ℕ)
+    (view : seen nodes pattern s anchored limit answers told steps state way points records ≡ o)
+    (inv : IsMatch (seen nodes pattern s anchored limit answers told steps state way points records) start points state)
     (lent patterns : List Node) (is : lent ≡ patterns) (table : Begins o.nodes patterns) (asked : o.waits ≡ true) where
   abbrev over_table : List Node → State → Session
   over_table n st = seen n pattern s anchored limit answers told steps st way points records
@@ -139,7 +152,8 @@ module _ (o : Session) (nodes : List Node) (pattern : PatId) (s : List ℕ) (anc
     match_counted (over_table lent state) start points state lent_match refl,
   )
 
-  module _ (given : Option PatId) (known : IfSome given (λ id. id.0 < length patterns)) (new : List Point) (after : new ≡ answered given points) (new_records : ℕ) (few : new_records ≤ records + 1) where
+  module _ (given : Option PatId) (known : IfSome given (λ id. id.0 < length patterns)) (new : List Point) (after : new ≡ answered given points)
+      (new_records : ℕ) (few : new_records ≤ records + 1) where
     known_here : IfSome given (λ id. id.0 < length lent)
     known_here = subst (λ (n : List Node). IfSome given (λ id. id.0 < length n)) (sym is) known
 

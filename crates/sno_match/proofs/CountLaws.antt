@@ -1,5 +1,6 @@
 -- What the counts and the pending list of a match are.
-use Rattle.std.proofs.Common.{◌≡◌, ℕ, ◌+◌, ◌-◌, ◌*◌, ◌≤◌, List, [], ◌∷◌, ◌++◌, length, map, take, slice_get, IfSome, refl, sym, ◌∙◌, ap, subst, arith, append_assoc, append-nil, length-append}
+use Rattle.std.proofs.Common.{◌≡◌, ℕ, ◌+◌, ◌-◌, ◌*◌, ◌≤◌, List, [], ◌∷◌, ◌++◌, length, map, take, slice_get, IfSome, refl, sym, ◌∙◌, ap, subst, arith}
+use Rattle.std.proofs.Common.{append_assoc, append-nil, length-append}
 use Rattle.std.proofs.lemmas.List.{map-append, take_at}
 use Rattle.sno_pattern.specs.Table.{tree}
 use Rattle.sno_match.specs.declared.event.Event.TheVariants as V
@@ -22,7 +23,8 @@ last_pending-counted limit x [] = refl
 last_pending-counted limit x (e ∷ es) = last_pending-counted limit (pending_after e.0 x) es
 
 -- what is still to be told has no smaller count than the steps taken
-first_later : (limit steps : ℕ) (es rest : List (Event × ℕ)) → steps ≤ limit → AllLeft (limit - steps) rest → IfSome (slice_get (map (counted limit) (es ++ rest)) (length es)) (λ next. steps ≤ next.1)
+first_later : (limit steps : ℕ) (es rest : List (Event × ℕ)) → steps ≤ limit → AllLeft (limit - steps) rest
+    → IfSome (slice_get (map (counted limit) (es ++ rest)) (length es)) (λ next. steps ≤ next.1)
 first_later limit steps [] [] h a = tt
 first_later limit steps [] (r ∷ rs) h a = omega (arith, a.0)
 first_later limit steps (e ∷ es) rest h a = first_later limit steps es rest h a
@@ -59,7 +61,8 @@ over-few S.Waiting = omega arith
 over-few (S.Ended event) = omega arith
 
 module _ (m : Session) (start : ℕ) (points : List Point) where
-  final-events : (state : State) (left : ℕ) → (inv : IsMatch m start points state) → all_events (to_come state m start points [] left) ≡ final state left ++ unfinal m start points state left
+  final-events : (state : State) (left : ℕ) → (inv : IsMatch m start points state) → all_events (to_come state m start points [] left) ≡ final state left
+      ++ unfinal m start points state left
   final-events S.Going left inv = refl
   final-events S.Waiting left inv = ap all_events (waits_here m start points left inv.asked.0)
   final-events (S.Ended (V.Way start' end)) left inv = refl
@@ -87,9 +90,11 @@ module _ (m : Session) (start : ℕ) (points : List Point) (state : State) (inv 
 
   pub trace_is : trace_of m ≡ map (counted m.limit) (so_far ++ to_go)
   trace_is =
-      ap (λ a. map (counted m.limit) (all_events (whole (tree m.nodes m.pattern.0) m.subject m.anchored a m.limit))) (sym (append-nil (answers_of m.nodes m.answers))) ∙
+      ap (λ a. map (counted m.limit) (all_events (whole (tree m.nodes m.pattern.0) m.subject m.anchored a m.limit)))
+      (sym (append-nil (answers_of m.nodes m.answers))) ∙
       ap (λ r. map (counted m.limit) (all_events r)) (inv.story []) ∙
-      ap (map (counted m.limit)) (all_events-emit inv.events (to_come state m start points [] left) ∙ ap (λ t. inv.events ++ t) (final-events m start points state left inv) ∙ sym (append_assoc inv.events (final state left) to_go))
+      ap (map (counted m.limit)) (all_events-emit inv.events (to_come state m start points [] left)
+      ∙ ap (λ t. inv.events ++ t) (final-events m start points state left inv) ∙ sym (append_assoc inv.events (final state left) to_go))
 
   size : length so_far ≡ m.told
   size = omega (arith, inv.told, final-length state left, length-append inv.events (final state left))
@@ -104,7 +109,13 @@ module _ (m : Session) (start : ℕ) (points : List Point) (state : State) (inv 
   trace_size = omega (arith, ap length trace_is, length-counted m.limit (so_far ++ to_go), length-append so_far to_go, size)
 
   pub match_few : m.told ≤ 2 * m.limit + 2
-  match_few = omega (arith, inv.told, over-few state, few_told (tree m.nodes m.pattern.0) m.subject m.anchored m.limit (answers_of m.nodes m.answers ++ []) inv.events (to_come state m start points [] left) (inv.story []))
+  match_few = omega (
+    arith,
+    inv.told,
+    over-few state,
+    few_told (tree m.nodes m.pattern.0) m.subject m.anchored m.limit (answers_of m.nodes m.answers ++ [])
+        inv.events (to_come state m start points [] left) (inv.story []),
+  )
 
   pub match_counted : m.points ≡ length points → IsCounted m
   match_counted e = record {
@@ -114,10 +125,12 @@ module _ (m : Session) (start : ℕ) (points : List Point) (state : State) (inv 
     since =
         let parts = map-append (counted m.limit) inv.events (final state left) in
         let whole = last_count-append 0 (map (counted m.limit) inv.events) (map (counted m.limit) (final state left)) in
-        subst (λ (n : ℕ). n ≤ m.steps) (sym (ap (last_count 0) (told_is ∙ parts) ∙ whole)) (final-count state m.limit m.steps (last_count 0 (map (counted m.limit) inv.events)) inv.since inv.steps_in);
+        subst (λ (n : ℕ). n ≤ m.steps) (sym (ap (last_count 0) (told_is ∙ parts) ∙ whole))
+        (final-count state m.limit m.steps (last_count 0 (map (counted m.limit) inv.events)) inv.since inv.steps_in);
     until =
         subst (λ (n : ℕ). IfSome (slice_get (trace_of m) n) (λ next. m.steps ≤ next.1)) size
-        (subst (λ (t : List (Event × ℕ)). IfSome (slice_get t (length so_far)) (λ next. m.steps ≤ next.1)) (sym trace_is) (first_later m.limit m.steps so_far to_go inv.steps_in (unfinal-left m start points state left)));
+        (subst (λ (t : List (Event × ℕ)). IfSome (slice_get t (length so_far)) (λ next. m.steps ≤ next.1)) (sym trace_is)
+        (first_later m.limit m.steps so_far to_go inv.steps_in (unfinal-left m start points state left)));
     steps = inv.steps_in;
     few = match_few;
     points = omega (arith, e, inv.points_in);

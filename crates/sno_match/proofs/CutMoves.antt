@@ -48,7 +48,8 @@ cuts-below nodes n (point ∷ rest) k =
     record { scoped = k.scoped.1; rising = rises-behind n (opened nodes point.goals point.mark (length rest)) (opens nodes rest) k.rising }
 
 -- FENCE(P) is entered
-cuts-entered : (nodes : List Node) (s : List ℕ) (id p : PatId) (goals : List Numbered) (c : ℕ) (pending : List Pending) (mark : Mark) (rest : List Point) (left : ℕ) → tree nodes id.0 ≡ Cut (tree nodes p.0) →
+cuts-entered : (nodes : List Node) (s : List ℕ) (id p : PatId) (goals : List Numbered) (c : ℕ) (pending : List Pending) (mark : Mark) (rest : List Point)
+    (left : ℕ) → tree nodes id.0 ≡ Cut (tree nodes p.0) →
     HasCuts nodes (suc left) (point_at (N.Match id) goals c pending mark ∷ rest) →
     HasCuts nodes left (branched (N.Match p ∷ N.CloseCut left (length rest) ∷ []) c left (point_at (N.Match id) goals c pending mark ∷ rest))
 cuts-entered nodes s id p goals c pending mark rest left t k =
@@ -60,17 +61,20 @@ cuts-entered nodes s id p goals c pending mark rest left t k =
 
 -- and its close
 cuts-closed : (nodes : List Node) (s : List ℕ) (m d : ℕ) (goals : List Numbered) (c : ℕ) (pending : List Pending) (mark : Mark) (rest : List Point) (left : ℕ) →
-    HasCuts nodes (suc left) (point_at (N.CloseCut m d) goals c pending mark ∷ rest) → HasCuts nodes left (cut_back d (point_at (N.CloseCut m d) goals c pending mark ∷ rest))
+    HasCuts nodes (suc left) (point_at (N.CloseCut m d) goals c pending mark ∷ rest)
+    → HasCuts nodes left (cut_back d (point_at (N.CloseCut m d) goals c pending mark ∷ rest))
 cuts-closed nodes s m d goals c pending mark rest left k =
     let open_now : opens nodes rest ≡ (m, d) ∷ closes goals = sym k.scoped.0 in
     let kept : opens nodes (drop (length rest - d) rest) ≡ closes goals = (cut-keeps s 0 nodes rest m d (closes goals) open_now).1 in
-    let under : RiseFrom (suc left) ((m, d) ∷ closes goals) = subst (RiseFrom (suc left)) open_now (cuts-below nodes (suc left) (point_at (N.CloseCut m d) goals c pending mark ∷ rest) k).rising in
+    let under : RiseFrom (suc left) ((m, d) ∷ closes goals) =
+    subst (RiseFrom (suc left)) open_now (cuts-below nodes (suc left) (point_at (N.CloseCut m d) goals c pending mark ∷ rest) k).rising in
     record {
       scoped = cut-scoped s 0 nodes m d goals c pending rest k.scoped;
       rising = subst (RiseFrom left) (sym kept) (rises-less left (suc m) (closes goals) (omega (arith, under.0)) under.1);
     }
 
-module _ (nodes : List Node) (s : List ℕ) (goal : Numbered) (goals : List Numbered) (c : ℕ) (pending : List Pending) (mark : Mark) (rest : List Point) (left : ℕ) where
+module _ (nodes : List Node) (s : List ℕ) (goal : Numbered) (goals : List Numbered) (c : ℕ) (pending : List Pending) (mark : Mark)
+    (rest : List Point) (left : ℕ) where
   abbrev top : Point
   top = point_at goal goals c pending mark
 
@@ -80,29 +84,35 @@ module _ (nodes : List Node) (s : List ℕ) (goal : Numbered) (goals : List Numb
 
     -- goals that close none, in place of one that closes none
     in_place : (front : List Numbered) → closes (goal ∷ []) ≡ [] → closes front ≡ [] → closes (front ++ goals) ≡ opens nodes rest
-    in_place front plain none = closes-append front goals ∙ ap (λ (ss : List Scope). ss ++ closes goals) none ∙ sym (closes-behind goal goals plain) ∙ k.scoped.0
+    in_place front plain none = closes-append front goals ∙ ap (λ (ss : List Scope). ss ++ closes goals) none
+        ∙ sym (closes-behind goal goals plain) ∙ k.scoped.0
 
     cuts-replaced : (front : List Numbered) (at : ℕ) → closes (goal ∷ []) ≡ [] → closes front ≡ [] → HasCuts nodes left (with_front front at top ∷ rest)
     cuts-replaced front at plain none = record { scoped = (in_place front plain none, under.scoped); rising = under.rising }
 
-    cuts-branched : (front : List Numbered) (at next : ℕ) → closes (goal ∷ []) ≡ [] → opened nodes (goal ∷ goals) (Next next) (length rest) ≡ [] → closes front ≡ [] →
+    cuts-branched : (front : List Numbered) (at next : ℕ) → closes (goal ∷ []) ≡ [] → opened nodes (goal ∷ goals) (Next next) (length rest)
+        ≡ [] → closes front ≡ [] →
         HasCuts nodes left (with_front front at top ∷ record top { mark = Next next } ∷ rest)
     cuts-branched front at next plain opens_none none =
-        let same : opens nodes rest ≡ opened nodes (goal ∷ goals) (Next next) (length rest) ++ opens nodes rest = ap (λ (ss : List Scope). ss ++ opens nodes rest) (sym opens_none) in
+        let same : opens nodes rest ≡ opened nodes (goal ∷ goals) (Next next) (length rest) ++ opens nodes rest =
+        ap (λ (ss : List Scope). ss ++ opens nodes rest) (sym opens_none) in
         record { scoped = (in_place front plain none ∙ same, (k.scoped.0, under.scoped)); rising = subst (RiseFrom left) same under.rising }
 
     enters : (body : PatId) → IsCut nodes goal body → HasCuts nodes left (branched (N.Match body ∷ N.CloseCut left (length rest) ∷ []) c left (top ∷ rest))
     enters body is =
         let entered = subst (λ (g : Numbered). HasCuts nodes (suc left) (point_at g goals c pending mark ∷ rest)) is.1 k in
-        subst (λ (g : Numbered). HasCuts nodes left (branched (N.Match body ∷ N.CloseCut left (length rest) ∷ []) c left (point_at g goals c pending mark ∷ rest))) (sym is.1)
+        subst (λ (g : Numbered). HasCuts nodes left
+        (branched (N.Match body ∷ N.CloseCut left (length rest) ∷ []) c left (point_at g goals c pending mark ∷ rest))) (sym is.1)
         (cuts-entered nodes s is.0 body goals c pending mark rest left is.2 entered)
 
     ends : (m depth : ℕ) → goal ≡ N.CloseCut m depth → HasCuts nodes left (cut_back depth (top ∷ rest))
     ends m depth is =
         let closed = subst (λ (g : Numbered). HasCuts nodes (suc left) (point_at g goals c pending mark ∷ rest)) is k in
-        subst (λ (g : Numbered). HasCuts nodes left (cut_back depth (point_at g goals c pending mark ∷ rest))) (sym is) (cuts-closed nodes s m depth goals c pending mark rest left closed)
+        subst (λ (g : Numbered). HasCuts nodes left (cut_back depth (point_at g goals c pending mark ∷ rest))) (sym is)
+        (cuts-closed nodes s m depth goals c pending mark rest left closed)
 
-    pub carried_cuts : (plan : Plan) (told : Option Told) (new : List Point) → IsPlan nodes s goal c mark plan → KeepsScopes nodes goal plan → CarriesOut plan c left (top ∷ rest) told new → HasCuts nodes left new
+    pub carried_cuts : (plan : Plan) (told : Option Told) (new : List Point) → IsPlan nodes s goal c mark plan → KeepsScopes nodes goal plan
+        → CarriesOut plan c left (top ∷ rest) told new → HasCuts nodes left new
     carried_cuts (P.Replace front at) told new p q co = subst (HasCuts nodes left) (sym co.1) (cuts-replaced (goals_in front) at q.0 q.1)
     carried_cuts (P.Branch front at next) told new p q co =
         subst (HasCuts nodes left) (sym co.1) (cuts-branched (goals_in front) at next q.0.0 (q.0.1 goals (Next next) (length rest)) q.1)

@@ -38,7 +38,8 @@ beside_cut : trace (Alt (Cat (Cut a) x) ab) (65 ∷ 66 ∷ []) true 1000 [] ≡ 
 beside_cut = refl
 
 -- FENCE(LEN(1) $ V | LEN(2) $ V) 'C' on ABC
-assignment_stays : trace (Cat (Cut (Alt (Imm (Leaf (Len 1)) (variable 0)) (Imm (Leaf (Len 2)) (variable 0)))) c) (65 ∷ 66 ∷ 67 ∷ []) true 1000 [] ≡ (Assign (variable 0) 0 1, 6) ∷ (Ended Exhausted, 8) ∷ []
+assignment_stays : trace (Cat (Cut (Alt (Imm (Leaf (Len 1)) (variable 0)) (Imm (Leaf (Len 2)) (variable 0)))) c) (65 ∷ 66 ∷ 67 ∷ []) true 1000 []
+    ≡ (Assign (variable 0) 0 1, 6) ∷ (Ended Exhausted, 8) ∷ []
 assignment_stays = refl
 
 -- FENCE(FENCE('A' | 'AB') ('C' | 'BC')) REM on ABC
@@ -50,7 +51,8 @@ later_start : trace (Cat (Cut (Alt a ab)) c) (65 ∷ 66 ∷ 65 ∷ 67 ∷ []) fa
 later_start = refl
 
 -- BREAKX('B') 'B' on ABAB, and BREAKX('B') on BB
-each_stop : trace (Cat (Leaf (BreakX (66 ∷ []))) (Leaf (Text (66 ∷ [])))) (65 ∷ 66 ∷ 65 ∷ 66 ∷ []) true 1000 [] ≡ (Way 0 2 [], 3) ∷ (Way 0 4 [], 5) ∷ (Ended Exhausted, 5) ∷ []
+each_stop : trace (Cat (Leaf (BreakX (66 ∷ []))) (Leaf (Text (66 ∷ [])))) (65 ∷ 66 ∷ 65 ∷ 66 ∷ []) true 1000 [] ≡ (Way 0 2 [], 3) ∷ (Way 0 4 [], 5)
+    ∷ (Ended Exhausted, 5) ∷ []
 each_stop = refl
 
 stop_here : trace (Leaf (BreakX (66 ∷ []))) (66 ∷ 66 ∷ []) true 1000 [] ≡ (Way 0 0 [], 1) ∷ (Way 0 1 [], 2) ∷ (Ended Exhausted, 2) ∷ []

@@ -49,7 +49,8 @@ entry-pending (Some V.Exhausted) way was left = refl
 entry-pending (Some V.Aborted) way was left = refl
 entry-pending (Some V.Limit) way was left = refl
 
-pub entry-count : (told : Option Told) (way : List Pending) (limit steps n : ℕ) → n ≤ steps → steps ≤ limit → last_count n (map (counted limit) (entries told way (limit - steps))) ≤ steps
+pub entry-count : (told : Option Told) (way : List Pending) (limit steps n : ℕ) → n ≤ steps → steps ≤ limit
+    → last_count n (map (counted limit) (entries told way (limit - steps))) ≤ steps
 entry-count None way limit steps n h k = h
 entry-count (Some (V.Way start end)) way limit steps n h k = omega arith
 entry-count (Some (V.Assign target start end)) way limit steps n h k = omega arith

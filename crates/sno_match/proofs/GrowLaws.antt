@@ -12,7 +12,8 @@ use Rattle.sno_match.specs.declared.engine.State.{State}
 use Rattle.sno_match.specs.declared.engine.State.TheVariants as S
 use Rattle.sno_match.specs.Search.{Match, CloseRepeat, Answer, Outcome, emit, further, search, with_answer, whole, trace}
 use Rattle.sno_match.specs.Point.{Point, rest_of}
-use Rattle.sno_match.specs.Reading.{body_of, goal_of, goals_of, behind, behind_mark, from_mark, resume, reading, waiting, IsKnown, AllKnown, AllFit, MarkFits, HasNext}
+use Rattle.sno_match.specs.Reading.{body_of, goal_of, goals_of, behind, behind_mark, from_mark, resume, reading, waiting, IsKnown, AllKnown, AllFit, MarkFits}
+use Rattle.sno_match.specs.Reading.{HasNext}
 use Rattle.sno_match.specs.Scopes.{opened_at, opened, opens, AllScoped, RiseFrom, HasCuts}
 use Rattle.sno_match.specs.Session.{Session, answers_of, trace_of, Begins}
 use Rattle.sno_match.specs.Running.{later, later_starts, to_come, AnswersIn, IsMatch}
@@ -34,7 +35,11 @@ module _ (nodes more : List Node) where
   known-grow (N.CloseCond target from) h = tt
   known-grow (N.CloseImm target from) h = tt
   known-grow (N.CloseCut left depth) h = tt
-  known-grow (N.CloseRepeat id from) h = (omega (arith, length-append nodes more, h.0), tree-append nodes more id.0 h.0 ∙ h.1 ∙ ap (λ t. Arbno (body_of t)) (sym (tree-append nodes more id.0 h.0)))
+  known-grow (N.CloseRepeat id from) h = (
+    omega (arith, length-append nodes more, h.0),
+    tree-append nodes more id.0 h.0 ∙ h.1
+        ∙ ap (λ t. Arbno (body_of t)) (sym (tree-append nodes more id.0 h.0)),
+  )
 
   all_known-grow : (gs : List Numbered) → AllKnown nodes gs → AllKnown (nodes ++ more) gs
   all_known-grow [] h = tt
@@ -51,7 +56,14 @@ module _ (nodes more : List Node) where
 
   fit-grow : (s : List ℕ) (points : List Point) → AllFit nodes s points → AllFit (nodes ++ more) s points
   fit-grow s [] h = tt
-  fit-grow s (p ∷ ps) h = (record { known = all_known-grow p.goals h.0.known; inside = h.0.inside; next = mark-grow s p.mark p.goals p.cursor h.0.known h.0.next }, fit-grow s ps h.1)
+  fit-grow s (p ∷ ps) h = (
+    record {
+      known = all_known-grow p.goals h.0.known;
+      inside = h.0.inside;
+      next = mark-grow s p.mark p.goals p.cursor h.0.known h.0.next;
+    },
+    fit-grow s ps h.1,
+  )
 
   opened-grow : (gs : List Numbered) (mark : Mark) (depth : ℕ) → AllKnown nodes gs → opened (nodes ++ more) gs mark depth ≡ opened nodes gs mark depth
   opened-grow gs Enter depth k = refl
@@ -65,7 +77,8 @@ module _ (nodes more : List Node) where
   opens-grow : (s : List ℕ) (points : List Point) → AllFit nodes s points → opens (nodes ++ more) points ≡ opens nodes points
   opens-grow s [] h = refl
   opens-grow s (p ∷ ps) h =
-      ap (λ ss. ss ++ opens (nodes ++ more) ps) (opened-grow p.goals p.mark (length ps) h.0.known) ∙ ap (λ ss. opened nodes p.goals p.mark (length ps) ++ ss) (opens-grow s ps h.1)
+      ap (λ ss. ss ++ opens (nodes ++ more) ps) (opened-grow p.goals p.mark (length ps) h.0.known)
+      ∙ ap (λ ss. opened nodes p.goals p.mark (length ps) ++ ss) (opens-grow s ps h.1)
 
   scoped-grow : (s : List ℕ) (points : List Point) → AllFit nodes s points → AllScoped nodes points → AllScoped (nodes ++ more) points
   scoped-grow s [] h k = tt
@@ -75,13 +88,15 @@ module _ (nodes more : List Node) where
   cuts-grow s left points h k = record { scoped = scoped-grow s points h k.scoped; rising = subst (RiseFrom left) (sym (opens-grow s points h)) k.rising }
 
   module _ (s : List ℕ) (start : ℕ) where
-    resume-grow : (points : List Point) (outcome : Outcome) → AllFit nodes s points → resume (nodes ++ more) s start points outcome ≡ resume nodes s start points outcome
+    resume-grow : (points : List Point) (outcome : Outcome) → AllFit nodes s points → resume (nodes ++ more) s start points outcome
+        ≡ resume nodes s start points outcome
     resume-grow [] outcome h = refl
     resume-grow (p ∷ ps) outcome h =
         resume-grow ps (behind (nodes ++ more) s start p outcome) h.1 ∙
         ap (λ gs. resume nodes s start ps (behind_mark s start p.mark gs p.cursor p.pending outcome)) (goals_of-grow p.goals h.0.known)
 
-    reading-grow : (points : List Point) (answers : List Answer) (left : ℕ) → AllFit nodes s points → reading (nodes ++ more) s start points answers left ≡ reading nodes s start points answers left
+    reading-grow : (points : List Point) (answers : List Answer) (left : ℕ) → AllFit nodes s points → reading (nodes ++ more) s start points answers left
+        ≡ reading nodes s start points answers left
     reading-grow [] answers left h = refl
     reading-grow (p ∷ ps) answers left h =
         resume-grow ps (from_mark s start p.mark (goals_of (nodes ++ more) p.goals) p.cursor p.pending answers left) h.1 ∙
@@ -91,11 +106,13 @@ module _ (nodes more : List Node) where
     rest-known [] h = tt
     rest-known (g ∷ gs) h = h.1
 
-    waiting-grow : (points : List Point) (answers : List Answer) (left : ℕ) → AllFit nodes s points → waiting (nodes ++ more) s start points answers left ≡ waiting nodes s start points answers left
+    waiting-grow : (points : List Point) (answers : List Answer) (left : ℕ) → AllFit nodes s points → waiting (nodes ++ more) s start points answers left
+        ≡ waiting nodes s start points answers left
     waiting-grow [] answers left h = refl
     waiting-grow (p ∷ ps) answers left h =
         resume-grow ps (with_answer (search s start) (goals_of (nodes ++ more) (rest_of p.goals)) p.cursor p.pending answers left) h.1 ∙
-        ap (λ gs. resume nodes s start ps (with_answer (search s start) gs p.cursor p.pending answers left)) (goals_of-grow (rest_of p.goals) (rest-known p.goals h.0.known))
+        ap (λ gs. resume nodes s start ps (with_answer (search s start) gs p.cursor p.pending answers left))
+        (goals_of-grow (rest_of p.goals) (rest-known p.goals h.0.known))
 
   module _ (m : Session) (is : nodes ≡ m.nodes) (h : m.pattern.0 < length nodes) where
     abbrev wider : Session
@@ -109,17 +126,20 @@ module _ (nodes more : List Node) where
     to_come-grow : (state : State) (start : ℕ) (points : List Point) (answers : List Answer) (left : ℕ) → AllFit nodes m.subject points →
         to_come state wider start points answers left ≡ to_come state m start points answers left
     to_come-grow S.Going start points answers left f =
-        ap (λ r. further r (later wider start)) (reading-grow m.subject start points answers left f ∙ ap (λ (n : List Node). reading n m.subject start points answers left) is) ∙
+        ap (λ r. further r (later wider start)) (reading-grow m.subject start points answers left f
+        ∙ ap (λ (n : List Node). reading n m.subject start points answers left) is) ∙
         ap (further (reading m.nodes m.subject start points answers left)) (later-grow start)
     to_come-grow S.Waiting start points answers left f =
-        ap (λ r. further r (later wider start)) (waiting-grow m.subject start points answers left f ∙ ap (λ (n : List Node). waiting n m.subject start points answers left) is) ∙
+        ap (λ r. further r (later wider start)) (waiting-grow m.subject start points answers left f
+        ∙ ap (λ (n : List Node). waiting n m.subject start points answers left) is) ∙
         ap (further (waiting m.nodes m.subject start points answers left)) (later-grow start)
     to_come-grow (S.Ended event) start points answers left f = refl
 
   answers-grow : (answers : List (Option PatId)) → AnswersIn nodes answers → answers_of (nodes ++ more) answers ≡ answers_of nodes answers
   answers-grow [] h = refl
   answers-grow (None ∷ tail) h = ap (λ xs. None ∷ xs) (answers-grow tail h)
-  answers-grow (Some id ∷ tail) h = ap (λ t. Some t ∷ answers_of (nodes ++ more) tail) (tree-append nodes more id.0 h.0) ∙ ap (λ xs. Some (tree nodes id.0) ∷ xs) (answers-grow tail h.1)
+  answers-grow (Some id ∷ tail) h = ap (λ t. Some t ∷ answers_of (nodes ++ more) tail) (tree-append nodes more id.0 h.0)
+      ∙ ap (λ xs. Some (tree nodes id.0) ∷ xs) (answers-grow tail h.1)
 
   answers_in-grow : (answers : List (Option PatId)) → AnswersIn nodes answers → AnswersIn (nodes ++ more) answers
   answers_in-grow [] h = tt
@@ -157,7 +177,8 @@ module _ (m : Session) (lent : List Node) (b : Begins m.nodes lent) where
         pending = inv.pending;
         since = inv.since;
         story = λ more.
-            ap (λ t. whole t m.subject m.anchored (answers_of (m.nodes ++ b.0) m.answers ++ more) m.limit) (tree-append m.nodes b.0 m.pattern.0 inv.pattern_in) ∙
+            ap (λ t. whole t m.subject m.anchored (answers_of (m.nodes ++ b.0) m.answers ++ more) m.limit)
+            (tree-append m.nodes b.0 m.pattern.0 inv.pattern_in) ∙
             ap (λ given. whole (tree m.nodes m.pattern.0) m.subject m.anchored (given ++ more) m.limit) (answers-grow m.nodes b.0 m.answers inv.answers_in) ∙
             inv.story more ∙
             ap (emit inv.events) (sym (to_come-grow m.nodes b.0 m refl inv.pattern_in state start points more (m.limit - m.steps) inv.stack.fit));

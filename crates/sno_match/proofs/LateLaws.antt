@@ -11,7 +11,9 @@ use Rattle.sno_match.specs.Point.{Point}
 use Rattle.sno_match.specs.Reading.{left_of, goals_of, ends_from, after_pattern, after_goals, behind_mark, behind, resume, from_mark, reading}
 use Rattle.sno_match.specs.Session.{Session}
 use Rattle.sno_match.specs.Running.{later, later_starts, to_come}
-use Rattle.sno_match.specs.Search.{Goal, Match, CloseCond, CloseImm, CloseRepeat, Exhausted, Aborted, Limit, Waiting, Event, Assign, Cursor, Value, Answer, Outcome, Gives, Search, Finder, emit, or_else, further, tries, abort_if_exhausted, with_answer, if_moved, first_goal, search_within, search, all_events, Ended, CloseCut, CutOff, cut_off_if_exhausted, exhausted_if_cut_off}
+use Rattle.sno_match.specs.Search.{Goal, Match, CloseCond, CloseImm, CloseRepeat, Exhausted, Aborted, Limit, Waiting, Event, Assign, Cursor, Value, Answer}
+use Rattle.sno_match.specs.Search.{Outcome, Gives, Search, Finder, emit, or_else, further, tries, abort_if_exhausted, with_answer, if_moved, first_goal}
+use Rattle.sno_match.specs.Search.{search_within, search, all_events, Ended, CloseCut, CutOff, cut_off_if_exhausted, exhausted_if_cut_off}
 
 abbrev pub AllLeft : ℕ → List (Event × ℕ) → Type 0
 AllLeft n [] = Unit {0}
@@ -102,24 +104,38 @@ module _ (s : List ℕ) (find : Finder) (h : (goals : List Goal) (c : ℕ) (pend
   one event left = (omega arith, tt)
 
   goal-within : (goal : Goal) (rest : List Goal) (c : ℕ) (pending : List Pending) → KeepsWithin (first_goal s find goal rest c pending)
-  goal-within (Match (Leaf a)) rest c pending answers left = tries-within (map (λ e. find rest e pending) (ends a s c)) (keep-map (λ e. find rest e pending) (ends a s c) (λ e. h rest e pending)) answers left
+  goal-within (Match (Leaf a)) rest c pending answers left =
+      tries-within (map (λ e. find rest e pending) (ends a s c)) (keep-map (λ e. find rest e pending) (ends a s c) (λ e. h rest e pending)) answers left
   goal-within (Match (Cat p q)) rest c pending answers left = h (Match p ∷ Match q ∷ rest) c pending answers left
-  goal-within (Match (Alt p q)) rest c pending answers left = tries-within (find (Match p ∷ rest) c pending ∷ find (Match q ∷ rest) c pending ∷ []) (h (Match p ∷ rest) c pending, (h (Match q ∷ rest) c pending, tt)) answers left
-  goal-within (Match (Arbno p)) rest c pending answers left = tries-within (find rest c pending ∷ find (Match p ∷ CloseRepeat p c ∷ rest) c pending ∷ []) (h rest c pending, (h (Match p ∷ CloseRepeat p c ∷ rest) c pending, tt)) answers left
-  goal-within (CloseRepeat p from) rest c pending answers left = moved-within (c == from) (find (Match (Arbno p) ∷ rest) c pending) (h (Match (Arbno p) ∷ rest) c pending) answers left
+  goal-within (Match (Alt p q)) rest c pending answers left =
+      tries-within (find (Match p ∷ rest) c pending ∷ find (Match q ∷ rest) c pending ∷ [])
+      (h (Match p ∷ rest) c pending, (h (Match q ∷ rest) c pending, tt)) answers left
+  goal-within (Match (Arbno p)) rest c pending answers left =
+      tries-within (find rest c pending ∷ find (Match p ∷ CloseRepeat p c ∷ rest) c pending ∷ [])
+      (h rest c pending, (h (Match p ∷ CloseRepeat p c ∷ rest) c pending, tt)) answers left
+  goal-within (CloseRepeat p from) rest c pending answers left =
+      moved-within (c == from) (find (Match (Arbno p) ∷ rest) c pending) (h (Match (Arbno p) ∷ rest) c pending) answers left
   goal-within (Match (Cond p target)) rest c pending answers left = h (Match p ∷ CloseCond target c ∷ rest) c pending answers left
   goal-within (Match (Imm p target)) rest c pending answers left = h (Match p ∷ CloseImm target c ∷ rest) c pending answers left
   goal-within (CloseCond target from) rest c pending answers left = h rest c (pending ++ record { target = target; start = from; end = c } ∷ []) answers left
-  goal-within (CloseImm target from) rest c pending answers left = emit-within left ((Assign target from c, left) ∷ []) (find rest c pending answers left) (one (Assign target from c) left) (h rest c pending answers left)
-  goal-within (Match (Place target)) rest c pending answers left = emit-within left ((Cursor target c, left) ∷ []) (find rest c pending answers left) (one (Cursor target c) left) (h rest c pending answers left)
+  goal-within (CloseImm target from) rest c pending answers left =
+      emit-within left ((Assign target from c, left) ∷ []) (find rest c pending answers left) (one (Assign target from c) left) (h rest c pending answers left)
+  goal-within (Match (Place target)) rest c pending answers left =
+      emit-within left ((Cursor target c, left) ∷ []) (find rest c pending answers left) (one (Cursor target c) left) (h rest c pending answers left)
   goal-within (Match Fence) rest c pending answers left = abort-within left (find rest c pending answers left) (h rest c pending answers left)
-  goal-within (Match (Cut p)) rest c pending answers left = ended-within left left (find (Match p ∷ CloseCut left ∷ rest) c pending answers left) (h (Match p ∷ CloseCut left ∷ rest) c pending answers left)
+  goal-within (Match (Cut p)) rest c pending answers left =
+      ended-within left left (find (Match p ∷ CloseCut left ∷ rest) c pending answers left) (h (Match p ∷ CloseCut left ∷ rest) c pending answers left)
   goal-within (CloseCut m) rest c pending answers left = cut-within left m (find rest c pending answers left) (h rest c pending answers left)
   goal-within (Match Abort) rest c pending answers left = (tt, omega arith)
-  goal-within (Match Succeed) rest c pending answers left = tries-within (find rest c pending ∷ replicate (suc left) (find rest c pending)) (h rest c pending, keep-replicate (find rest c pending) (suc left) (h rest c pending)) answers left
-  goal-within (Match (Defer primitive expression)) rest c pending answers left = emit-within left ((Value primitive expression, left) ∷ []) (with_answer find rest c pending answers left) (one (Value primitive expression) left) (answer-within rest c pending answers left)
+  goal-within (Match Succeed) rest c pending answers left =
+      tries-within (find rest c pending ∷ replicate (suc left) (find rest c pending))
+      (h rest c pending, keep-replicate (find rest c pending) (suc left) (h rest c pending)) answers left
+  goal-within (Match (Defer primitive expression)) rest c pending answers left =
+      emit-within left ((Value primitive expression, left) ∷ []) (with_answer find rest c pending answers left) (one (Value primitive expression) left)
+      (answer-within rest c pending answers left)
 
-pub search_within-keeps : (s : List ℕ) (start depth : ℕ) (goals : List Goal) (c : ℕ) (pending : List Pending) → KeepsWithin (search_within s start depth goals c pending)
+pub search_within-keeps : (s : List ℕ) (start depth : ℕ) (goals : List Goal) (c : ℕ) (pending : List Pending)
+    → KeepsWithin (search_within s start depth goals c pending)
 search_within-keeps s start depth [] c pending answers left = ((omega arith, tt), omega arith)
 search_within-keeps s start depth (goal ∷ rest) c pending answers zero = (tt, omega arith)
 search_within-keeps s start zero (goal ∷ rest) c pending answers (suc left) = (tt, omega arith)
@@ -134,14 +150,19 @@ search-keeps : (s : List ℕ) (start : ℕ) (goals : List Goal) (c : ℕ) (pendi
 search-keeps s start goals c pending answers left = search_within-keeps s start left goals c pending answers left
 
 module _ (nodes : List Node) (s : List ℕ) (start n : ℕ) where
-  after_pattern-within : (p : Pattern) (rest : List Goal) (c : ℕ) (pending : List Pending) (i : ℕ) (r : Outcome) → IsWithin n r → IsWithin n (after_pattern s start p rest c pending i r)
+  after_pattern-within : (p : Pattern) (rest : List Goal) (c : ℕ) (pending : List Pending) (i : ℕ) (r : Outcome) → IsWithin n r
+      → IsWithin n (after_pattern s start p rest c pending i r)
   after_pattern-within (Leaf a) rest c pending i r w =
-      further-within n r (map (λ e. search s start rest e pending) (ends_from i (ends a s c))) (keep-map (λ e. search s start rest e pending) (ends_from i (ends a s c)) (λ e. search-keeps s start rest e pending)) w
-  after_pattern-within (Alt p q) rest c pending i r w = further-within n r (search s start (Match q ∷ rest) c pending ∷ []) (search-keeps s start (Match q ∷ rest) c pending, tt) w
+      further-within n r (map (λ e. search s start rest e pending) (ends_from i (ends a s c)))
+      (keep-map (λ e. search s start rest e pending) (ends_from i (ends a s c)) (λ e. search-keeps s start rest e pending)) w
+  after_pattern-within (Alt p q) rest c pending i r w =
+      further-within n r (search s start (Match q ∷ rest) c pending ∷ []) (search-keeps s start (Match q ∷ rest) c pending, tt) w
   after_pattern-within (Arbno p) rest c pending i r w =
-      further-within n r (search s start (Match p ∷ CloseRepeat p c ∷ rest) c pending ∷ []) (search-keeps s start (Match p ∷ CloseRepeat p c ∷ rest) c pending, tt) w
+      further-within n r (search s start (Match p ∷ CloseRepeat p c ∷ rest) c pending ∷ [])
+      (search-keeps s start (Match p ∷ CloseRepeat p c ∷ rest) c pending, tt) w
   after_pattern-within Succeed rest c pending i r w =
-      further-within n r (replicate (suc (left_of r)) (search s start rest c pending)) (keep-replicate (search s start rest c pending) (suc (left_of r)) (search-keeps s start rest c pending)) w
+      further-within n r (replicate (suc (left_of r)) (search s start rest c pending))
+      (keep-replicate (search s start rest c pending) (suc (left_of r)) (search-keeps s start rest c pending)) w
   after_pattern-within Fence rest c pending i r w = abort-within n r w
   after_pattern-within (Cut p) rest c pending i r w = ended-within n i r w
   after_pattern-within Abort rest c pending i r w = w
@@ -151,7 +172,8 @@ module _ (nodes : List Node) (s : List ℕ) (start n : ℕ) where
   after_pattern-within (Place target) rest c pending i r w = w
   after_pattern-within (Defer primitive expression) rest c pending i r w = w
 
-  after_goals-within : (goals : List Goal) (c : ℕ) (pending : List Pending) (i : ℕ) (r : Outcome) → IsWithin n r → IsWithin n (after_goals s start goals c pending i r)
+  after_goals-within : (goals : List Goal) (c : ℕ) (pending : List Pending) (i : ℕ) (r : Outcome) → IsWithin n r
+      → IsWithin n (after_goals s start goals c pending i r)
   after_goals-within [] c pending i r w = w
   after_goals-within (Match p ∷ rest) c pending i r w = after_pattern-within p rest c pending i r w
   after_goals-within (CloseCond target from ∷ rest) c pending i r w = w
@@ -159,7 +181,8 @@ module _ (nodes : List Node) (s : List ℕ) (start n : ℕ) where
   after_goals-within (CloseRepeat p from ∷ rest) c pending i r w = w
   after_goals-within (CloseCut m ∷ rest) c pending i r w = w
 
-  behind_mark-within : (mark : Mark) (goals : List Goal) (c : ℕ) (pending : List Pending) (r : Outcome) → IsWithin n r → IsWithin n (behind_mark s start mark goals c pending r)
+  behind_mark-within : (mark : Mark) (goals : List Goal) (c : ℕ) (pending : List Pending) (r : Outcome) → IsWithin n r
+      → IsWithin n (behind_mark s start mark goals c pending r)
   behind_mark-within Enter goals c pending r w = w
   behind_mark-within (Next i) goals c pending r w = after_goals-within goals c pending i r w
 
@@ -167,13 +190,15 @@ module _ (nodes : List Node) (s : List ℕ) (start n : ℕ) where
   resume-within [] r w = w
   resume-within (p ∷ ps) r w = resume-within ps (behind nodes s start p r) (behind_mark-within p.mark (goals_of nodes p.goals) p.cursor p.pending r w)
 
-  from_mark-within : (mark : Mark) (goals : List Goal) (c : ℕ) (pending : List Pending) (answers : List Answer) → IsWithin n (from_mark s start mark goals c pending answers n)
+  from_mark-within : (mark : Mark) (goals : List Goal) (c : ℕ) (pending : List Pending) (answers : List Answer)
+      → IsWithin n (from_mark s start mark goals c pending answers n)
   from_mark-within Enter goals c pending answers = search-keeps s start goals c pending answers n
   from_mark-within (Next i) goals c pending answers = after_goals-within goals c pending i (Gives [] answers n Exhausted) (tt, omega arith)
 
   reading-within : (points : List Point) (answers : List Answer) → IsWithin n (reading nodes s start points answers n)
   reading-within [] answers = (tt, omega arith)
-  reading-within (p ∷ ps) answers = resume-within ps (from_mark s start p.mark (goals_of nodes p.goals) p.cursor p.pending answers n) (from_mark-within p.mark (goals_of nodes p.goals) p.cursor p.pending answers)
+  reading-within (p ∷ ps) answers = resume-within ps (from_mark s start p.mark (goals_of nodes p.goals) p.cursor p.pending answers n)
+      (from_mark-within p.mark (goals_of nodes p.goals) p.cursor p.pending answers)
 
 events-within : (n : ℕ) (r : Outcome) → IsWithin n r → AllLeft n (all_events r)
 events-within n (Gives es answers left Exhausted) w = left-append n es ((Ended Exhausted, left) ∷ []) w.0 (w.1, tt)
@@ -183,10 +208,12 @@ events-within n (Gives es answers left (CutOff m)) w = left-append n es ((Ended 
 events-within n (Gives es answers left Waiting) w = left-append n es [] w.0 tt
 
 -- no event that is still to come was told with fewer steps than were taken
-pub coming-within : (m : Session) (start : ℕ) (points : List Point) (answers : List Answer) (left : ℕ) → AllLeft left (all_events (to_come S.Going m start points answers left))
+pub coming-within : (m : Session) (start : ℕ) (points : List Point) (answers : List Answer) (left : ℕ)
+    → AllLeft left (all_events (to_come S.Going m start points answers left))
 coming-within m start points answers left =
     let starts_at = later_starts m.anchored m.subject start in
     events-within left (to_come S.Going m start points answers left)
     (further-within left (reading m.nodes m.subject start points answers left) (later m start)
-    (keep-map (λ b. search m.subject b (Match (tree m.nodes m.pattern.0) ∷ []) b []) starts_at (λ b. search-keeps m.subject b (Match (tree m.nodes m.pattern.0) ∷ []) b []))
+    (keep-map (λ b. search m.subject b (Match (tree m.nodes m.pattern.0) ∷ []) b []) starts_at
+    (λ b. search-keeps m.subject b (Match (tree m.nodes m.pattern.0) ∷ []) b []))
     (reading-within m.nodes m.subject start left points answers))

@@ -7,9 +7,12 @@ use Rattle.sno_match.specs.Session.{Session, Begins}
 
 -- the table and the subject are known by other names
 pub same_looks : (nodes patterns : List Node) (s t : List ℕ) (found : Found) → nodes ≡ patterns → t ≡ s → AreTrue patterns t found → AreTrue nodes s found
-same_looks nodes patterns s t found table subject are = subst (λ (n : List Node). AreTrue n s found) (sym table) (subst (λ (u : List ℕ). AreTrue patterns u found) subject are)
+same_looks nodes patterns s t found table subject are =
+    subst (λ (n : List Node). AreTrue n s found) (sym table) (subst (λ (u : List ℕ). AreTrue patterns u found) subject are)
 
 -- the table has grown
-pub lent_looks : (m : Session) (nodes lent patterns : List Node) (s : List ℕ) (found : Found) → nodes ≡ m.nodes → lent ≡ patterns → Begins m.nodes patterns → AreTrue nodes s found → AreTrue lent s found
+pub lent_looks : (m : Session) (nodes lent patterns : List Node) (s : List ℕ) (found : Found) → nodes ≡ m.nodes → lent ≡ patterns → Begins m.nodes patterns
+    → AreTrue nodes s found → AreTrue lent s found
 lent_looks m nodes lent patterns s found same is begins are =
-    subst (λ (n : List Node). AreTrue n s found) (sym (is ∙ begins.1 ∙ ap (λ (n : List Node). n ++ begins.0) (sym same))) (true_grown nodes begins.0 s found are)
+    subst (λ (n : List Node). AreTrue n s found) (sym (is ∙ begins.1 ∙ ap (λ (n : List Node). n ++ begins.0) (sym same)))
+    (true_grown nodes begins.0 s found are)

@@ -1,5 +1,6 @@
 -- A move that carries out a right plan leaves the reading of the stack.
-use Rattle.std.proofs.Common.{◌≡◌, ℕ, zero, suc, ◌+◌, ◌-◌, ◌≤◌, ◌<◌, List, [], ◌∷◌, ◌++◌, Option, Some, None, length, drop, length-drop, refl, sym, ◌∙◌, ap, subst, arith}
+use Rattle.std.proofs.Common.{◌≡◌, ℕ, zero, suc, ◌+◌, ◌-◌, ◌≤◌, ◌<◌, List, [], ◌∷◌, ◌++◌, Option, Some, None, length, drop, length-drop, refl, sym, ◌∙◌, ap}
+use Rattle.std.proofs.Common.{subst, arith}
 use Rattle.sno_value.specs.declared.ids.PatId.{PatId}
 use Rattle.sno_pattern.specs.Pattern.{Pattern}
 use Rattle.sno_pattern.specs.Table.{Node}
@@ -24,7 +25,8 @@ use Rattle.sno_match.proofs.ReadingLaws.{resume-emit, resume-exhausted, emit-non
 use Rattle.sno_match.proofs.CutLaws.{drop-marked}
 use Rattle.sno_match.proofs.CutMoves.{closes-behind, cuts-below, carried_cuts}
 
-pub plan_due : (nodes : List Node) (s : List ℕ) (goal : Numbered) (c : ℕ) (mark : Mark) (plan : Plan) → IsPlan nodes s goal c mark plan → Costs plan → IsDue nodes s goal c mark
+pub plan_due : (nodes : List Node) (s : List ℕ) (goal : Numbered) (c : ℕ) (mark : Mark) (plan : Plan) → IsPlan nodes s goal c mark plan → Costs plan
+    → IsDue nodes s goal c mark
 plan_due nodes s goal c mark (P.Replace front at) p h = p.1
 plan_due nodes s goal c mark (P.Branch front at next) p h = p.1
 plan_due nodes s goal c mark (P.Close a) p h = p.1
@@ -82,8 +84,10 @@ module _ (nodes : List Node) (s : List ℕ) (goal : Numbered) (goals : List Numb
     one_less = omega (arith, due)
 
     -- a move of one step, which tells an event or none
-    one_step : (told : Option Told) (new made : List Point) → new ≡ made → HasAsked (after_move told) made → (told ≡ Some V.Exhausted → ⊥) → price told ≤ 1 → was ≡ way_after told was was → length made ≤ suc (length old) →
-        ((answers : List Answer) → reading nodes s start old answers (suc left_behind) ≡ emit (entries told was left_behind) (standing (after_move told) nodes s start made answers left_behind)) →
+    one_step : (told : Option Told) (new made : List Point) → new ≡ made → HasAsked (after_move told) made → (told ≡ Some V.Exhausted → ⊥) → price told ≤ 1
+        → was ≡ way_after told was was → length made ≤ suc (length old) →
+        ((answers : List Answer) → reading nodes s start old answers (suc left_behind) ≡ emit (entries told was left_behind)
+        (standing (after_move told) nodes s start made answers left_behind)) →
         Makes nodes s start limit old steps was told new (steps + 1) was
     one_step told new made e asked more paid pending few h =
         let size = ap length e in
@@ -100,25 +104,32 @@ module _ (nodes : List Node) (s : List ℕ) (goal : Numbered) (goals : List Numb
               ap (λ (ps : List Point). emit (entries told was left_behind) (standing (after_move told) nodes s start ps answers left_behind)) (sym e);
         }
 
-    pub carried : AllMarked rest → HasCuts nodes (limit - steps) old → (plan : Plan) (told : Option Told) (new : List Point) → IsPlan nodes s goal c mark plan → KeepsScopes nodes goal plan → CarriesOut plan c left_behind old told new → Makes nodes s start limit old steps was told new (steps + 1) was
+    pub carried : AllMarked rest → HasCuts nodes (limit - steps) old → (plan : Plan) (told : Option Told) (new : List Point) → IsPlan nodes s goal c mark plan
+        → KeepsScopes nodes goal plan → CarriesOut plan c left_behind old told new → Makes nodes s start limit old steps was told new (steps + 1) was
     carried marked cuts (P.Replace front at) told new p q co =
         subst (λ (t : Option Told). Makes nodes s start limit old steps was t new (steps + 1) was) (sym co.0)
-        (one_step None new (replaced (goals_in front) at old) co.1 tt (λ e. cc) (omega arith) refl (omega arith) (λ answers. p.0 start goals pending rest answers marked left_behind))
+        (one_step None new (replaced (goals_in front) at old) co.1 tt (λ e. cc) (omega arith) refl (omega arith)
+        (λ answers. p.0 start goals pending rest answers marked left_behind))
     carried marked cuts (P.Branch front at next) told new p q co =
         subst (λ (t : Option Told). Makes nodes s start limit old steps was t new (steps + 1) was) (sym co.0)
-        (one_step None new (branched (goals_in front) at next old) co.1 tt (λ e. cc) (omega arith) refl (omega arith) (λ answers. p.0 start goals pending rest answers marked left_behind))
+        (one_step None new (branched (goals_in front) at next old) co.1 tt (λ e. cc) (omega arith) refl (omega arith)
+        (λ answers. p.0 start goals pending rest answers marked left_behind))
     carried marked cuts (P.Close a) told new p q co =
         subst (λ (t : Option Told). Makes nodes s start limit old steps was t new (steps + 1) was) (sym co.0)
-        (one_step None new (closed a old) co.1 tt (λ e. cc) (omega arith) refl (omega arith) (λ answers. p.0 start goals pending rest answers marked left_behind))
+        (one_step None new (closed a old) co.1 tt (λ e. cc) (omega arith) refl (omega arith)
+        (λ answers. p.0 start goals pending rest answers marked left_behind))
     carried marked cuts (P.Assign a) told new p q co =
         subst (λ (t : Option Told). Makes nodes s start limit old steps was t new (steps + 1) was) (sym co.0)
-        (one_step (Some (V.Assign a.target a.start a.end)) new (replaced [] c old) co.1 tt (λ e. cc) (omega arith) refl (omega arith) (λ answers. p.0 start goals pending rest answers marked left_behind))
+        (one_step (Some (V.Assign a.target a.start a.end)) new (replaced [] c old) co.1 tt (λ e. cc) (omega arith) refl (omega arith)
+        (λ answers. p.0 start goals pending rest answers marked left_behind))
     carried marked cuts (P.Cursor target) told new p q co =
         subst (λ (t : Option Told). Makes nodes s start limit old steps was t new (steps + 1) was) (sym co.0)
-        (one_step (Some (V.Cursor target c)) new (replaced [] c old) co.1 tt (λ e. cc) (omega arith) refl (omega arith) (λ answers. p.0 start goals pending rest answers marked left_behind))
+        (one_step (Some (V.Cursor target c)) new (replaced [] c old) co.1 tt (λ e. cc) (omega arith) refl (omega arith)
+        (λ answers. p.0 start goals pending rest answers marked left_behind))
     carried marked cuts (P.Ask prim expr) told new p q co =
         subst (λ (t : Option Told). Makes nodes s start limit old steps was t new (steps + 1) was) (sym co.0)
-        (one_step (Some (V.Value prim expr)) new old co.1 (tt, sym (closes-behind goal goals q)) (λ e. cc) (omega arith) refl (omega arith) (λ answers. p.0 start goals pending rest answers left_behind))
+        (one_step (Some (V.Value prim expr)) new old co.1 (tt, sym (closes-behind goal goals q)) (λ e. cc) (omega arith) refl (omega arith)
+        (λ answers. p.0 start goals pending rest answers left_behind))
     carried marked cuts P.Fail told new p q co =
         subst (λ (t : Option Told). Makes nodes s start limit old steps was t new (steps + 1) was) (sym co.0)
         (one_step None new rest co.1 tt (λ e. cc) (omega arith) refl (omega arith) (λ answers. p.0 start goals pending rest answers marked left_behind))
@@ -132,10 +143,12 @@ module _ (nodes : List Node) (s : List ℕ) (goal : Numbered) (goals : List Numb
         (λ answers. p.0 start goals pending rest answers left_behind ∙ sym (emit-none (reading nodes s start made answers left_behind))))
     carried marked cuts (P.CloseCut depth) told new p q co =
         let made = cut_back depth old in
-        let rising : RiseFrom (suc left_behind) (opens nodes rest) = subst (λ n. RiseFrom n (opens nodes rest)) one_less (cuts-below nodes (limit - steps) old cuts).rising in
+        let rising : RiseFrom (suc left_behind) (opens nodes rest) =
+        subst (λ n. RiseFrom n (opens nodes rest)) one_less (cuts-below nodes (limit - steps) old cuts).rising in
         subst (λ (t : Option Told). Makes nodes s start limit old steps was t new (steps + 1) was) (sym co.0)
         (one_step None new made co.1 tt (λ e. cc) (omega arith) refl (omega (arith, length-drop (length rest - depth) rest))
-        (λ answers. p.0 start left_behind goals pending rest answers (sym cuts.scoped.0) rising ∙ sym (emit-none (reading nodes s start made answers left_behind))))
+        (λ answers. p.0 start left_behind goals pending rest answers (sym cuts.scoped.0) rising
+        ∙ sym (emit-none (reading nodes s start made answers left_behind))))
     carried marked cuts P.BackIntoFence told new p q co = elim co [ ]
     carried marked cuts P.BackIntoCut told new p q co = elim co [ ]
 
@@ -161,12 +174,14 @@ module _ (nodes : List Node) (s : List ℕ) (goal : Numbered) (goals : List Numb
       let stays : Fits nodes s (record top { mark = Next left }) = record { known = st.fit.0.known; inside = st.fit.0.inside; next = has_next left body is } in
       record { fit = (with_front-fits front c st.fit.0 (known, (tt, tt)) st.fit.0.inside, (stays, st.fit.1)); marked = (tt, st.marked) }
 
-  pub kept : (left : ℕ) (plan : Plan) (told : Option Told) (new : List Point) → IsStack nodes s old → IsPlan nodes s goal c mark plan → CarriesOut plan c left old told new → IsStack nodes s new
+  pub kept : (left : ℕ) (plan : Plan) (told : Option Told) (new : List Point) → IsStack nodes s old → IsPlan nodes s goal c mark plan
+      → CarriesOut plan c left old told new → IsStack nodes s new
   kept left (P.Replace front at) told new st p co =
       subst (λ (ps : List Point). IsStack nodes s ps) (sym co.1)
       (record { fit = (with_front-fits (goals_in front) at st.fit.0 p.2 p.3, st.fit.1); marked = st.marked })
   kept left (P.Branch front at next) told new st p co =
-      let stays : Fits nodes s (record top { mark = Next next }) = record { known = st.fit.0.known; inside = st.fit.0.inside; next = fits_rest goal next p.4 } in
+      let stays : Fits nodes s (record top { mark = Next next }) =
+      record { known = st.fit.0.known; inside = st.fit.0.inside; next = fits_rest goal next p.4 } in
       subst (λ (ps : List Point). IsStack nodes s ps) (sym co.1)
       (record { fit = (with_front-fits (goals_in front) at st.fit.0 p.2 p.3, (stays, st.fit.1)); marked = (tt, st.marked) })
   kept left (P.Close a) told new st p co =
@@ -193,36 +208,43 @@ module _ (nodes : List Node) (s : List ℕ) (goal : Numbered) (goals : List Numb
 
 -- the same, at a stack that is known to begin with a point
 
-module _ (nodes : List Node) (s : List ℕ) (old : List Point) (goal : Numbered) (goals : List Numbered) (c : ℕ) (pending : List Pending) (mark : Mark) (rest : List Point) (is : old ≡ point_at goal goals c pending mark ∷ rest) where
+module _ (nodes : List Node) (s : List ℕ) (old : List Point) (goal : Numbered) (goals : List Numbered) (c : ℕ) (pending : List Pending) (mark : Mark)
+    (rest : List Point) (is : old ≡ point_at goal goals c pending mark ∷ rest) where
   pub fits_at : IsStack nodes s old → Fits nodes s (point_at goal goals c pending mark)
   fits_at st = (subst (λ (ps : List Point). IsStack nodes s ps) is st).fit.0
 
-  pub stack_at : (left : ℕ) (plan : Plan) (told : Option Told) (new : List Point) → IsStack nodes s old → IsPlan nodes s goal c mark plan → CarriesOut plan c left old told new → IsStack nodes s new
+  pub stack_at : (left : ℕ) (plan : Plan) (told : Option Told) (new : List Point) → IsStack nodes s old → IsPlan nodes s goal c mark plan
+      → CarriesOut plan c left old told new → IsStack nodes s new
   stack_at left plan told new st p co =
       kept nodes s goal goals c pending mark rest left plan told new
       (subst (λ (ps : List Point). IsStack nodes s ps) is st) p (subst (λ (ps : List Point). CarriesOut plan c left ps told new) is co)
 
   module _ (start limit steps : ℕ) (was : List Pending) where
-    module _ (due : steps < limit) (left : ℕ) (behind : left ≡ limit - (steps + 1)) (cuts : HasCuts nodes (limit - steps) old) (plan : Plan) (told : Option Told) (new : List Point)
+    module _ (due : steps < limit) (left : ℕ) (behind : left ≡ limit - (steps + 1)) (cuts : HasCuts nodes (limit - steps) old) (plan : Plan)
+        (told : Option Told) (new : List Point)
         (p : IsPlan nodes s goal c mark plan) (q : KeepsScopes nodes goal plan) (co : CarriesOut plan c left old told new) where
       cuts_here : HasCuts nodes (limit - steps) (point_at goal goals c pending mark ∷ rest)
       cuts_here = subst (HasCuts nodes (limit - steps)) is cuts
 
       carries : CarriesOut plan c (limit - (steps + 1)) (point_at goal goals c pending mark ∷ rest) told new
-      carries = subst (λ n. CarriesOut plan c n (point_at goal goals c pending mark ∷ rest) told new) behind (subst (λ (ps : List Point). CarriesOut plan c left ps told new) is co)
+      carries = subst (λ n. CarriesOut plan c n (point_at goal goals c pending mark ∷ rest) told new) behind
+          (subst (λ (ps : List Point). CarriesOut plan c left ps told new) is co)
 
       pub made_at : AllMarked (below old) → Makes nodes s start limit old steps was told new (steps + 1) was
       made_at m =
           subst (λ (ps : List Point). Makes nodes s start limit ps steps was told new (steps + 1) was) (sym is)
-          (carried nodes s goal goals c pending mark rest start limit steps was due (subst (λ (ps : List Point). AllMarked (below ps)) is m) cuts_here plan told new p q carries)
+          (carried nodes s goal goals c pending mark rest start limit steps was due (subst (λ (ps : List Point). AllMarked (below ps)) is m) cuts_here
+          plan told new p q carries)
 
       pub cuts_at : HasCuts nodes (limit - (steps + 1)) new
       cuts_at =
           let one_less : limit - steps ≡ suc (limit - (steps + 1)) = omega (arith, due) in
-          carried_cuts nodes s goal goals c pending mark rest (limit - (steps + 1)) (subst (λ n. HasCuts nodes n (point_at goal goals c pending mark ∷ rest)) one_less cuts_here) plan told new p q carries
+          carried_cuts nodes s goal goals c pending mark rest (limit - (steps + 1))
+          (subst (λ n. HasCuts nodes n (point_at goal goals c pending mark ∷ rest)) one_less cuts_here) plan told new p q carries
 
     -- a step is due and none is left
-    pub limit_at : (plan : Plan) → steps ≡ limit → IsPlan nodes s goal c mark plan → Costs plan → Makes nodes s start limit old steps was (Some V.Limit) old steps was
+    pub limit_at : (plan : Plan) → steps ≡ limit → IsPlan nodes s goal c mark plan → Costs plan
+        → Makes nodes s start limit old steps was (Some V.Limit) old steps was
     limit_at plan none p h =
         let zero_left : limit - steps ≡ 0 = omega (arith, none) in
         record {
@@ -253,7 +275,8 @@ module _ (nodes : List Node) (s : List ℕ) (old : List Point) (goal : Numbered)
     }
 
     -- FENCE(P) is backed into
-    pub dropped_at : steps ≤ limit → AllMarked (below old) → IsPlan nodes s goal c mark P.BackIntoCut → (new : List Point) → new ≡ below old → Makes nodes s start limit old steps was None new steps was
+    pub dropped_at : steps ≤ limit → AllMarked (below old) → IsPlan nodes s goal c mark P.BackIntoCut → (new : List Point) → new ≡ below old
+        → Makes nodes s start limit old steps was None new steps was
     dropped_at within m p new e =
         let under : new ≡ rest = e ∙ ap below is in
         let marked : AllMarked rest = subst (λ (ps : List Point). AllMarked (below ps)) is m in
@@ -269,7 +292,8 @@ module _ (nodes : List Node) (s : List ℕ) (old : List Point) (goal : Numbered)
           pending = refl;
           leads = λ answers.
               ap (λ (ps : List Point). reading nodes s start ps answers (limit - steps)) is ∙ p start goals pending rest answers marked (limit - steps) ∙
-              ap (λ (ps : List Point). reading nodes s start ps answers (limit - steps)) (sym under) ∙ sym (emit-none (reading nodes s start new answers (limit - steps)));
+              ap (λ (ps : List Point). reading nodes s start ps answers (limit - steps)) (sym under)
+              ∙ sym (emit-none (reading nodes s start new answers (limit - steps)));
         }
 
 -- no goal is left
@@ -278,7 +302,8 @@ enter_only : (nodes : List Node) (s : List ℕ) (c : ℕ) (mark : Mark) → Mark
 enter_only nodes s c Enter h = refl
 enter_only nodes s c (Next i) h = elim h [ ]
 
-module _ (nodes : List Node) (s : List ℕ) (start limit : ℕ) (old new : List Point) (c : ℕ) (pending : List Pending) (mark : Mark) (rest : List Point) (is : old ≡ record { goals = []; cursor = c; pending = pending; mark = mark } ∷ rest)
+module _ (nodes : List Node) (s : List ℕ) (start limit : ℕ) (old new : List Point) (c : ℕ) (pending : List Pending) (mark : Mark) (rest : List Point)
+    (is : old ≡ record { goals = []; cursor = c; pending = pending; mark = mark } ∷ rest)
     (st : IsStack nodes s old) (way : List Pending) (f : Finishes old new way) where
   ended : Finishes (record { goals = []; cursor = c; pending = pending; mark = mark } ∷ rest) new way
   ended = subst (λ (ps : List Point). Finishes ps new way) is f
@@ -287,7 +312,8 @@ module _ (nodes : List Node) (s : List ℕ) (start limit : ℕ) (old new : List 
   standing_is = subst (λ (ps : List Point). IsStack nodes s ps) is st
 
   pub way_stack : IsStack nodes s new
-  way_stack = subst (λ (ps : List Point). IsStack nodes s ps) (sym ended.0) (below-kept nodes s (record { goals = []; cursor = c; pending = pending; mark = mark } ∷ rest) standing_is.fit standing_is.marked)
+  way_stack = subst (λ (ps : List Point). IsStack nodes s ps) (sym ended.0)
+      (below-kept nodes s (record { goals = []; cursor = c; pending = pending; mark = mark } ∷ rest) standing_is.fit standing_is.marked)
 
   pub way_at : (steps : ℕ) (was : List Pending) → steps ≤ limit → Makes nodes s start limit old steps was (Some (V.Way start c)) new steps way
   way_at steps was within =

@@ -1,5 +1,6 @@
 -- One call of `next`: the table that is lent, the moves up to an event, and a last event told again.
-use Rattle.std.proofs.Common.{◌≡◌, ℕ, ◌+◌, ◌-◌, Bool, true, false, List, [], ◌∷◌, ◌++◌, Option, Some, length, map, slice_get, IsTrue, refl, sym, ◌∙◌, ap, subst, arith, append-nil}
+use Rattle.std.proofs.Common.{◌≡◌, ℕ, ◌+◌, ◌-◌, Bool, true, false, List, [], ◌∷◌, ◌++◌, Option, Some, length, map, slice_get, IsTrue, refl, sym, ◌∙◌, ap, subst}
+use Rattle.std.proofs.Common.{arith, append-nil}
 use Rattle.sno_value.specs.declared.ids.PatId.{PatId}
 use Rattle.sno_pattern.specs.Table.{Node}
 use Rattle.sno_match.specs.declared.event.Event.{Event as Told}
@@ -55,13 +56,16 @@ last-way V.Exhausted way h = refl
 last-way V.Aborted way h = refl
 last-way V.Limit way h = refl
 
-pub told_again : (old m : Session) (start : ℕ) (points : List Point) (event : Told) → IsMatch m start points (S.Ended event) → old.told ≡ m.told → old.steps ≡ m.steps → old.way ≡ m.way → old.ended ≡ true → m.waits ≡ false → m.ended ≡ true → IsTold old m event
+pub told_again : (old m : Session) (start : ℕ) (points : List Point) (event : Told) → IsMatch m start points (S.Ended event) → old.told ≡ m.told
+    → old.steps ≡ m.steps → old.way ≡ m.way → old.ended ≡ true → m.waits ≡ false → m.ended ≡ true → IsTold old m event
 told_again old m start points event inv told steps way over waits' ended' =
     let size : length (trace_of m) ≡ m.told + 0 = trace_size m start points (S.Ended event) inv in record {
       at =
           let place : m.told - 1 ≡ length inv.events = omega (arith, inv.told) in
           let back : m.limit - (m.limit - m.steps) ≡ m.steps = omega (arith, inv.steps_in) in
-          ap (λ (t : List (Event × ℕ)). slice_get t (m.told - 1)) (trace_is m start points (S.Ended event) inv ∙ ap (map (counted m.limit)) (append-nil (inv.events ++ (Ended (verdict_of event), m.limit - m.steps) ∷ []))) ∙
+          ap (λ (t : List (Event × ℕ)). slice_get t (m.told - 1))
+          (trace_is m start points (S.Ended event) inv
+          ∙ ap (map (counted m.limit)) (append-nil (inv.events ++ (Ended (verdict_of event), m.limit - m.steps) ∷ []))) ∙
           ap (slice_get (map (counted m.limit) (inv.events ++ (Ended (verdict_of event), m.limit - m.steps) ∷ []))) place ∙
           at_place m.limit inv.events [] (Ended (verdict_of event), m.limit - m.steps) ∙
           ap (λ k. Some (Ended (verdict_of event), k)) back ∙ ap (λ (e : Event). Some (e, m.steps)) (last-trace event m.way inv.last_in);
@@ -117,8 +121,10 @@ not_ended (S.Ended event) h = absurd (h event refl)
 
 -- a match, seen as o, is lent the table of this call
 
-module _ (o : Session) (nodes : List Node) (pattern : PatId) (s : List ℕ) (anchored : Bool) (limit : ℕ) (answers : List (Option PatId)) (told steps : ℕ) (state : State) (way : List Pending) (points : List Point) (records start : ℕ)
-    (view : seen nodes pattern s anchored limit answers told steps state way points records ≡ o) (inv : IsMatch (seen nodes pattern s anchored limit answers told steps state way points records) start points state)
+module _ (o : Session) (nodes : List Node) (pattern : PatId) (s : List ℕ) (anchored : Bool) (limit : ℕ) (answers : List (Option PatId)) (told steps : ℕ)
+    (state : State) (way : List Pending) (points : List Point) (records start : ℕ)
+    (view : seen nodes pattern s anchored limit answers told steps state way points records ≡ o)
+    (inv : IsMatch (seen nodes pattern s anchored limit answers told steps state way points records) start points state)
     (lent patterns : List Node) (is : lent ≡ patterns) (table : Begins o.nodes patterns) where
   abbrev over_table : List Node → Session
   over_table n = seen n pattern s anchored limit answers told steps state way points records
@@ -132,14 +138,22 @@ module _ (o : Session) (nodes : List Node) (pattern : PatId) (s : List ℕ) (anc
   pub lent_same : SameMatch o (over_table lent)
   lent_same =
       subst (λ (x : Session). SameMatch x (over_table lent)) view
-      (record { pattern = refl; subject = refl; anchored = refl; limit = refl; answers = refl; trace = grown_trace (over_table nodes) lent begins_with inv.pattern_in inv.answers_in })
+      (record {
+        pattern = refl;
+        subject = refl;
+        anchored = refl;
+        limit = refl;
+        answers = refl;
+        trace = grown_trace (over_table nodes) lent begins_with inv.pattern_in inv.answers_in;
+      })
 
   pub lent_again : (event : Told) → state ≡ S.Ended event → IsTold o (over_table lent) event
   lent_again event e =
       let over : ended state ≡ true = ap ended e in
       let not_waiting : waits state ≡ false = ap waits e in
       subst (λ (x : Session). IsTold x (over_table lent) event) view
-      (told_again (over_table nodes) (over_table lent) start points event (subst (λ (st : State). IsMatch (over_table lent) start points st) e lent_match) refl refl refl over not_waiting over)
+      (told_again (over_table nodes) (over_table lent) start points event (subst (λ (st : State). IsMatch (over_table lent) start points st) e lent_match) refl
+      refl refl over not_waiting over)
 
   -- it goes on
   module _ (asked : o.waits ≡ false) (on : (event : Told) → state ≡ S.Ended event → ⊥) where
@@ -150,7 +164,8 @@ module _ (o : Session) (nodes : List Node) (pattern : PatId) (s : List ℕ) (anc
     not_waiting = ap (λ (x : Session). x.waits) view ∙ asked
 
     pub lent_stays : StaysAt o (over_table lent)
-    lent_stays = subst (λ (x : Session). StaysAt x (over_table lent)) view (record { told = refl; way = refl; waits = not_waiting; ended = open_end; steps = omega arith })
+    lent_stays = subst (λ (x : Session). StaysAt x (over_table lent)) view
+        (record { told = refl; way = refl; waits = not_waiting; ended = open_end; steps = omega arith })
 
     pub never_again : o.ended ≡ true → ⊥
     never_again h = let clash : true ≡ false = sym h ∙ ap (λ (x : Session). x.ended) (sym view) ∙ open_end in cc

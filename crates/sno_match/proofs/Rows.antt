@@ -19,7 +19,8 @@ b = Leaf (Text (66 ∷ []))
 
 -- ARBNO('A' | 'AA') on AAA, anchored: 7 ways, 48 steps
 repetition : trace (Arbno (Alt a aa)) (65 ∷ 65 ∷ 65 ∷ []) true 1000 [] ≡
-    (Way 0 0 [], 1) ∷ (Way 0 1 [], 6) ∷ (Way 0 2 [], 11) ∷ (Way 0 3 [], 16) ∷ (Way 0 3 [], 27) ∷ (Way 0 2 [], 36) ∷ (Way 0 3 [], 41) ∷ (Ended Exhausted, 48) ∷ []
+    (Way 0 0 [], 1) ∷ (Way 0 1 [], 6) ∷ (Way 0 2 [], 11) ∷ (Way 0 3 [], 16) ∷ (Way 0 3 [], 27) ∷ (Way 0 2 [], 36) ∷ (Way 0 3 [], 41)
+    ∷ (Ended Exhausted, 48) ∷ []
 repetition = refl
 
 repetition_one_step_short : trace (Arbno (Alt a aa)) (65 ∷ 65 ∷ 65 ∷ []) true 47 [] ≡

@@ -1,5 +1,6 @@
 -- The story of a match, from one event to the next.
-use Rattle.std.proofs.Common.{◌≡◌, ℕ, suc, ◌+◌, ◌-◌, ◌*◌, ◌≤◌, ◌<◌, ◌||◌, Bool, true, false, List, [], ◌∷◌, ◌++◌, Option, Some, None, length, map, slice_get, IsTrue, refl, sym, ◌∙◌, ap, subst, arith, append_assoc, append-nil, length-append}
+use Rattle.std.proofs.Common.{◌≡◌, ℕ, suc, ◌+◌, ◌-◌, ◌*◌, ◌≤◌, ◌<◌, ◌||◌, Bool, true, false, List, [], ◌∷◌, ◌++◌, Option, Some, None, length, map, slice_get}
+use Rattle.std.proofs.Common.{IsTrue, refl, sym, ◌∙◌, ap, subst, arith, append_assoc, append-nil, length-append}
 use Rattle.std.proofs.lemmas.List.{map-append}
 use Rattle.std.proofs.Math.Nat.{sub-zero}
 use Rattle.sno_value.specs.declared.ids.PatId.{PatId}
@@ -22,19 +23,24 @@ use Rattle.sno_match.specs.Scopes.{HasCuts}
 use Rattle.sno_match.specs.Session.{Session, answers_of, trace_of, IsTold}
 use Rattle.sno_match.specs.Starts.{Passes}
 use Rattle.sno_match.specs.Running.{later, later_starts, to_come, counted, seen, IsMatch, GoesOn}
-use Rattle.sno_match.proofs.EntryLaws.{all_events-emit, length-counted, at_place, last_pending-append, last_count-append, entry-pending, entry-count, after-last, after-ended, after-waits, entries-tell, tells}
+use Rattle.sno_match.proofs.EntryLaws.{all_events-emit, length-counted, at_place, last_pending-append, last_count-append, entry-pending, entry-count}
+use Rattle.sno_match.proofs.EntryLaws.{after-last, after-ended, after-waits, entries-tell, tells}
 use Rattle.sno_match.proofs.ReadingLaws.{emit-emit, emit-none, further-emit, further-stop, resume-stop}
 use Rattle.sno_match.proofs.StartLaws.{behind_some}
 use Rattle.sno_match.proofs.CutMoves.{cuts-later}
 
 -- the first point of a start
-pub first_stack : (nodes : List Node) (s : List ℕ) (pattern : PatId) (at : ℕ) (new : List Point) → pattern.0 < length nodes → at ≤ length s → new ≡ first_point (N.Match pattern) at ∷ [] → IsStack nodes s new
-first_stack nodes s pattern at new h k e = subst (λ (ps : List Point). IsStack nodes s ps) (sym e) (record { fit = (record { known = (h, tt); inside = k; next = tt }, tt); marked = tt })
+pub first_stack : (nodes : List Node) (s : List ℕ) (pattern : PatId) (at : ℕ) (new : List Point) → pattern.0 < length nodes → at ≤ length s
+    → new ≡ first_point (N.Match pattern) at ∷ [] → IsStack nodes s new
+first_stack nodes s pattern at new h k e =
+    subst (λ (ps : List Point). IsStack nodes s ps) (sym e) (record { fit = (record { known = (h, tt); inside = k; next = tt }, tt); marked = tt })
 
-pub first_cuts : (nodes : List Node) (left : ℕ) (pattern : PatId) (at : ℕ) (new : List Point) → new ≡ first_point (N.Match pattern) at ∷ [] → HasCuts nodes left new
+pub first_cuts : (nodes : List Node) (left : ℕ) (pattern : PatId) (at : ℕ) (new : List Point)
+    → new ≡ first_point (N.Match pattern) at ∷ [] → HasCuts nodes left new
 first_cuts nodes left pattern at new e = subst (HasCuts nodes left) (sym e) (record { scoped = (refl, tt); rising = tt })
 
-first_story : (m : Session) (more : List Answer) → whole (tree m.nodes m.pattern.0) m.subject m.anchored more m.limit ≡ to_come S.Going m 0 (first_point (N.Match m.pattern) 0 ∷ []) more m.limit
+first_story : (m : Session) (more : List Answer) → whole (tree m.nodes m.pattern.0) m.subject m.anchored more m.limit
+    ≡ to_come S.Going m 0 (first_point (N.Match m.pattern) 0 ∷ []) more m.limit
 first_story m more = by_mode m.anchored
   where
     from_start : Search
@@ -44,10 +50,12 @@ first_story m more = by_mode m.anchored
         further (from_start more m.limit) (map (λ b. search m.subject b (Match (tree m.nodes m.pattern.0) ∷ []) b []) (later_starts anchored m.subject 0))
     by_mode true = refl
     by_mode false =
-        ap (λ n. further (from_start more m.limit) (map (λ b. search m.subject b (Match (tree m.nodes m.pattern.0) ∷ []) b []) (count_from (0 + 1) n))) (sym (sub-zero (length m.subject)))
+        ap (λ n. further (from_start more m.limit) (map (λ b. search m.subject b (Match (tree m.nodes m.pattern.0) ∷ []) b []) (count_from (0 + 1) n)))
+        (sym (sub-zero (length m.subject)))
 
 -- a match that begins
-pub new_match : (nodes : List Node) (pattern : PatId) (s : List ℕ) (anchored : Bool) (limit : ℕ) (points : List Point) (records : ℕ) → pattern.0 < length nodes → points ≡ first_point (N.Match pattern) 0 ∷ [] → records ≤ 1 →
+pub new_match : (nodes : List Node) (pattern : PatId) (s : List ℕ) (anchored : Bool) (limit : ℕ) (points : List Point) (records : ℕ) → pattern.0 < length nodes
+    → points ≡ first_point (N.Match pattern) 0 ∷ [] → records ≤ 1 →
     IsMatch (seen nodes pattern s anchored limit [] 0 0 S.Going [] points records) 0 points S.Going
 new_match nodes pattern s anchored limit points records h e few = record {
   pattern_in = h;
@@ -73,7 +81,8 @@ new_match nodes pattern s anchored limit points records h e few = record {
 }
 
 -- What one move or one start does to a match that goes on.
-pub record Leads (m : Session) (start0 : ℕ) (old : List Point) (told : Option Told) (steps start : ℕ) (points : List Point) (way : List Pending) (records : ℕ) : Type 0 where
+pub record Leads (m : Session) (start0 : ℕ) (old : List Point) (told : Option Told) (steps start : ℕ) (points : List Point) (way : List Pending)
+    (records : ℕ) : Type 0 where
   pub steps_in : steps ≤ m.limit
   pub paid : m.steps + price told ≤ steps
   pub start_in : start ≤ length m.subject
@@ -83,9 +92,11 @@ pub record Leads (m : Session) (start0 : ℕ) (old : List Point) (told : Option 
   pub points_in : length points + m.steps ≤ length old + steps
   pub records_in : records + 2 * m.steps + owed (after_move told) ≤ m.records + 2 * steps
   pub pending : way ≡ way_after told way m.way
-  pub leads : (more : List Answer) → to_come S.Going m start0 old more (m.limit - m.steps) ≡ emit (entries told way (m.limit - steps)) (to_come (after_move told) m start points more (m.limit - steps))
+  pub leads : (more : List Answer) → to_come S.Going m start0 old more (m.limit - m.steps) ≡ emit (entries told way (m.limit - steps))
+      (to_come (after_move told) m start points more (m.limit - steps))
 
-module _ (m : Session) (start0 : ℕ) (old : List Point) (inv : IsMatch m start0 old S.Going) (told : Option Told) (steps start : ℕ) (points : List Point) (way : List Pending) (records : ℕ)
+module _ (m : Session) (start0 : ℕ) (old : List Point) (inv : IsMatch m start0 old S.Going) (told : Option Told) (steps start : ℕ) (points : List Point)
+    (way : List Pending) (records : ℕ)
     (l : Leads m start0 old told steps start points way records) where
   abbrev after_it : ℕ → Session
   after_it count = seen m.nodes m.pattern m.subject m.anchored m.limit m.answers count steps (after_move told) way points records
@@ -96,7 +107,8 @@ module _ (m : Session) (start0 : ℕ) (old : List Point) (inv : IsMatch m start0
       inv.story more ∙ ap (emit inv.events) (l.leads more) ∙
       emit-emit inv.events (entries told way (m.limit - steps)) (to_come (after_move told) m start points more (m.limit - steps))
 
-  come : (count : ℕ) (state : State) (more : List Answer) (left : ℕ) → to_come state m start points more left ≡ to_come state (after_it count) start points more left
+  come : (count : ℕ) (state : State) (more : List Answer) (left : ℕ) → to_come state m start points more left
+      ≡ to_come state (after_it count) start points more left
   come count S.Going more left = refl
   come count S.Waiting more left = refl
   come count (S.Ended event) more left = refl
@@ -115,13 +127,15 @@ module _ (m : Session) (start0 : ℕ) (old : List Point) (inv : IsMatch m start0
     records_in = omega (arith, l.records_in, inv.records_in);
     events = inv.events ++ entries told way (m.limit - steps);
     told = omega (arith, e, inv.told, entries-tell told way (m.limit - steps), length-append inv.events (entries told way (m.limit - steps)));
-    pending = l.pending ∙ ap (λ (x : List Pending). way_after told way x) inv.pending ∙ sym (entry-pending told way (last_pending [] inv.events) (m.limit - steps)) ∙
+    pending = l.pending ∙ ap (λ (x : List Pending). way_after told way x) inv.pending
+        ∙ sym (entry-pending told way (last_pending [] inv.events) (m.limit - steps)) ∙
         sym (last_pending-append [] inv.events (entries told way (m.limit - steps)));
     since =
         let e' = map-append (counted m.limit) inv.events (entries told way (m.limit - steps)) in
         let f = last_count-append 0 (map (counted m.limit) inv.events) (map (counted m.limit) (entries told way (m.limit - steps))) in
         let before : last_count 0 (map (counted m.limit) inv.events) ≤ steps = omega (arith, inv.since, l.paid) in
-        subst (λ (n : ℕ). n ≤ steps) (sym (ap (last_count 0) e' ∙ f)) (entry-count told way m.limit steps (last_count 0 (map (counted m.limit) inv.events)) before l.steps_in);
+        subst (λ (n : ℕ). n ≤ steps) (sym (ap (last_count 0) e' ∙ f))
+        (entry-count told way m.limit steps (last_count 0 (map (counted m.limit) inv.events)) before l.steps_in);
     story = λ more. story more ∙ ap (emit (inv.events ++ entries told way (m.limit - steps))) (come count (after_move told) more (m.limit - steps));
   }
 
@@ -135,7 +149,8 @@ module _ (m : Session) (start : ℕ) (points : List Point) (left : ℕ) where
   behind V.Limit = []
   behind event = all_events (to_come (after event) m start points [] left)
 
-  entry-first : (event : Told) (way : List Pending) → entries (Some event) way left ++ all_events (to_come (after event) m start points [] left) ≡ (in_trace event way, left) ∷ behind event
+  entry-first : (event : Told) (way : List Pending) → entries (Some event) way left ++ all_events (to_come (after event) m start points [] left)
+      ≡ (in_trace event way, left) ∷ behind event
   entry-first (V.Way start end) way = refl
   entry-first (V.Assign target start end) way = refl
   entry-first (V.Cursor target at) way = refl
@@ -144,7 +159,8 @@ module _ (m : Session) (start : ℕ) (points : List Point) (left : ℕ) where
   entry-first V.Aborted way = refl
   entry-first V.Limit way = refl
 
-pub waits_here : (m : Session) (start : ℕ) (points : List Point) (left : ℕ) → HasFirst points → to_come S.Waiting m start points [] left ≡ Gives [] [] left Waiting
+pub waits_here : (m : Session) (start : ℕ) (points : List Point) (left : ℕ) → HasFirst points → to_come S.Waiting m start points [] left
+    ≡ Gives [] [] left Waiting
 waits_here m start [] left h = elim h [ ]
 waits_here m start (point ∷ rest) left h =
     ap (λ r. further r (later m start)) (resume-stop m.nodes m.subject start rest [] [] left Waiting tt) ∙ further-stop [] [] left Waiting (later m start) tt
@@ -159,7 +175,8 @@ module _ (m : Session) (start : ℕ) (points : List Point) (left : ℕ) where
   behind-stops V.Aborted h k = refl
   behind-stops V.Limit h k = refl
 
-module _ (m : Session) (start0 : ℕ) (old : List Point) (inv : IsMatch m start0 old S.Going) (event : Told) (steps start : ℕ) (points : List Point) (way : List Pending) (records : ℕ)
+module _ (m : Session) (start0 : ℕ) (old : List Point) (inv : IsMatch m start0 old S.Going) (event : Told) (steps start : ℕ) (points : List Point)
+    (way : List Pending) (records : ℕ)
     (l : Leads m start0 old (Some event) steps start points way records) where
   abbrev next : Session
   next = after_it m start0 old inv (Some event) steps start points way records l (m.told + 1)
@@ -170,14 +187,21 @@ module _ (m : Session) (start0 : ℕ) (old : List Point) (inv : IsMatch m start0
   trace_next : trace_of next ≡ map (counted m.limit) (inv.events ++ (in_trace event way, m.limit - steps) ∷ rest)
   trace_next =
       let left = m.limit - steps in
-      ap (λ a. map (counted m.limit) (all_events (whole (tree m.nodes m.pattern.0) m.subject m.anchored a m.limit))) (sym (append-nil (answers_of m.nodes m.answers))) ∙
+      ap (λ a. map (counted m.limit) (all_events (whole (tree m.nodes m.pattern.0) m.subject m.anchored a m.limit)))
+      (sym (append-nil (answers_of m.nodes m.answers))) ∙
       ap (λ r. map (counted m.limit) (all_events r)) (story m start0 old inv (Some event) steps start points way records l []) ∙
       ap (map (counted m.limit)) (all_events-emit (inv.events ++ entries (Some event) way left) (to_come (after event) m start points [] left) ∙
       append_assoc inv.events (entries (Some event) way left) (all_events (to_come (after event) m start points [] left)) ∙
       ap (λ t. inv.events ++ t) (entry-first m start points left event way))
 
   size : length (trace_of next) ≡ m.told + 1 + length rest
-  size = omega (arith, ap length trace_next, length-counted m.limit (inv.events ++ (in_trace event way, m.limit - steps) ∷ rest), length-append inv.events ((in_trace event way, m.limit - steps) ∷ rest), inv.told)
+  size = omega (
+    arith,
+    ap length trace_next,
+    length-counted m.limit (inv.events ++ (in_trace event way, m.limit - steps) ∷ rest),
+    length-append inv.events ((in_trace event way, m.limit - steps) ∷ rest),
+    inv.told,
+  )
 
   pub led_told : m.ended ≡ false → IsTold m next event
   led_told e = record {
@@ -199,7 +223,8 @@ module _ (m : Session) (start0 : ℕ) (old : List Point) (inv : IsMatch m start0
 
 -- nothing was told
 
-module _ (m : Session) (start0 : ℕ) (old : List Point) (inv : IsMatch m start0 old S.Going) (steps start : ℕ) (points : List Point) (way : List Pending) (records : ℕ)
+module _ (m : Session) (start0 : ℕ) (old : List Point) (inv : IsMatch m start0 old S.Going) (steps start : ℕ) (points : List Point)
+    (way : List Pending) (records : ℕ)
     (l : Leads m start0 old None steps start points way records) where
   pub led_on : GoesOn m (after_it m start0 old inv None steps start points way records l m.told)
   led_on = record {
@@ -211,7 +236,8 @@ module _ (m : Session) (start0 : ℕ) (old : List Point) (inv : IsMatch m start0
 -- a move of the stack is a move of the match
 
 module _ (m : Session) (start : ℕ) (points : List Point) (answers : List Answer) (left : ℕ) where
-  stand : (state : State) → (state ≡ S.Ended V.Exhausted → ⊥) → further (standing state m.nodes m.subject start points answers left) (later m start) ≡ to_come state m start points answers left
+  stand : (state : State) → (state ≡ S.Ended V.Exhausted → ⊥) → further (standing state m.nodes m.subject start points answers left) (later m start)
+      ≡ to_come state m start points answers left
   stand S.Going h = refl
   stand S.Waiting h = refl
   stand (S.Ended (V.Way start' end)) h = further-stop [] answers left Limit (later m start) tt
@@ -232,7 +258,8 @@ not_exhausted (Some V.Exhausted) h e = h refl
 not_exhausted (Some V.Aborted) h e = cc
 not_exhausted (Some V.Limit) h e = cc
 
-pub move_leads : (m : Session) (start : ℕ) (old : List Point) (told : Option Told) (steps : ℕ) (points : List Point) (way : List Pending) (records : ℕ) → start ≤ length m.subject → IsStack m.nodes m.subject points → HasCuts m.nodes (m.limit - steps) points →
+pub move_leads : (m : Session) (start : ℕ) (old : List Point) (told : Option Told) (steps : ℕ) (points : List Point) (way : List Pending) (records : ℕ)
+    → start ≤ length m.subject → IsStack m.nodes m.subject points → HasCuts m.nodes (m.limit - steps) points →
     records + 2 * m.steps + owed (after_move told) ≤ m.records + 2 * steps → Makes m.nodes m.subject start m.limit old m.steps m.way told points steps way →
     Leads m start old told steps start points way records
 move_leads m start old told steps points way records in_start stack cuts few made = record {
@@ -270,7 +297,8 @@ module _ (m : Session) (start : ℕ) (points : List Point) (inv : IsMatch m star
   bare more left = ap (λ (ps : List Point). to_come S.Going m start ps more left) (no_points points empty)
 
   -- the starts up to this one were passed
-  module _ (at spent : ℕ) (in_at : at ≤ length m.subject) (enough : m.steps + spent ≤ m.limit) (passed : Passes m.anchored (tree m.nodes m.pattern.0) m.subject start at spent) where
+  module _ (at spent : ℕ) (in_at : at ≤ length m.subject) (enough : m.steps + spent ≤ m.limit)
+      (passed : Passes m.anchored (tree m.nodes m.pattern.0) m.subject start at spent) where
     abbrev steps : ℕ
     steps = m.steps + spent
 
@@ -292,7 +320,9 @@ module _ (m : Session) (start : ℕ) (points : List Point) (inv : IsMatch m star
       points_in = omega arith;
       records_in = omega arith;
       pending = refl;
-      leads = λ more. past more ∙ ap (λ (bs : List ℕ). further (Gives [] more (m.limit - steps) Exhausted) (map (λ b. search m.subject b (Match (tree m.nodes m.pattern.0) ∷ []) b []) bs)) none;
+      leads = λ more. past more
+          ∙ ap (λ (bs : List ℕ). further (Gives [] more (m.limit - steps) Exhausted)
+          (map (λ b. search m.subject b (Match (tree m.nodes m.pattern.0) ∷ []) b []) bs)) none;
     }
 
     module _ (a : m.anchored ≡ false) (room : at < length m.subject) where
@@ -324,7 +354,8 @@ module _ (m : Session) (start : ℕ) (points : List Point) (inv : IsMatch m star
           }
 
       -- the next start is taken up
-      pub start_leads : (new : List Point) (records : ℕ) → (m.steps + spent ≡ m.limit → ⊥) → new ≡ first_point (N.Match m.pattern) (at + 1) ∷ [] → records ≤ m.records + 1 →
+      pub start_leads : (new : List Point) (records : ℕ) → (m.steps + spent ≡ m.limit → ⊥) → new ≡ first_point (N.Match m.pattern) (at + 1) ∷ []
+          → records ≤ m.records + 1 →
           Leads m start points None (m.steps + spent + 1) (at + 1) new m.way records
       start_leads new records z is few =
           let left = m.limit - (steps + 1) in

@@ -15,7 +15,8 @@ among : (xs : List (Event × ℕ)) (k n : ℕ) (e : Event) (c : ℕ) → slice_g
 among [] k n e c h l = cc
 among (x ∷ xs) k zero e c h l = absurd (omega arith)
 among (x ∷ xs) zero (suc n) e c h l = (0, omega arith, (let same : x ≡ (e, c) = cc in ap (λ (t : Event × ℕ). t.0) same))
-among (x ∷ xs) (suc k) (suc n) e c h l = let t = among xs k n e c h (omega arith) in (suc t.0, (let b : t.0 < length (map (λ (told : Event × ℕ). told.0) (take n xs)) = t.1 in omega arith), t.2)
+among (x ∷ xs) (suc k) (suc n) e c h l = let t = among xs k n e c h (omega arith) in
+    (suc t.0, (let b : t.0 < length (map (λ (told : Event × ℕ). told.0) (take n xs)) = t.1 in omega arith), t.2)
 
 -- where the answer is Exhausted, the events told end in it
 told-exhausted : (old new : Session) → IsTold old new V.Exhausted → AreExhausted (told_of new)

@@ -1,5 +1,6 @@
 -- A start that fails at once is passed.
-use Rattle.std.proofs.Common.{◌≡◌, ℕ, zero, suc, ◌+◌, ◌*◌, ◌-◌, ◌<◌, ◌≤◌, Bool, false, true, List, [], ◌∷◌, Option, None, Some, length, map, slice_get, refl, sym, ◌∙◌, ap, subst, arith}
+use Rattle.std.proofs.Common.{◌≡◌, ℕ, zero, suc, ◌+◌, ◌*◌, ◌-◌, ◌<◌, ◌≤◌, Bool, false, true, List, [], ◌∷◌, Option, None, Some, length, map, slice_get, refl}
+use Rattle.std.proofs.Common.{sym, ◌∙◌, ap, subst, arith}
 use Rattle.std.proofs.Math.Nat.{suc-mul}
 use Rattle.std.specs.Option.{is_some}
 use Rattle.sno_pattern.specs.Pattern.{Pattern, Primitive, Leaf, Cat}
@@ -60,16 +61,19 @@ module _ (p : Pattern) (s : List ℕ) (at : ℕ) where
       let e : length s - at ≡ suc (length s - (at + 1)) = omega (arith, room) in
       ap (λ n. map (λ b. search s b (Match p ∷ []) b []) (count_from (at + 1) n)) e
 
-  pub passes_more : (anchored : Bool) (from price cost : ℕ) → Passes anchored p s from at price → anchored ≡ false → at < length s → FailsAt p s cost (at + 1) → Passes anchored p s from (at + 1) (price + (cost + 1))
+  pub passes_more : (anchored : Bool) (from price cost : ℕ) → Passes anchored p s from at price → anchored ≡ false → at < length s → FailsAt p s cost (at + 1)
+      → Passes anchored p s from (at + 1) (price + (cost + 1))
   passes_more anchored from price cost before floats room vain = record {
     passes = λ answers due left e.
         before.passes answers due (suc (left + cost)) (omega (arith, e)) ∙
         ap (further (Gives [] answers (suc (left + cost)) Exhausted)) (behind_some anchored floats room) ∙
-        ap (λ r. further r (searches_behind anchored p s (at + 1))) (emit-none (search s (at + 1) (Match p ∷ []) (at + 1) [] answers (left + cost)) ∙ vain.fails (at + 1) [] [] answers (left + cost) left refl);
+        ap (λ r. further r (searches_behind anchored p s (at + 1))) (emit-none (search s (at + 1) (Match p ∷ []) (at + 1) [] answers (left + cost))
+        ∙ vain.fails (at + 1) [] [] answers (left + cost) left refl);
   }
 
 -- the pattern begins with a primitive that has no end from the next start
-head_passes : (anchored : Bool) (p head : Pattern) (s : List ℕ) (from at price above : ℕ) → Passes anchored p s from at price → anchored ≡ false → at < length s → IsPrimitive head → FailsWith p head above →
+head_passes : (anchored : Bool) (p head : Pattern) (s : List ℕ) (from at price above : ℕ) → Passes anchored p s from at price → anchored ≡ false → at < length s
+    → IsPrimitive head → FailsWith p head above →
     end_of head s (at + 1) 0 ≡ None → Passes anchored p s from (at + 1) (price + (above + 2))
 head_passes anchored p head s from at price above before floats room leaf with_head none =
     let vain : FailsAt (Leaf leaf.0) s 1 (at + 1) = leaf_fails s leaf.0 (at + 1) (subst (λ q. end_of q s (at + 1) 0 ≡ None) leaf.1 none) in
@@ -82,7 +86,8 @@ no_end None h = refl
 no_end (Some e) h = absurd (cc)
 
 -- nor from the k next starts
-pub heads_pass : (anchored : Bool) (p head : Pattern) (s : List ℕ) (from above : ℕ) → anchored ≡ false → IsPrimitive head → FailsWith p head above → (k : ℕ) → from + k ≤ length s →
+pub heads_pass : (anchored : Bool) (p head : Pattern) (s : List ℕ) (from above : ℕ) → anchored ≡ false → IsPrimitive head → FailsWith p head above
+    → (k : ℕ) → from + k ≤ length s →
     ((c : ℕ) → from + 1 ≤ c → c < from + 1 + k → has_end head s c ≡ false) → Passes anchored p s from (from + k) (k * (above + 2))
 heads_pass anchored p head s from above floats leaf with_head zero room none =
     let same : from ≡ from + 0 = omega arith in

@@ -1,9 +1,12 @@
 -- A search tells at most two events a step, and one more.
-use Rattle.std.proofs.Common.{◌≡◌, ℕ, zero, suc, ◌+◌, ◌*◌, ◌≤◌, ◌==◌, Bool, true, false, List, [], ◌∷◌, ◌++◌, Some, None, length, map, replicate, refl, ap, arith, length-append}
+use Rattle.std.proofs.Common.{◌≡◌, ℕ, zero, suc, ◌+◌, ◌*◌, ◌≤◌, ◌==◌, Bool, true, false, List, [], ◌∷◌, ◌++◌, Some, None, length, map, replicate, refl, ap}
+use Rattle.std.proofs.Common.{arith, length-append}
 use Rattle.sno_pattern.specs.Pattern.{Pattern, Leaf, Fence, Cut, Abort, Succeed, Arbno, Alt, Cat, Cond, Imm, Place, Defer}
 use Rattle.sno_pattern.specs.Ends.{ends}
 use Rattle.sno_match.specs.declared.event.Pending.{Pending}
-use Rattle.sno_match.specs.Search.{Goal, Match, CloseCond, CloseImm, CloseRepeat, Exhausted, Aborted, Limit, Waiting, Event, Assign, Cursor, Value, Answer, Outcome, Gives, Search, Finder, emit, or_else, further, tries, abort_if_exhausted, with_answer, if_moved, first_goal, search_within, search, whole, starts, CloseCut, CutOff, cut_off_if_exhausted, exhausted_if_cut_off}
+use Rattle.sno_match.specs.Search.{Goal, Match, CloseCond, CloseImm, CloseRepeat, Exhausted, Aborted, Limit, Waiting, Event, Assign, Cursor, Value, Answer}
+use Rattle.sno_match.specs.Search.{Outcome, Gives, Search, Finder, emit, or_else, further, tries, abort_if_exhausted, with_answer, if_moved, first_goal}
+use Rattle.sno_match.specs.Search.{search_within, search, whole, starts, CloseCut, CutOff, cut_off_if_exhausted, exhausted_if_cut_off}
 
 -- the events told, and two for each step left
 abbrev pub weight : Outcome → ℕ
@@ -74,23 +77,54 @@ module _ (s : List ℕ) (find : Finder) (h : (goals : List Goal) (c : ℕ) (pend
   moved-light true f k answers left = omega arith
   moved-light false f k answers left = k answers left
 
-  goal-weight : (goal : Goal) (rest : List Goal) (c : ℕ) (pending : List Pending) (answers : List Answer) (left : ℕ) → weight (first_goal s find goal rest c pending answers left) ≤ 2 * left + 2
-  goal-weight (Match (Leaf a)) rest c pending answers left = omega (arith, tries-light (map (λ e. find rest e pending) (ends a s c)) (light-map (λ e. find rest e pending) (ends a s c) (λ e. h rest e pending)) answers left)
+  goal-weight : (goal : Goal) (rest : List Goal) (c : ℕ) (pending : List Pending) (answers : List Answer) (left : ℕ)
+      → weight (first_goal s find goal rest c pending answers left) ≤ 2 * left + 2
+  goal-weight (Match (Leaf a)) rest c pending answers left =
+      omega (
+        arith,
+        tries-light (map (λ e. find rest e pending) (ends a s c))
+            (light-map (λ e. find rest e pending) (ends a s c) (λ e. h rest e pending)) answers left,
+      )
   goal-weight (Match (Cat p q)) rest c pending answers left = omega (arith, h (Match p ∷ Match q ∷ rest) c pending answers left)
-  goal-weight (Match (Alt p q)) rest c pending answers left = omega (arith, tries-light (find (Match p ∷ rest) c pending ∷ find (Match q ∷ rest) c pending ∷ []) (h (Match p ∷ rest) c pending, (h (Match q ∷ rest) c pending, tt)) answers left)
-  goal-weight (Match (Arbno p)) rest c pending answers left = omega (arith, tries-light (find rest c pending ∷ find (Match p ∷ CloseRepeat p c ∷ rest) c pending ∷ []) (h rest c pending, (h (Match p ∷ CloseRepeat p c ∷ rest) c pending, tt)) answers left)
-  goal-weight (CloseRepeat p from) rest c pending answers left = omega (arith, moved-light (c == from) (find (Match (Arbno p) ∷ rest) c pending) (h (Match (Arbno p) ∷ rest) c pending) answers left)
+  goal-weight (Match (Alt p q)) rest c pending answers left =
+      omega (
+        arith,
+        tries-light (find (Match p ∷ rest) c pending ∷ find (Match q ∷ rest) c pending ∷ [])
+            (h (Match p ∷ rest) c pending, (h (Match q ∷ rest) c pending, tt)) answers left,
+      )
+  goal-weight (Match (Arbno p)) rest c pending answers left =
+      omega (
+        arith,
+        tries-light (find rest c pending ∷ find (Match p ∷ CloseRepeat p c ∷ rest) c pending ∷ [])
+            (h rest c pending, (h (Match p ∷ CloseRepeat p c ∷ rest) c pending, tt)) answers left,
+      )
+  goal-weight (CloseRepeat p from) rest c pending answers left =
+      omega (arith, moved-light (c == from) (find (Match (Arbno p) ∷ rest) c pending) (h (Match (Arbno p) ∷ rest) c pending) answers left)
   goal-weight (Match (Cond p target)) rest c pending answers left = omega (arith, h (Match p ∷ CloseCond target c ∷ rest) c pending answers left)
   goal-weight (Match (Imm p target)) rest c pending answers left = omega (arith, h (Match p ∷ CloseImm target c ∷ rest) c pending answers left)
-  goal-weight (CloseCond target from) rest c pending answers left = let l = h rest c (pending ++ record { target = target; start = from; end = c } ∷ []) answers left in omega (arith, l)
-  goal-weight (CloseImm target from) rest c pending answers left = omega (arith, weight-emit ((Assign target from c, left) ∷ []) (find rest c pending answers left), h rest c pending answers left)
-  goal-weight (Match (Place target)) rest c pending answers left = omega (arith, weight-emit ((Cursor target c, left) ∷ []) (find rest c pending answers left), h rest c pending answers left)
+  goal-weight (CloseCond target from) rest c pending answers left = let l =
+      h rest c (pending ++ record { target = target; start = from; end = c } ∷ []) answers left in omega (arith, l)
+  goal-weight (CloseImm target from) rest c pending answers left =
+      omega (arith, weight-emit ((Assign target from c, left) ∷ []) (find rest c pending answers left), h rest c pending answers left)
+  goal-weight (Match (Place target)) rest c pending answers left =
+      omega (arith, weight-emit ((Cursor target c, left) ∷ []) (find rest c pending answers left), h rest c pending answers left)
   goal-weight (Match Fence) rest c pending answers left = omega (arith, weight-abort (find rest c pending answers left), h rest c pending answers left)
-  goal-weight (Match (Cut p)) rest c pending answers left = omega (arith, weight-ended left (find (Match p ∷ CloseCut left ∷ rest) c pending answers left), h (Match p ∷ CloseCut left ∷ rest) c pending answers left)
+  goal-weight (Match (Cut p)) rest c pending answers left =
+      omega (arith, weight-ended left (find (Match p ∷ CloseCut left ∷ rest) c pending answers left), h (Match p ∷ CloseCut left ∷ rest) c pending answers left)
   goal-weight (CloseCut m) rest c pending answers left = omega (arith, weight-cut m (find rest c pending answers left), h rest c pending answers left)
   goal-weight (Match Abort) rest c pending answers left = omega arith
-  goal-weight (Match Succeed) rest c pending answers left = omega (arith, tries-light (find rest c pending ∷ replicate (suc left) (find rest c pending)) (h rest c pending, light-replicate (find rest c pending) (suc left) (h rest c pending)) answers left)
-  goal-weight (Match (Defer primitive expression)) rest c pending answers left = omega (arith, weight-emit ((Value primitive expression, left) ∷ []) (with_answer find rest c pending answers left), answer-light rest c pending answers left)
+  goal-weight (Match Succeed) rest c pending answers left =
+      omega (
+        arith,
+        tries-light (find rest c pending ∷ replicate (suc left) (find rest c pending))
+            (h rest c pending, light-replicate (find rest c pending) (suc left) (h rest c pending)) answers left,
+      )
+  goal-weight (Match (Defer primitive expression)) rest c pending answers left =
+      omega (
+        arith,
+        weight-emit ((Value primitive expression, left) ∷ []) (with_answer find rest c pending answers left),
+        answer-light rest c pending answers left,
+      )
 
 within-light : (s : List ℕ) (start depth : ℕ) (goals : List Goal) (c : ℕ) (pending : List Pending) → IsLight (search_within s start depth goals c pending)
 within-light s start depth [] c pending answers left = omega arith
@@ -101,8 +135,10 @@ within-light s start (suc depth) (goal ∷ rest) c pending answers (suc left) =
 
 pub whole-light : (p : Pattern) (s : List ℕ) (anchored : Bool) → IsLight (whole p s anchored)
 whole-light p s anchored =
-    tries-light (map (λ b. search s b (Match p ∷ []) b []) (starts anchored s)) (light-map (λ b. search s b (Match p ∷ []) b []) (starts anchored s) (λ b answers left. within-light s b left (Match p ∷ []) b [] answers left))
+    tries-light (map (λ b. search s b (Match p ∷ []) b []) (starts anchored s))
+    (light-map (λ b. search s b (Match p ∷ []) b []) (starts anchored s) (λ b answers left. within-light s b left (Match p ∷ []) b [] answers left))
 
 -- what was told is not much
-pub few_told : (p : Pattern) (s : List ℕ) (anchored : Bool) (limit : ℕ) (answers : List Answer) (es : List (Event × ℕ)) (r : Outcome) → whole p s anchored answers limit ≡ emit es r → length es ≤ 2 * limit + 1
+pub few_told : (p : Pattern) (s : List ℕ) (anchored : Bool) (limit : ℕ) (answers : List Answer) (es : List (Event × ℕ)) (r : Outcome)
+    → whole p s anchored answers limit ≡ emit es r → length es ≤ 2 * limit + 1
 few_told p s anchored limit answers es r e = omega (arith, whole-light p s anchored answers limit, ap weight e, weight-emit es r)

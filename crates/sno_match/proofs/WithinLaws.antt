@@ -1,5 +1,6 @@
 -- What the events of a match tell lies within the subject.
-use Rattle.std.proofs.Common.{◌≡◌, ℕ, zero, suc, ◌-◌, ◌≤◌, ◌==◌, Bool, true, false, Some, None, List, [], ◌∷◌, ◌++◌, length, map, replicate, slice_get, subst, arith}
+use Rattle.std.proofs.Common.{◌≡◌, ℕ, zero, suc, ◌-◌, ◌≤◌, ◌==◌, Bool, true, false, Some, None, List, [], ◌∷◌, ◌++◌, length, map, replicate, slice_get, subst}
+use Rattle.std.proofs.Common.{arith}
 use Rattle.std.specs.List.{AllByRecursion}
 use Rattle.sno_pattern.specs.Pattern.{Pattern, Leaf, Fence, Cut, Abort, Succeed, Arbno, Alt, Cat, Cond, Imm, Place, Defer}
 use Rattle.sno_pattern.specs.Ends.{ends}
@@ -7,7 +8,10 @@ use Rattle.sno_pattern.specs.Table.{tree}
 use Rattle.sno_pattern.proofs.EndsRange.{Within}
 use Rattle.sno_match.specs.declared.event.Event.{Event as Told}
 use Rattle.sno_match.specs.declared.event.Pending.{Pending}
-use Rattle.sno_match.specs.Search.{Goal, Match, CloseCond, CloseImm, CloseRepeat, assigns, Verdict, Exhausted, Aborted, Limit, Waiting, Event, Assign, Cursor, Value, Answer, Outcome, Gives, Search, Finder, emit, or_else, further, tries, abort_if_exhausted, with_answer, if_moved, first_goal, search_within, search, starts, whole, last_event, all_events, trace, CloseCut, CutOff, cut_off_if_exhausted, exhausted_if_cut_off}
+use Rattle.sno_match.specs.Search.{Goal, Match, CloseCond, CloseImm, CloseRepeat, assigns, Verdict, Exhausted, Aborted, Limit, Waiting, Event, Assign, Cursor}
+use Rattle.sno_match.specs.Search.{Value, Answer, Outcome, Gives, Search, Finder, emit, or_else, further, tries, abort_if_exhausted, with_answer, if_moved}
+use Rattle.sno_match.specs.Search.{first_goal, search_within, search, starts, whole, last_event, all_events, trace, CloseCut, CutOff, cut_off_if_exhausted}
+use Rattle.sno_match.specs.Search.{exhausted_if_cut_off}
 use Rattle.sno_match.specs.Events.{in_trace}
 use Rattle.sno_match.specs.Within.{IsPart, IsWithin}
 use Rattle.sno_match.specs.Session.{Session, answers_of, IsTold}
@@ -92,21 +96,26 @@ one-more n [] p h k = (k, tt)
 one-more n (q ∷ pending) p h k = (h.0, one-more n pending p h.1 k)
 
 abbrev FinderTells : List ℕ → ℕ → Finder → Type 0
-FinderTells s start find = (goals : List Goal) (c : ℕ) (pending : List Pending) → Each (IsBehind c) goals → start ≤ c → c ≤ length s → AllByRecursion (IsPart (length s)) pending → Always (length s) (find goals c pending)
+FinderTells s start find = (goals : List Goal) (c : ℕ) (pending : List Pending) → Each (IsBehind c) goals → start ≤ c → c ≤ length s
+    → AllByRecursion (IsPart (length s)) pending → Always (length s) (find goals c pending)
 
-tells-answer : (s : List ℕ) (start : ℕ) (find : Finder) → FinderTells s start find → (rest : List Goal) (c : ℕ) (pending : List Pending) → Each (IsBehind c) rest → start ≤ c → c ≤ length s → AllByRecursion (IsPart (length s)) pending →
+tells-answer : (s : List ℕ) (start : ℕ) (find : Finder) → FinderTells s start find → (rest : List Goal) (c : ℕ) (pending : List Pending)
+    → Each (IsBehind c) rest → start ≤ c → c ≤ length s → AllByRecursion (IsPart (length s)) pending →
     Always (length s) (with_answer find rest c pending)
 tells-answer s start find h rest c pending b l k ps [] left = tt
 tells-answer s start find h rest c pending b l k ps (None ∷ answers) left = tt
 tells-answer s start find h rest c pending b l k ps (Some pattern ∷ answers) left = h (Match pattern ∷ rest) c pending (tt, b) l k ps answers left
 
-first_goal-tells : (s : List ℕ) (start : ℕ) (find : Finder) → FinderTells s start find → (goal : Goal) (rest : List Goal) (c : ℕ) (pending : List Pending) → IsBehind c goal → Each (IsBehind c) rest → start ≤ c → c ≤ length s → AllByRecursion (IsPart (length s)) pending →
+first_goal-tells : (s : List ℕ) (start : ℕ) (find : Finder) → FinderTells s start find → (goal : Goal) (rest : List Goal) (c : ℕ) (pending : List Pending)
+    → IsBehind c goal → Each (IsBehind c) rest → start ≤ c → c ≤ length s → AllByRecursion (IsPart (length s)) pending →
     Always (length s) (first_goal s find goal rest c pending)
 first_goal-tells s start find h (Match (Leaf a)) rest c pending g b l k ps answers left =
     tells-tries (length s) (map (λ e. find rest e pending) (ends a s c))
     (Each-map (λ e. find rest e pending) (Within c (length s)) (Always (length s)) (ends a s c)
-    (λ e w. h rest e pending (Each-to (IsBehind c) (IsBehind e) rest (behind-later c e w.0) b) (omega (arith, l, w.0)) w.1 ps) (ends-within a s c k)) answers left
-first_goal-tells s start find h (Match (Cat p q)) rest c pending g b l k ps answers left = h (Match p ∷ Match q ∷ rest) c pending (tt, (tt, b)) l k ps answers left
+    (λ e w. h rest e pending (Each-to (IsBehind c) (IsBehind e) rest (behind-later c e w.0) b) (omega (arith, l, w.0)) w.1 ps)
+    (ends-within a s c k)) answers left
+first_goal-tells s start find h (Match (Cat p q)) rest c pending g b l k ps answers left =
+    h (Match p ∷ Match q ∷ rest) c pending (tt, (tt, b)) l k ps answers left
 first_goal-tells s start find h (Match (Alt p q)) rest c pending g b l k ps answers left =
     tells-tries (length s) (find (Match p ∷ rest) c pending ∷ find (Match q ∷ rest) c pending ∷ [])
     (h (Match p ∷ rest) c pending (tt, b) l k ps, (h (Match q ∷ rest) c pending (tt, b) l k ps, tt)) answers left
@@ -115,31 +124,38 @@ first_goal-tells s start find h (Match (Arbno p)) rest c pending g b l k ps answ
     (h rest c pending b l k ps, (h (Match p ∷ CloseRepeat p c ∷ rest) c pending (tt, (tt, b)) l k ps, tt)) answers left
 first_goal-tells s start find h (CloseRepeat p from) rest c pending g b l k ps answers left =
     tells-moved (length s) (c == from) (find (Match (Arbno p) ∷ rest) c pending) (h (Match (Arbno p) ∷ rest) c pending (tt, b) l k ps) answers left
-first_goal-tells s start find h (Match (Cond p target)) rest c pending g b l k ps answers left = h (Match p ∷ CloseCond target c ∷ rest) c pending (tt, (omega arith, b)) l k ps answers left
-first_goal-tells s start find h (Match (Imm p target)) rest c pending g b l k ps answers left = h (Match p ∷ CloseImm target c ∷ rest) c pending (tt, (omega arith, b)) l k ps answers left
+first_goal-tells s start find h (Match (Cond p target)) rest c pending g b l k ps answers left =
+    h (Match p ∷ CloseCond target c ∷ rest) c pending (tt, (omega arith, b)) l k ps answers left
+first_goal-tells s start find h (Match (Imm p target)) rest c pending g b l k ps answers left =
+    h (Match p ∷ CloseImm target c ∷ rest) c pending (tt, (omega arith, b)) l k ps answers left
 first_goal-tells s start find h (CloseCond target from) rest c pending g b l k ps answers left =
     h rest c (pending ++ assigns target from c ∷ []) b l k (one-more (length s) pending (assigns target from c) ps (g, k)) answers left
 first_goal-tells s start find h (CloseImm target from) rest c pending g b l k ps answers left =
     tells-emit (length s) ((Assign target from c, left) ∷ []) (find rest c pending answers left) ((g, k), tt) (h rest c pending b l k ps answers left)
 first_goal-tells s start find h (Match (Place target)) rest c pending g b l k ps answers left =
     tells-emit (length s) ((Cursor target c, left) ∷ []) (find rest c pending answers left) (k, tt) (h rest c pending b l k ps answers left)
-first_goal-tells s start find h (Match Fence) rest c pending g b l k ps answers left = tells-abort (length s) (find rest c pending answers left) (h rest c pending b l k ps answers left)
+first_goal-tells s start find h (Match Fence) rest c pending g b l k ps answers left =
+    tells-abort (length s) (find rest c pending answers left) (h rest c pending b l k ps answers left)
 first_goal-tells s start find h (Match (Cut p)) rest c pending g b l k ps answers left =
-    tells-ended (length s) left (find (Match p ∷ CloseCut left ∷ rest) c pending answers left) (h (Match p ∷ CloseCut left ∷ rest) c pending (tt, (tt, b)) l k ps answers left)
-first_goal-tells s start find h (CloseCut m) rest c pending g b l k ps answers left = tells-cut (length s) m (find rest c pending answers left) (h rest c pending b l k ps answers left)
+    tells-ended (length s) left (find (Match p ∷ CloseCut left ∷ rest) c pending answers left)
+    (h (Match p ∷ CloseCut left ∷ rest) c pending (tt, (tt, b)) l k ps answers left)
+first_goal-tells s start find h (CloseCut m) rest c pending g b l k ps answers left =
+    tells-cut (length s) m (find rest c pending answers left) (h rest c pending b l k ps answers left)
 first_goal-tells s start find h (Match Abort) rest c pending g b l k ps answers left = tt
 first_goal-tells s start find h (Match Succeed) rest c pending g b l k ps answers left =
     tells-tries (length s) (find rest c pending ∷ replicate (suc left) (find rest c pending))
     (h rest c pending b l k ps, each-copy (Always (length s)) (suc left) (find rest c pending) (h rest c pending b l k ps)) answers left
 first_goal-tells s start find h (Match (Defer primitive expression)) rest c pending g b l k ps answers left =
-    tells-emit (length s) ((Value primitive expression, left) ∷ []) (with_answer find rest c pending answers left) (tt, tt) (tells-answer s start find h rest c pending b l k ps answers left)
+    tells-emit (length s) ((Value primitive expression, left) ∷ []) (with_answer find rest c pending answers left) (tt, tt)
+    (tells-answer s start find h rest c pending b l k ps answers left)
 
 search_within-tells : (s : List ℕ) (start depth : ℕ) → FinderTells s start (search_within s start depth)
 search_within-tells s start depth [] c pending b l k ps answers left = ((l, k, ps), tt)
 search_within-tells s start depth (goal ∷ rest) c pending b l k ps answers zero = tt
 search_within-tells s start zero (goal ∷ rest) c pending b l k ps answers (suc left) = tt
 search_within-tells s start (suc depth) (goal ∷ rest) c pending b l k ps answers (suc left) =
-    first_goal-tells s start (λ goals at list. search_within s start depth goals at list) (search_within-tells s start depth) goal rest c pending b.0 b.1 l k ps answers left
+    first_goal-tells s start (λ goals at list. search_within s start depth goals at list) (search_within-tells s start depth) goal rest c pending
+    b.0 b.1 l k ps answers left
 
 whole-tells : (p : Pattern) (s : List ℕ) (anchored : Bool) → Always (length s) (whole p s anchored)
 whole-tells p s anchored =
@@ -163,7 +179,8 @@ told-at P (first ∷ events) zero told e h = let same : first ≡ told = cc in s
 told-at P (first ∷ events) (suc k) told e h = told-at P events k told e h.1
 
 -- each event of a trace
-pub trace_within : (p : Pattern) (s : List ℕ) (anchored : Bool) (limit : ℕ) (answers : List Answer) (k : ℕ) (told : Event × ℕ) → slice_get (trace p s anchored limit answers) k ≡ Some told → IsWithin (length s) told.0
+pub trace_within : (p : Pattern) (s : List ℕ) (anchored : Bool) (limit : ℕ) (answers : List Answer) (k : ℕ) (told : Event × ℕ)
+    → slice_get (trace p s anchored limit answers) k ≡ Some told → IsWithin (length s) told.0
 trace_within p s anchored limit answers k told e =
     told-at (IsInside (length s)) (trace p s anchored limit answers) k told e
     (Each-map (λ told. (told.0, limit - told.1)) (IsInside (length s)) (IsInside (length s)) (all_events (whole p s anchored answers limit)) (λ told h. h)
@@ -172,4 +189,5 @@ trace_within p s anchored limit answers k told e =
 -- and so the one that a match tells
 pub told_within : (old new : Session) (event : Told) → IsTold old new event → IsWithin (length new.subject) (in_trace event new.way)
 told_within old new event t =
-    trace_within (tree new.nodes new.pattern.0) new.subject new.anchored new.limit (answers_of new.nodes new.answers) (new.told - 1) (in_trace event new.way, new.steps) t.at
+    trace_within (tree new.nodes new.pattern.0) new.subject new.anchored new.limit (answers_of new.nodes new.answers) (new.told - 1)
+    (in_trace event new.way, new.steps) t.at

@@ -40,7 +40,8 @@ standing S.Waiting nodes s start points answers left = waiting nodes s start poi
 standing (S.Ended event) nodes s start points answers left = Gives [] answers left (verdict_of event)
 
 -- One move at a stack with a point: the steps taken, the pending list of the last way, and the event, if one is told.
-pub record Makes (nodes : List Node) (s : List ℕ) (start limit : ℕ) (old : List Point) (steps0 : ℕ) (was : List Pending) (told : Option Told) (new : List Point) (steps : ℕ) (way : List Pending) : Type 0 where
+pub record Makes (nodes : List Node) (s : List ℕ) (start limit : ℕ) (old : List Point) (steps0 : ℕ) (was : List Pending)
+    (told : Option Told) (new : List Point) (steps : ℕ) (way : List Pending) : Type 0 where
   pub steps_in : steps ≤ limit
   pub paid : steps0 + price told ≤ steps
   pub grows : length new + steps0 ≤ length old + steps
@@ -48,7 +49,8 @@ pub record Makes (nodes : List Node) (s : List ℕ) (start limit : ℕ) (old : L
   pub more : told ≡ Some V.Exhausted → ⊥
   pub asked : HasAsked (after_move told) new
   pub pending : way ≡ way_after told way was
-  pub leads : (answers : List Answer) → reading nodes s start old answers (limit - steps0) ≡ emit (entries told way (limit - steps)) (standing (after_move told) nodes s start new answers (limit - steps))
+  pub leads : (answers : List Answer) → reading nodes s start old answers (limit - steps0)
+      ≡ emit (entries told way (limit - steps)) (standing (after_move told) nodes s start new answers (limit - steps))
 
 -- the plan takes a step
 abbrev pub Costs : Plan → Type 0
@@ -61,12 +63,14 @@ abbrev pub CarriesOut : Plan → ℕ → ℕ → List Point → Option Told → 
 CarriesOut (P.Replace front at) c left old told new = (told ≡ None) × (new ≡ replaced (goals_in front) at old)
 CarriesOut (P.Branch front at next) c left old told new = (told ≡ None) × (new ≡ branched (goals_in front) at next old)
 CarriesOut (P.Close assignment) c left old told new = (told ≡ None) × (new ≡ closed assignment old)
-CarriesOut (P.Assign a) c left old told new = (told ≡ Some (V.Assign a.target a.start a.end)) × (new ≡ replaced [] c old)
+CarriesOut (P.Assign a) c left old told new = (told ≡ Some (V.Assign a.target a.start a.end))
+    × (new ≡ replaced [] c old)
 CarriesOut (P.Cursor target) c left old told new = (told ≡ Some (V.Cursor target c)) × (new ≡ replaced [] c old)
 CarriesOut (P.Ask prim expr) c left old told new = (told ≡ Some (V.Value prim expr)) × (new ≡ old)
 CarriesOut P.Fail c left old told new = (told ≡ None) × (new ≡ below old)
 CarriesOut P.Abort c left old told new = (told ≡ Some V.Aborted) × (new ≡ old)
-CarriesOut (P.EnterCut p) c left old told new = (told ≡ None) × (new ≡ branched (Match p ∷ CloseCut left (length (below old)) ∷ []) c left old)
+CarriesOut (P.EnterCut p) c left old told new =
+    (told ≡ None) × (new ≡ branched (Match p ∷ CloseCut left (length (below old)) ∷ []) c left old)
 CarriesOut (P.CloseCut depth) c left old told new = (told ≡ None) × (new ≡ cut_back depth old)
 CarriesOut P.BackIntoFence c left old told new = ⊥
 CarriesOut P.BackIntoCut c left old told new = ⊥

@@ -32,9 +32,11 @@ end_plan end None = P.Replace Nothing end
 end_plan end (Some next) = P.Branch Nothing end next
 
 -- for one step the stack goes on as the new one, once these events are told
-abbrev pub Goes : List Node → List ℕ → Numbered → ℕ → Mark → (ℕ → List (Event × ℕ)) → (Point → List Point → List Point) → Type 0
+abbrev pub Goes : List Node → List ℕ → Numbered → ℕ → Mark → (ℕ → List (Event × ℕ))
+    → (Point → List Point → List Point) → Type 0
 Goes nodes s goal cursor mark told next =
-    (start : ℕ) (rest : List Numbered) (pending : List Pending) (below : List Point) (answers : List Answer) → AllMarked below →
+    (start : ℕ) (rest : List Numbered) (pending : List Pending) (below : List Point)
+    (answers : List Answer) → AllMarked below →
     (left : ℕ) → reading nodes s start (point_at goal rest cursor pending mark ∷ below) answers (suc left) ≡
     emit (told left) (reading nodes s start (next (point_at goal rest cursor pending mark) below) answers left)
 
@@ -50,43 +52,70 @@ IsCut nodes goal p = (id : PatId) × (goal ≡ N.Match id) × (tree nodes id.0 �
 
 abbrev pub IsPlan : List Node → List ℕ → Numbered → ℕ → Mark → Plan → Type 0
 IsPlan nodes s goal cursor mark (P.Replace front at) =
-    Goes nodes s goal cursor mark (λ left. []) (λ point below. with_front (goals_in front) at point ∷ below) × IsDue nodes s goal cursor mark × AllKnown nodes (goals_in front) × (at ≤ length s)
+    Goes nodes s goal cursor mark (λ left. []) (λ point below. with_front (goals_in front) at point ∷ below)
+    × IsDue nodes s goal cursor mark × AllKnown nodes (goals_in front) × (at ≤ length s)
 IsPlan nodes s goal cursor mark (P.Branch front at next) =
-    Goes nodes s goal cursor mark (λ left. []) (λ point below. with_front (goals_in front) at point ∷ record point { mark = Next next } ∷ below) × IsDue nodes s goal cursor mark × AllKnown nodes (goals_in front) × (at ≤ length s) × MarkFits nodes s (Next next) (goal ∷ []) cursor
+    Goes nodes s goal cursor mark (λ left. [])
+    (λ point below. with_front (goals_in front) at point ∷ record point { mark = Next next } ∷ below)
+    × IsDue nodes s goal cursor mark × AllKnown nodes (goals_in front) × (at ≤ length s)
+    × MarkFits nodes s (Next next) (goal ∷ []) cursor
 IsPlan nodes s goal cursor mark (P.Close assignment) =
-    Goes nodes s goal cursor mark (λ left. []) (λ point below. record { goals = rest_of point.goals; cursor = point.cursor; pending = point.pending ++ assignment ∷ []; mark = Enter } ∷ below) × IsDue nodes s goal cursor mark
+    Goes nodes s goal cursor mark (λ left. [])
+    (λ point below. record {
+      goals = rest_of point.goals;
+      cursor = point.cursor;
+      pending = point.pending
+          ++ assignment ∷ [];
+      mark = Enter;
+    } ∷ below) × IsDue nodes s goal cursor mark
 IsPlan nodes s goal cursor mark (P.Assign a) =
-    Goes nodes s goal cursor mark (λ left. (Assign a.target a.start a.end, left) ∷ []) (λ point below. with_front [] cursor point ∷ below) × IsDue nodes s goal cursor mark
+    Goes nodes s goal cursor mark (λ left. (Assign a.target a.start a.end, left) ∷ [])
+    (λ point below. with_front [] cursor point ∷ below) × IsDue nodes s goal cursor mark
 IsPlan nodes s goal cursor mark (P.Cursor target) =
-    Goes nodes s goal cursor mark (λ left. (Cursor target cursor, left) ∷ []) (λ point below. with_front [] cursor point ∷ below) × IsDue nodes s goal cursor mark
+    Goes nodes s goal cursor mark (λ left. (Cursor target cursor, left) ∷ [])
+    (λ point below. with_front [] cursor point ∷ below) × IsDue nodes s goal cursor mark
 IsPlan nodes s goal cursor mark (P.Ask primitive expression) =
-    ((start : ℕ) (rest : List Numbered) (pending : List Pending) (below : List Point) (answers : List Answer) (left : ℕ) →
+    ((start : ℕ) (rest : List Numbered) (pending : List Pending) (below : List Point)
+    (answers : List Answer) (left : ℕ) →
     reading nodes s start (point_at goal rest cursor pending mark ∷ below) answers (suc left) ≡
-    emit ((Value primitive expression.0, left) ∷ []) (waiting nodes s start (point_at goal rest cursor pending mark ∷ below) answers left)) × IsDue nodes s goal cursor mark
+    emit ((Value primitive expression.0, left) ∷ [])
+    (waiting nodes s start (point_at goal rest cursor pending mark ∷ below) answers left))
+    × IsDue nodes s goal cursor mark
 IsPlan nodes s goal cursor mark P.Fail =
     Goes nodes s goal cursor mark (λ left. []) (λ point below. below) × IsDue nodes s goal cursor mark
 IsPlan nodes s goal cursor mark P.Abort =
-    ((start : ℕ) (rest : List Numbered) (pending : List Pending) (below : List Point) (answers : List Answer) (left : ℕ) →
-    reading nodes s start (point_at goal rest cursor pending mark ∷ below) answers (suc left) ≡ Gives [] answers left Aborted) × IsDue nodes s goal cursor mark
+    ((start : ℕ) (rest : List Numbered) (pending : List Pending) (below : List Point)
+    (answers : List Answer) (left : ℕ) →
+    reading nodes s start (point_at goal rest cursor pending mark ∷ below) answers (suc left)
+    ≡ Gives [] answers left Aborted) × IsDue nodes s goal cursor mark
 IsPlan nodes s goal cursor mark P.BackIntoFence =
-    (start : ℕ) (rest : List Numbered) (pending : List Pending) (below : List Point) (answers : List Answer) (left : ℕ) →
+    (start : ℕ) (rest : List Numbered) (pending : List Pending) (below : List Point)
+    (answers : List Answer) (left : ℕ) →
     reading nodes s start (point_at goal rest cursor pending mark ∷ below) answers left ≡ Gives [] answers left Aborted
 IsPlan nodes s goal cursor mark (P.EnterCut p) =
-    ((start : ℕ) (rest : List Numbered) (pending : List Pending) (below : List Point) (answers : List Answer) (left : ℕ) →
+    ((start : ℕ) (rest : List Numbered) (pending : List Pending) (below : List Point)
+    (answers : List Answer) (left : ℕ) →
     reading nodes s start (point_at goal rest cursor pending mark ∷ below) answers (suc left) ≡
-    reading nodes s start (with_front (N.Match p ∷ N.CloseCut left (length below) ∷ []) cursor (point_at goal rest cursor pending mark) ∷ record (point_at goal rest cursor pending mark) { mark = Next left } ∷ below) answers left)
+    reading nodes s start (with_front (N.Match p ∷ N.CloseCut left (length below) ∷ []) cursor
+    (point_at goal rest cursor pending mark)
+    ∷ record (point_at goal rest cursor pending mark) { mark = Next left } ∷ below) answers left)
     × IsDue nodes s goal cursor mark × (p.0 < length nodes) × IsCut nodes goal p
 IsPlan nodes s goal cursor mark (P.CloseCut depth) =
-    ((start left : ℕ) (rest : List Numbered) (pending : List Pending) (below : List Point) (answers : List Answer) → opens nodes below ≡ closes (goal ∷ rest) → RiseFrom (suc left) (opens nodes below) →
+    ((start left : ℕ) (rest : List Numbered) (pending : List Pending) (below : List Point) (answers : List Answer)
+    → opens nodes below ≡ closes (goal ∷ rest) → RiseFrom (suc left) (opens nodes below) →
     reading nodes s start (point_at goal rest cursor pending mark ∷ below) answers (suc left) ≡
-    reading nodes s start (cut_back depth (point_at goal rest cursor pending mark ∷ below)) answers left) × IsDue nodes s goal cursor mark × ((m : ℕ) × (goal ≡ N.CloseCut m depth))
+    reading nodes s start (cut_back depth (point_at goal rest cursor pending mark ∷ below)) answers left)
+    × IsDue nodes s goal cursor mark × ((m : ℕ) × (goal ≡ N.CloseCut m depth))
 IsPlan nodes s goal cursor mark P.BackIntoCut =
-    (start : ℕ) (rest : List Numbered) (pending : List Pending) (below : List Point) (answers : List Answer) → AllMarked below → (left : ℕ) →
-    reading nodes s start (point_at goal rest cursor pending mark ∷ below) answers left ≡ reading nodes s start below answers left
+    (start : ℕ) (rest : List Numbered) (pending : List Pending) (below : List Point) (answers : List Answer)
+    → AllMarked below → (left : ℕ) →
+    reading nodes s start (point_at goal rest cursor pending mark ∷ below) answers left
+    ≡ reading nodes s start below answers left
 
 -- the goal closes no cut, and its further alternative is that of none
 abbrev pub IsPlain : List Node → Numbered → Type 0
-IsPlain nodes goal = (closes (goal ∷ []) ≡ []) × ((rest : List Numbered) (mark : Mark) (depth : ℕ) → opened nodes (goal ∷ rest) mark depth ≡ [])
+IsPlain nodes goal = (closes (goal ∷ []) ≡ [])
+    × ((rest : List Numbered) (mark : Mark) (depth : ℕ) → opened nodes (goal ∷ rest) mark depth ≡ [])
 
 -- the goals of a front close no cut, and neither does the goal that it takes the place of
 abbrev pub KeepsScopes : List Node → Numbered → Plan → Type 0

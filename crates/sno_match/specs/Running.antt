@@ -1,5 +1,6 @@
 -- What is kept of a match between two calls. These words are private to the matcher.
-use Rattle.std.specs.Prelude.{ℕ, ◌≡◌, ◌≤◌, ◌<◌, ◌+◌, ◌-◌, ◌*◌, Bool, true, false, List, [], ◌∷◌, ◌++◌, Option, Some, None, map, length}
+use Rattle.std.specs.Prelude.{ℕ, ◌≡◌, ◌≤◌, ◌<◌, ◌+◌, ◌-◌, ◌*◌, Bool, true, false, List, [], ◌∷◌, ◌++◌, Option, Some}
+use Rattle.std.specs.Prelude.{None, map, length}
 use Rattle.sno_value.specs.declared.ids.PatId.{PatId}
 use Rattle.sno_pattern.specs.Table.{Node, tree}
 use Rattle.sno_pattern.specs.Ends.{count_from}
@@ -21,12 +22,15 @@ later_starts true s start = []
 later_starts false s start = count_from (start + 1) (length s - start)
 
 abbrev pub later : Session → ℕ → List Search
-later m start = map (λ b. search m.subject b (Match (tree m.nodes m.pattern.0) ∷ []) b []) (later_starts m.anchored m.subject start)
+later m start = map (λ b. search m.subject b (Match (tree m.nodes m.pattern.0) ∷ []) b [])
+    (later_starts m.anchored m.subject start)
 
 -- what is still to come: the stack, and then the later starts
 abbrev pub to_come : State → Session → ℕ → List Point → Search
-to_come S.Going m start points answers left = further (reading m.nodes m.subject start points answers left) (later m start)
-to_come S.Waiting m start points answers left = further (waiting m.nodes m.subject start points answers left) (later m start)
+to_come S.Going m start points answers left =
+    further (reading m.nodes m.subject start points answers left) (later m start)
+to_come S.Waiting m start points answers left =
+    further (waiting m.nodes m.subject start points answers left) (later m start)
 to_come (S.Ended event) m start points answers left = Gives [] answers left (verdict_of event)
 
 -- each answer is of this table
@@ -56,12 +60,29 @@ pub record IsMatch (m : Session) (start : ℕ) (points : List Point) (state : St
   pub pending : m.way ≡ last_pending [] events
   pub since : last_count 0 (map (counted m.limit) events) ≤ m.steps
   -- whatever is answered later
-  pub story : (more : List Answer) → whole (tree m.nodes m.pattern.0) m.subject m.anchored (answers_of m.nodes m.answers ++ more) m.limit ≡ emit events (to_come state m start points more (m.limit - m.steps))
+  pub story : (more : List Answer) → whole (tree m.nodes m.pattern.0) m.subject m.anchored
+      (answers_of m.nodes m.answers ++ more) m.limit
+      ≡ emit events (to_come state m start points more (m.limit - m.steps))
 
 -- the session that is seen of a match
-abbrev pub seen : List Node → PatId → List ℕ → Bool → ℕ → List (Option PatId) → ℕ → ℕ → State → List Pending → List Point → ℕ → Session
+abbrev pub seen : List Node → PatId → List ℕ → Bool → ℕ → List (Option PatId) → ℕ → ℕ → State → List Pending
+    → List Point → ℕ → Session
 seen nodes pattern subject anchored limit answers told steps state way points records =
-    record { nodes = nodes; pattern = pattern; subject = subject; anchored = anchored; limit = limit; answers = answers; told = told; steps = steps; waits = waits state; ended = ended state; way = way; points = length points; records = records }
+    record {
+      nodes = nodes;
+      pattern = pattern;
+      subject = subject;
+      anchored = anchored;
+      limit = limit;
+      answers = answers;
+      told = told;
+      steps = steps;
+      waits = waits state;
+      ended = ended state;
+      way = way;
+      points = length points;
+      records = records;
+    }
 
 -- no event was told on the way
 pub record GoesOn (old new : Session) : Type 0 where

@@ -1,5 +1,6 @@
 -- A match as its callers see it.
-use Rattle.std.specs.Prelude.{ℕ, ◌≡◌, ◌≤◌, ◌+◌, ◌-◌, ◌*◌, ◌||◌, Bool, false, List, [], ◌++◌, Option, Some, map, length, min, take, slice_get, IfSome, IsTrue}
+use Rattle.std.specs.Prelude.{ℕ, ◌≡◌, ◌≤◌, ◌+◌, ◌-◌, ◌*◌, ◌||◌, Bool, false, List, [], ◌++◌, Option, Some, map, length}
+use Rattle.std.specs.Prelude.{min, take, slice_get, IfSome, IsTrue}
 use Rattle.std.specs.Option.{option_map}
 use Rattle.std.specs.declared.result.Result.{Result}
 use Rattle.std.specs.declared.result.Result.TheVariants.{Ok}
@@ -49,7 +50,21 @@ told_of m = take m.told (trace_of m)
 -- a match of which nothing was told
 abbrev pub begins : List Node → PatId → List ℕ → Bool → ℕ → ℕ → Session
 begins nodes pattern subject anchored limit records =
-    record { nodes = nodes; pattern = pattern; subject = subject; anchored = anchored; limit = limit; answers = []; told = 0; steps = 0; waits = false; ended = false; way = []; points = 1; records = records }
+    record {
+      nodes = nodes;
+      pattern = pattern;
+      subject = subject;
+      anchored = anchored;
+      limit = limit;
+      answers = [];
+      told = 0;
+      steps = 0;
+      waits = false;
+      ended = false;
+      way = [];
+      points = 1;
+      records = records;
+    }
 
 -- the table lent later begins with the one lent before
 abbrev pub Begins : List Node → List Node → Type 0
@@ -100,4 +115,5 @@ pub record IsCounted (m : Session) : Type 0 where
 
 -- the events told tell the ways of a quiet pattern, all of them where the answer is Exhausted
 pub record TellsWays {E : Type 0} (m : Session) (answer : Result Told E) : Type 0 where
-  pub ways : IsQuiet (tree m.nodes m.pattern.0) → AreWays (tree m.nodes m.pattern.0) m.subject m.anchored (told_of m) (answer ≡ Ok V.Exhausted)
+  pub ways : IsQuiet (tree m.nodes m.pattern.0) → AreWays (tree m.nodes m.pattern.0) m.subject m.anchored (told_of m)
+      (answer ≡ Ok V.Exhausted)

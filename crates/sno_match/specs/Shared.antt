@@ -1,5 +1,6 @@
 -- The points that a stack with shared goal records holds. These words are private to the matcher.
-use Rattle.std.specs.Prelude.{ℕ, ◌≡◌, ◌≤◌, ◌+◌, eqb, if◌then◌else◌, List, [], ◌∷◌, ◌++◌, Option, Some, None, map, length, reverse, take}
+use Rattle.std.specs.Prelude.{ℕ, ◌≡◌, ◌≤◌, ◌+◌, eqb, if◌then◌else◌, List, [], ◌∷◌, ◌++◌, Option, Some, None, map}
+use Rattle.std.specs.Prelude.{length, reverse, take}
 use Rattle.sno_match.specs.declared.event.Pending.{Pending}
 use Rattle.sno_match.specs.declared.goal.Goal.{Goal}
 use Rattle.sno_match.specs.declared.shared.GoalRecord.{GoalRecord}
@@ -13,7 +14,8 @@ pub record Seen : Type 0 where
 -- the list with this number, among records of which the newest stands first
 unfoldable pub goals_at : List GoalRecord → ℕ → List Goal
 goals_at [] n = []
-goals_at (newest ∷ older) n = if eqb n (length older + 1) then newest.goal ∷ goals_at older newest.behind else goals_at older n
+goals_at (newest ∷ older) n =
+    if eqb n (length older + 1) then newest.goal ∷ goals_at older newest.behind else goals_at older n
 
 abbrev pub goals_of : List GoalRecord → ℕ → List Goal
 goals_of records n = goals_at (reverse records) n
@@ -25,7 +27,12 @@ Falls (newest ∷ older) = (newest.behind ≤ length older) × Falls older
 
 abbrev pub point_of : List GoalRecord → List Pending → Held → Point
 point_of records pending held =
-    record { goals = goals_of records held.goals; cursor = held.cursor; pending = take held.assigned pending; mark = held.mark }
+    record {
+      goals = goals_of records held.goals;
+      cursor = held.cursor;
+      pending = take held.assigned pending;
+      mark = held.mark;
+    }
 
 -- the newest first
 abbrev pub held_of : Option Held → List Held → List Held
@@ -41,12 +48,14 @@ Fits count entries [] = Unit {0}
 Fits count entries (held ∷ under) =
     (held.goals ≤ count) × (held.floor ≤ count) × (held.assigned ≤ entries) × Fits held.floor held.assigned under
 
-pub record Holds (records : List GoalRecord) (pending : List Pending) (top : Option Held) (below : List Held) : Type 0 where
+pub record Holds (records : List GoalRecord) (pending : List Pending) (top : Option Held)
+    (below : List Held) : Type 0 where
   pub falls : Falls (reverse records)
   pub fits : Fits (length records) (length pending) (held_of top below)
 
 -- goals were put in front of a list, in records behind the old ones
-pub record Extends (old : List GoalRecord) (behind : ℕ) (front : List Goal) (new : List GoalRecord) (goals : ℕ) : Type 0 where
+pub record Extends (old : List GoalRecord) (behind : ℕ) (front : List Goal) (new : List GoalRecord)
+    (goals : ℕ) : Type 0 where
   pub kept : (made : List GoalRecord) × (new ≡ old ++ made)
   pub count : length new ≡ length old + length front
   pub falls : Falls (reverse new)

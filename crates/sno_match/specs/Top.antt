@@ -10,9 +10,11 @@ use Rattle.sno_match.specs.Point.{Point}
 abbrev pub IsTop : List Point → Top → Type 0
 IsTop points T.Empty = points ≡ []
 IsTop points (T.Complete cursor mark) =
-    (pending : List Pending) × (rest : List Point) × (points ≡ record { goals = []; cursor = cursor; pending = pending; mark = mark } ∷ rest)
+    (pending : List Pending) × (rest : List Point)
+    × (points ≡ record { goals = []; cursor = cursor; pending = pending; mark = mark } ∷ rest)
 IsTop points (T.Open goal cursor mark) =
-    (goals : List Goal) × (pending : List Pending) × (rest : List Point) × (points ≡ record { goals = goal ∷ goals; cursor = cursor; pending = pending; mark = mark } ∷ rest)
+    (goals : List Goal) × (pending : List Pending) × (rest : List Point)
+    × (points ≡ record { goals = goal ∷ goals; cursor = cursor; pending = pending; mark = mark } ∷ rest)
 
 abbrev pub Finishes : List Point → List Point → List Pending → Type 0
 Finishes [] new way = new ≡ []

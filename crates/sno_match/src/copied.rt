@@ -1,5 +1,6 @@
 //! Resumption points whose goal lists are copied.
-ghost use Rattle.std.specs.Prelude.{◌≡◌, ◌+◌, ◌≤◌, [], ◌∷◌, ◌++◌, length, reverse, take, vec_len, vec_capacity, IfNone, IfSome};
+ghost use Rattle.std.specs.Prelude.{◌≡◌, ◌+◌, ◌≤◌, [], ◌∷◌, ◌++◌, length, reverse, take, vec_len, vec_capacity, IfNone};
+ghost use Rattle.std.specs.Prelude.{IfSome};
 ghost use Rattle.sno_match.specs.Point.{rest_of};
 
 use crate::event::Pending;

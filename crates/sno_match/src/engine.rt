@@ -1,5 +1,6 @@
 //! A match that is asked for one event after another.
-ghost use Rattle.std.specs.Prelude.{◌≡◌, ◌<◌, ◌≤◌, ◌+◌, ◌-◌, ◌*◌, ◌++◌, [], ◌∷◌, false, true, length, drop, take, IfOk, IfSome, IsOk, OnOk, OnErr};
+ghost use Rattle.std.specs.Prelude.{◌≡◌, ◌<◌, ◌≤◌, ◌+◌, ◌-◌, ◌*◌, ◌++◌, [], ◌∷◌, false, true, length, drop, take, IfOk};
+ghost use Rattle.std.specs.Prelude.{IfSome, IsOk, OnOk, OnErr};
 ghost use Rattle.sno_match.specs.Session.{SameMatch, IsTold, StaysAt, IsCounted, TellsWays, Begins, begins, told_of};
 ghost use Rattle.sno_match.specs.Events.{in_trace, last_pending};
 ghost use Rattle.sno_match.specs.Within.{IsWithin};
@@ -57,9 +58,13 @@ impl<P: Points> Model for Engine<P> {
 
     ghost Value = { Session };
 
-    ghost view = { λ m. seen m.lent.value m.pattern m.subject.items m.anchored m.limit m.answers.items m.told m.steps m.state m.way.items (P.points m.points) (P.records m.points) };
+    ghost view = { λ m. seen m.lent.value m.pattern m.subject.items m.anchored m.limit m.answers.items m.told m.steps
+        m.state m.way.items (P.points m.points) (P.records m.points) };
 
-    ghost invariant = { λ m. IsMatch (seen m.lent.value m.pattern m.subject.items m.anchored m.limit m.answers.items m.told m.steps m.state m.way.items (P.points m.points) (P.records m.points)) m.start (P.points m.points) m.state × AreTrue m.lent.value m.subject.items m.looks };
+    ghost invariant = { λ m. IsMatch
+        (seen m.lent.value m.pattern m.subject.items m.anchored m.limit m.answers.items m.told m.steps m.state
+        m.way.items (P.points m.points) (P.records m.points)) m.start (P.points m.points) m.state
+        × AreTrue m.lent.value m.subject.items m.looks };
 }
 
 impl<P: Points> Engine<P> {
@@ -222,7 +227,14 @@ impl<P: Points> Engine<P> {
         requires table { Begins self.old.nodes patterns.now }
         requires waiting { self.old.waits ≡ true }
         requires known { IfSome given (λ id. id.0 < length patterns.now) }
-        ensures ok { OnOk result (self.new ≡ record self.old { nodes = patterns.now; answers = self.old.answers ++ given ∷ []; waits = false; points = self.new.points; records = self.new.records }) }
+        ensures ok { OnOk result
+            (self.new ≡ record self.old {
+              nodes = patterns.now;
+              answers = self.old.answers ++ given ∷ [];
+              waits = false;
+              points = self.new.points;
+              records = self.new.records;
+            }) }
         ensures err { OnErr result (self.new ≡ record self.old { nodes = patterns.now }) }
         ensures told { told_of self.new ≡ told_of self.old }
         ensures counts { IsCounted self.new }

@@ -1,10 +1,10 @@
 //! The resumable matcher: one event after another of the search for a pattern in a subject.
 //!
-//! A pattern's number is the first goal (`goal`), and is matched from a start. The stack of resumption points (`points`)
-//! has what is still to be tried, the newest first: in `shared`, which is in use, the points share their lists of goals;
-//! in `copied`, which stands beside it, each has its own. `plan` says, without taking memory, what is to be done at the
-//! newest point; `moves` carries it out by one operation of the stack and counts the step; `engine` is the loop over moves
-//! and starts, up to the next event (`event`). `laws` has what is true of every match.
+//! A pattern's number is the first goal (`goal`), and is matched from a start. The stack of resumption points
+//! (`points`) has what is still to be tried, the newest first: in `shared`, which is in use, the points share their
+//! lists of goals; in `copied`, which stands beside it, each has its own. `plan` says, without taking memory, what is
+//! to be done at the newest point; `moves` carries it out by one operation of the stack and counts the step; `engine`
+//! is the loop over moves and starts, up to the next event (`event`). `laws` has what is true of every match.
 #![tactic(auto)]
 
 mod copied;

@@ -36,9 +36,13 @@ pub(crate) fn make_move<P: Points>(
     ensures looks { AreTrue patterns.now subject.now looks.new }
     ensures stack { IsStack patterns.now subject.now (P.points points.new) }
     ensures cuts { HasCuts patterns.now (limit - steps.new) (P.points points.new) }
-    ensures ok { IfOk result (λ told. Makes patterns.now subject.now start limit (P.points points.old) steps.old way.old.items told (P.points points.new) steps.new way.new.items) }
-    ensures records { IfOk result (λ told. P.records points.new + 2 * steps.old + owed (after_move told) ≤ P.records points.old + 2 * steps.new) }
-    ensures err { OnErr result ((P.points points.new ≡ P.points points.old) × (P.records points.new ≡ P.records points.old) × (steps.new ≡ steps.old) × (way.new.items ≡ way.old.items)) }
+    ensures ok { IfOk result
+        (λ told. Makes patterns.now subject.now start limit (P.points points.old) steps.old way.old.items told
+        (P.points points.new) steps.new way.new.items) }
+    ensures records { IfOk result (λ told. P.records points.new + 2 * steps.old + owed (after_move told)
+        ≤ P.records points.old + 2 * steps.new) }
+    ensures err { OnErr result ((P.points points.new ≡ P.points points.old)
+        × (P.records points.new ≡ P.records points.old) × (steps.new ≡ steps.old) × (way.new.items ≡ way.old.items)) }
 {
     match points.top() {
         Top::Empty => unreachable!(),
@@ -81,7 +85,8 @@ fn carry_out<P: Points>(
     requires first { HasFirst (P.points points.old) }
     ensures ok { IfOk result (λ told. CarriesOut plan cursor left (P.points points.old) told (P.points points.new)) }
     ensures records { IfOk result (λ told. P.records points.new + owed (after_move told) ≤ P.records points.old + 2) }
-    ensures err { OnErr result ((P.points points.new ≡ P.points points.old) × (P.records points.new ≡ P.records points.old)) }
+    ensures err { OnErr result ((P.points points.new ≡ P.points points.old)
+        × (P.records points.new ≡ P.records points.old)) }
 {
     match plan {
         Plan::Replace(front, at) => {
@@ -127,7 +132,8 @@ pub(crate) fn put_answer<P: Points>(points: &mut P, given: Option<PatId>) -> Res
     requires { HasFirst (P.points points.old) }
     ensures ok { OnOk result (P.points points.new ≡ answered given (P.points points.old)) }
     ensures records { P.records points.new ≤ P.records points.old + 1 }
-    ensures err { OnErr result ((P.points points.new ≡ P.points points.old) × (P.records points.new ≡ P.records points.old)) }
+    ensures err { OnErr result ((P.points points.new ≡ P.points points.old)
+        × (P.records points.new ≡ P.records points.old)) }
 {
     let Some(id) = given else {
         points.pop();
@@ -148,9 +154,12 @@ fn enter_cut<P: Points>(
     left: u32,
 ) -> Result<(), AllocError>
     requires { HasFirst (P.points points.old) }
-    ensures ok { OnOk result (P.points points.new ≡ branched (Goal.Match body ∷ Goal.CloseCut left (length (below (P.points points.old))) ∷ []) cursor left (P.points points.old)) }
+    ensures ok { OnOk result
+        (P.points points.new ≡ branched (Goal.Match body ∷ Goal.CloseCut left (length (below (P.points points.old)))
+        ∷ []) cursor left (P.points points.old)) }
     ensures records { P.records points.new ≤ P.records points.old + 2 }
-    ensures err { OnErr result ((P.points points.new ≡ P.points points.old) × (P.records points.new ≡ P.records points.old)) }
+    ensures err { OnErr result ((P.points points.new ≡ P.points points.old)
+        × (P.records points.new ≡ P.records points.old)) }
 {
     let depth = points.depth() - 1;
     let close = Goal::CloseCut { left, depth };
@@ -162,7 +171,8 @@ fn replace_by<P: Points>(points: &mut P, front: Front, at: usize) -> Result<(), 
     requires { HasFirst (P.points points.old) }
     ensures ok { OnOk result (P.points points.new ≡ replaced (goals_in front) at (P.points points.old)) }
     ensures records { P.records points.new ≤ P.records points.old + 2 }
-    ensures err { OnErr result ((P.points points.new ≡ P.points points.old) × (P.records points.new ≡ P.records points.old)) }
+    ensures err { OnErr result ((P.points points.new ≡ P.points points.old)
+        × (P.records points.new ≡ P.records points.old)) }
 {
     match front {
         Front::Nothing => points.replace(&[], at),
@@ -180,7 +190,8 @@ fn branch_by<P: Points>(
     requires { HasFirst (P.points points.old) }
     ensures ok { OnOk result (P.points points.new ≡ branched (goals_in front) at next (P.points points.old)) }
     ensures records { P.records points.new ≤ P.records points.old + 2 }
-    ensures err { OnErr result ((P.points points.new ≡ P.points points.old) × (P.records points.new ≡ P.records points.old)) }
+    ensures err { OnErr result ((P.points points.new ≡ P.points points.old)
+        × (P.records points.new ≡ P.records points.old)) }
 {
     match front {
         Front::Nothing => points.branch(&[], at, next),

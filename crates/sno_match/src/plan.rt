@@ -25,8 +25,8 @@ pub(crate) enum Front {
 pub(crate) enum Plan {
     /// The first goal gives way to these, from this cursor.
     Replace(Front, usize),
-    /// The point stays, with the cursor from which its next alternative goes on, and above it these take the place of the
-    /// first goal, from the cursor before.
+    /// The point stays, with the cursor from which its next alternative goes on, and above it these take the place of
+    /// the first goal, from the cursor before.
     Branch(Front, usize, usize),
     /// The assignment joins the pending list.
     Close(Pending),

@@ -42,8 +42,8 @@ pub trait Points: Drop + Sized {
         ensures records { records self.new ≤ records self.old + length front.now }
         ensures err { OnErr result ((points self.new ≡ points self.old) × (records self.new ≡ records self.old)) };
 
-    /// The newest point stays, with the cursor from which its next alternative goes on, and above it these goals take the
-    /// place of its first.
+    /// The newest point stays, with the cursor from which its next alternative goes on, and above it these goals take
+    /// the place of its first.
     fn branch(&mut self, front: &[Goal], cursor: usize, next: usize) -> Result<(), AllocError>
         requires { HasFirst (points self.old) }
         ensures ok { OnOk result (points self.new ≡ branched front.now cursor next (points self.old)) }
@@ -71,7 +71,8 @@ pub trait Points: Drop + Sized {
     fn finish(&mut self, way: &mut Vec<Pending>) -> Result<(), AllocError>
         ensures ok { OnOk result (Finishes (points self.old) (points self.new) way.new.items) }
         ensures records { records self.new ≤ records self.old }
-        ensures err { OnErr result ((points self.new ≡ points self.old) × (records self.new ≡ records self.old) × (way.new.items ≡ way.old.items)) };
+        ensures err { OnErr result ((points self.new ≡ points self.old) × (records self.new ≡ records self.old)
+            × (way.new.items ≡ way.old.items)) };
 
     /// The first point of a search from a start.
     fn begin(&mut self, goal: Goal, cursor: usize) -> Result<(), AllocError>

@@ -1,5 +1,6 @@
 //! Resumption points whose goal lists are numbered records, shared between them.
-ghost use Rattle.std.specs.Prelude.{◌≡◌, ℕ, ◌+◌, ◌≤◌, [], ◌∷◌, ◌++◌, length, reverse, take, vec_len, vec_capacity, IfOk, IfNone, IfSome, OnOk, OnErr};
+ghost use Rattle.std.specs.Prelude.{◌≡◌, ℕ, ◌+◌, ◌≤◌, [], ◌∷◌, ◌++◌, length, reverse, take, vec_len, vec_capacity};
+ghost use Rattle.std.specs.Prelude.{IfOk, IfNone, IfSome, OnOk, OnErr};
 ghost use Rattle.sno_match.specs.Point.{rest_of};
 ghost use Rattle.sno_match.specs.Shared.{Falls, Fits, Extends, goals_of};
 
@@ -34,9 +35,9 @@ struct Held {
 
 /// A stack of points: the newest, and those below it with the newest of them last. Record k has the number k + 1.
 ///
-/// No list is copied at a branch. The records of a point that is dropped are cut back with it, and those that no list of
-/// the newest point or of one below has any more where the next ones are put. Entries of dropped points are cut back where
-/// the next one is put.
+/// No list is copied at a branch. The records of a point that is dropped are cut back with it, and those that no list
+/// of the newest point or of one below has any more where the next ones are put. Entries of dropped points are cut back
+/// where the next one is put.
 #[derive(Drop)]
 pub struct SharedGoals {
     records: Vec<GoalRecord>,
@@ -52,7 +53,10 @@ impl Model for SharedGoals {
 
     ghost Value = { Seen };
 
-    ghost view = { λ s. record { points = points_of s.records.items s.pending.items s.top s.below.items; count = length s.records.items } };
+    ghost view = { λ s. record {
+      points = points_of s.records.items s.pending.items s.top s.below.items;
+      count = length s.records.items;
+    } };
 
     ghost invariant = { λ s. Holds s.records.items s.pending.items s.top s.below.items };
 }
@@ -262,11 +266,12 @@ fn behind_first(records: &[GoalRecord], goals: usize) -> usize
     records[goals - 1].behind
 }
 
-/// Only the oldest points stay, so many. They and a newest point that needed none past `floor` need none past the number
-/// that is given.
+/// Only the oldest points stay, so many. They and a newest point that needed none past `floor` need none past the
+/// number that is given.
 fn drop_newer(below: &mut Vec<Held>, count: usize, floor: usize) -> usize
     ensures points { below.new.items ≡ take count below.old.items }
-    ensures floor { (assigned : ℕ) → Fits floor assigned (reverse below.old.items) → (result ≤ floor) × Fits result assigned (reverse below.new.items) }
+    ensures floor { (assigned : ℕ) → Fits floor assigned (reverse below.old.items) → (result ≤ floor)
+        × Fits result assigned (reverse below.new.items) }
 {
     if count >= below.len() {
         return floor;

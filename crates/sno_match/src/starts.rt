@@ -59,12 +59,14 @@ pub(crate) fn pass_failing_starts(
     }
 }
 
-/// The primitive that a pattern begins with, if it begins with one and there are steps to reach it from a further start.
+/// The primitive that a pattern begins with, if it begins with
+/// one and there are steps to reach it from a further start.
 fn head_of(patterns: &Patterns, pattern: PatId, left: u32) -> Option<Head>
     requires known { pattern.0 < length patterns.now }
     ensures known { IfSome result (λ head. head.id.0 < length patterns.now) }
     ensures primitive { IfSome result (λ head. IsPrimitive (tree patterns.now head.id.0)) }
-    ensures fails { IfSome result (λ head. FailsWith (tree patterns.now pattern.0) (tree patterns.now head.id.0) head.above) }
+    ensures fails { IfSome result
+        (λ head. FailsWith (tree patterns.now pattern.0) (tree patterns.now head.id.0) head.above) }
     ensures near { IfSome result (λ head. head.above ≤ left - 2) }
 {
     let mut head = Head {

@@ -1,5 +1,6 @@
 -- The ends of BAL.
-use Rattle.std.proofs.Common.{◌≡◌, ◌≢◌, ℕ, zero, suc, ◌+◌, ◌-◌, ◌<◌, ◌≤◌, ◌==◌, Bool, true, false, cond, if◌then◌else◌, Option, Some, None, List, [], ◌∷◌, ◌++◌, length, take, drop, get_or, filter, slice_get, refl, sym, ◌∙◌, ap, arith}
+use Rattle.std.proofs.Common.{◌≡◌, ◌≢◌, ℕ, zero, suc, ◌+◌, ◌-◌, ◌<◌, ◌≤◌, ◌==◌, Bool, true, false, cond, if◌then◌else◌, Option, Some, None, List, [], ◌∷◌, ◌++◌}
+use Rattle.std.proofs.Common.{length, take, drop, get_or, filter, slice_get, refl, sym, ◌∙◌, ap, arith}
 use Rattle.std.proofs.lemmas.Bool.{eqb-true, ne_eqb}
 use Rattle.std.proofs.lemmas.List.{take_more, get_or-drop, drop-drop, length-drop}
 use Rattle.std.proofs.Math.Seq.{take-add}
@@ -59,7 +60,8 @@ filter-none p c zero h = refl
 filter-none p c (suc n) h = rw (h c (omega arith)) (filter-none p (c + 1) n (λ b above. h b (omega arith)))
 
 ends_behind-unmatched : (s : List ℕ) (c e : ℕ) → c ≤ e → e < length s → depth_at s c (e + 1) ≡ None → ends_behind s c e ≡ []
-ends_behind-unmatched s c e h inside d = filter-none (is_end s c) (e + 1) (length s - e) (λ b above. ap none_open (depth_at-none s c (e + 1) b (omega arith) above d))
+ends_behind-unmatched s c e h inside d =
+    filter-none (is_end s c) (e + 1) (length s - e) (λ b above. ap none_open (depth_at-none s c (e + 1) b (omega arith) above d))
 
 ends_behind-found : (s : List ℕ) (c e : ℕ) → e < length s → depth_at s c (e + 1) ≡ Some 0 → ends_behind s c e ≡ (e + 1) ∷ ends_behind s c (e + 1)
 ends_behind-found s c e inside d =
@@ -98,17 +100,20 @@ open_after-small byte (suc depth) n h = go (byte == 40) (byte == 41) h
     go false true e = let is : n ≡ depth = cc in omega arith
     go false false e = let is : n ≡ suc depth = cc in omega arith
 
-pub balanced-unmatched : (s : List ℕ) (c e depth : ℕ) → c ≤ e → e < length s → IsOpen s c e depth → None ≡ open_after (get_or s e 0) depth → None ≡ slice_get (ends Bal s c) 0
+pub balanced-unmatched : (s : List ℕ) (c e depth : ℕ) → c ≤ e → e < length s → IsOpen s c e depth → None ≡ open_after (get_or s e 0) depth
+    → None ≡ slice_get (ends Bal s c) 0
 balanced-unmatched s c e depth h inside o at =
     let none = ends_behind-unmatched s c e h inside (depth_at-more s c e depth h inside o.here ∙ sym at) in
     sym (ap (λ (es : List ℕ). slice_get es 0) (o.none_yet ∙ none))
 
-pub balanced-found : (s : List ℕ) (c e depth : ℕ) → c ≤ e → e < length s → IsOpen s c e depth → Some 0 ≡ open_after (get_or s e 0) depth → Some (e + 1) ≡ slice_get (ends Bal s c) 0
+pub balanced-found : (s : List ℕ) (c e depth : ℕ) → c ≤ e → e < length s → IsOpen s c e depth → Some 0 ≡ open_after (get_or s e 0) depth
+    → Some (e + 1) ≡ slice_get (ends Bal s c) 0
 balanced-found s c e depth h inside o at =
     let found = ends_behind-found s c e inside (depth_at-more s c e depth h inside o.here ∙ sym at) in
     sym (ap (λ (es : List ℕ). slice_get es 0) (o.none_yet ∙ found))
 
-pub balanced-open : (s : List ℕ) (c e depth deeper : ℕ) → c ≤ e → e < length s → IsOpen s c e depth → Some deeper ≡ open_after (get_or s e 0) depth → deeper ≢ 0 → IsOpen s c (e + 1) deeper
+pub balanced-open : (s : List ℕ) (c e depth deeper : ℕ) → c ≤ e → e < length s → IsOpen s c e depth → Some deeper ≡ open_after (get_or s e 0) depth → deeper ≢ 0
+    → IsOpen s c (e + 1) deeper
 balanced-open s c e depth deeper h inside o at some =
     let next = depth_at-more s c e depth h inside o.here ∙ sym at in
     record {
@@ -180,11 +185,13 @@ is_end-shift s c e f h k t =
     ap none_open (depth_at-add s c e f h k ∙ ap (λ o. open_behind o (take (f - e) (drop e s))) closed)
 
 -- the end of BAL behind an end is the first from there
-pub balanced_next : (s : List ℕ) (c k e : ℕ) → c ≤ length s → slice_get (ends Bal s c) k ≡ Some e → slice_get (ends Bal s c) (suc k) ≡ slice_get (ends Bal s e) 0
+pub balanced_next : (s : List ℕ) (c k e : ℕ) → c ≤ length s → slice_get (ends Bal s c) k ≡ Some e → slice_get (ends Bal s c) (suc k)
+    ≡ slice_get (ends Bal s e) 0
 balanced_next s c k e h at =
     let m = filter-member (is_end s c) (c + 1) (length s - c) k e at in
     let n : c + 1 + (length s - c) - (e + 1) ≡ length s - e = omega arith in
-    (rw n at m.next) ∙ ap (λ (es : List ℕ). slice_get es 0) (filter-agree (is_end s c) (is_end s e) (e + 1) (length s - e) (λ f above. is_end-shift s c e f (omega (arith, m.above)) (omega arith) m.passes))
+    (rw n at m.next) ∙ ap (λ (es : List ℕ). slice_get es 0)
+    (filter-agree (is_end s c) (is_end s e) (e + 1) (length s - e) (λ f above. is_end-shift s c e f (omega (arith, m.above)) (omega arith) m.passes))
 
 -- nothing is behind the last member
 slice_get-none : (es : List ℕ) (k i : ℕ) → k ≤ i → slice_get es k ≡ None → slice_get es i ≡ None
@@ -212,6 +219,7 @@ IsNth-next s c k e f r h nth first is =
 pub none-first : (s : List ℕ) (c i : ℕ) (r q : Option ℕ) → r ≡ slice_get (ends Bal s c) 0 → r ≡ None → q ≡ None → q ≡ slice_get (ends Bal s c) i
 none-first s c i r q first is none = none ∙ sym (slice_get-none (ends Bal s c) 0 i (omega arith) (sym first ∙ is))
 
-pub none-next : (s : List ℕ) (c k e i : ℕ) (r q : Option ℕ) → c ≤ length s → IsNth s c k e → k < i → r ≡ slice_get (ends Bal s e) 0 → r ≡ None → q ≡ None → q ≡ slice_get (ends Bal s c) i
+pub none-next : (s : List ℕ) (c k e i : ℕ) (r q : Option ℕ) → c ≤ length s → IsNth s c k e → k < i → r ≡ slice_get (ends Bal s e) 0 → r ≡ None → q ≡ None
+    → q ≡ slice_get (ends Bal s c) i
 none-next s c k e i r q h nth before first is none =
     none ∙ sym (slice_get-none (ends Bal s c) (suc k) i (omega arith) (balanced_next s c k e h nth.member ∙ sym first ∙ is))

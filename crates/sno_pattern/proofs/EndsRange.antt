@@ -1,5 +1,6 @@
 -- The ends of a primitive rise, from the cursor up to the end of the subject.
-use Rattle.std.proofs.Common.{◌≡◌, ℕ, zero, suc, ◌+◌, ◌-◌, ◌<◌, ◌≤◌, ◌==◌, nat_eq, nat_le, ◌&&◌, not, Bool, true, false, if◌then◌else◌, cond, Option, Some, None, List, [], ◌∷◌, length, drop, take, filter, slice_get, refl, ap, arith, length-drop}
+use Rattle.std.proofs.Common.{◌≡◌, ℕ, zero, suc, ◌+◌, ◌-◌, ◌<◌, ◌≤◌, ◌==◌, nat_eq, nat_le, ◌&&◌, not, Bool, true, false, if◌then◌else◌, cond, Option, Some}
+use Rattle.std.proofs.Common.{None, List, [], ◌∷◌, length, drop, take, filter, slice_get, refl, ap, arith, length-drop}
 use Rattle.std.specs.List.{starts_with}
 use Rattle.std.specs.Cmp.Lexicographic.{pointwise}
 use Rattle.std.proofs.lemmas.Bool.{leb-true}
@@ -57,9 +58,11 @@ first_in-rises set low c z (byte ∷ bytes) h k = go (is_in set byte) (first_in-
 all_in-rises : (set : List ℕ) (low c z : ℕ) (bytes : List ℕ) → low ≤ c → c + length bytes ≤ z → Rises low z (all_in set c bytes)
 all_in-rises set low c z [] h k = tt
 all_in-rises set low c z (byte ∷ bytes) h k =
-    go (is_in set byte) (all_in-rises set (c + 1) (c + 1) z bytes (omega arith) (omega arith)) (all_in-rises set low (c + 1) z bytes (omega arith) (omega arith))
+    go (is_in set byte) (all_in-rises set (c + 1) (c + 1) z bytes (omega arith) (omega arith))
+    (all_in-rises set low (c + 1) z bytes (omega arith) (omega arith))
   where
-    go : (b : Bool) → Rises (c + 1) z (all_in set (c + 1) bytes) → Rises low z (all_in set (c + 1) bytes) → Rises low z (if b then c ∷ all_in set (c + 1) bytes else all_in set (c + 1) bytes)
+    go : (b : Bool) → Rises (c + 1) z (all_in set (c + 1) bytes) → Rises low z (all_in set (c + 1) bytes)
+        → Rises low z (if b then c ∷ all_in set (c + 1) bytes else all_in set (c + 1) bytes)
     go true more r = ((omega arith, omega arith), more)
     go false more r = r
 
@@ -95,11 +98,15 @@ ends-rise (Len n) s c h = end_if-rises c (length s) (nat_le (c + n) (length s)) 
 ends-rise (Pos n) s c h = end_if-rises c (length s) (c == n) c (λ e. (omega arith, h))
 ends-rise (Rpos n) s c h = end_if-rises c (length s) (c + n == length s) c (λ e. (omega arith, h))
 ends-rise (Tab n) s c h = end_if-rises c (length s) (nat_le c n && nat_le n (length s)) n
-    (λ e. let both : (nat_le c n ≡ true) × (nat_le n (length s) ≡ true) = first-of-and (nat_le c n) (nat_le n (length s)) e in (leb-true c n both.0, leb-true n (length s) both.1))
-ends-rise (Rtab n) s c h = end_if-rises c (length s) (nat_le (c + n) (length s)) (length s - n) (λ e. let k : c + n ≤ length s = leb-true (c + n) (length s) e in (omega arith, omega arith))
+    (λ e. let both : (nat_le c n ≡ true) × (nat_le n (length s) ≡ true) = first-of-and (nat_le c n) (nat_le n (length s)) e in
+    (leb-true c n both.0, leb-true n (length s) both.1))
+ends-rise (Rtab n) s c h =
+    end_if-rises c (length s) (nat_le (c + n) (length s)) (length s - n) (λ e. let k : c + n ≤ length s = leb-true (c + n) (length s) e in
+    (omega arith, omega arith))
 ends-rise (Any set) s c h = end_after-rises (is_in set) c (length s) (slice_get s c) (λ x e. slice_get_within s c x e)
 ends-rise (NotAny set) s c h = end_after-rises (λ byte. not (is_in set byte)) c (length s) (slice_get s c) (λ x e. slice_get_within s c x e)
-ends-rise (Span set) s c h = end_if-rises c (length s) (not (run_length set (drop c s) == 0)) (c + run_length set (drop c s)) (λ e. (omega arith, omega (arith, run_length-le set (drop c s), length-drop c s)))
+ends-rise (Span set) s c h = end_if-rises c (length s) (not (run_length set (drop c s) == 0)) (c + run_length set (drop c s))
+    (λ e. (omega arith, omega (arith, run_length-le set (drop c s), length-drop c s)))
 ends-rise (Break set) s c h = first_in-rises set c c (length s) (drop c s) (omega arith) (omega (arith, length-drop c s))
 ends-rise (BreakX set) s c h = all_in-rises set c c (length s) (drop c s) (omega arith) (omega (arith, length-drop c s))
 ends-rise Arb s c h = count_from-rises c (length s + 1 - c) (length s) (omega arith)

@@ -1,5 +1,6 @@
 -- Eight comparisons of a block of lanes, joined.
-use Rattle.std.proofs.Common.{◌≡◌, ℕ, ◌-◌, ◌%◌, ◌^◌, Bool, true, false, not, ◌||◌, cond, eqb, List, [], ◌∷◌, length, map, get_or, replicate, bit_or, refl, sym, ◌∙◌, ap, ap₂, arith, ⊎_elim}
+use Rattle.std.proofs.Common.{◌≡◌, ℕ, ◌-◌, ◌%◌, ◌^◌, Bool, true, false, not, ◌||◌, cond, eqb, List, [], ◌∷◌, length, map, get_or, replicate, bit_or, refl, sym}
+use Rattle.std.proofs.Common.{◌∙◌, ap, ap₂, arith, ⊎_elim}
 use Rattle.std.specs.Simd.Lanes.{zip2, mask_l, top}
 use Rattle.std.proofs.lemmas.Bool.{eq-eqb, ne_eqb}
 use Rattle.std.proofs.lemmas.Bool.Decides.{eqb_tells}
@@ -15,7 +16,8 @@ hit x y = cond (eqb x y) 255 0
 -- a lane of eight comparisons joined, with the list's bytes
 abbrev hits : List ℕ → ℕ → ℕ
 hits set x =
-    bit_or (bit_or (bit_or (bit_or (bit_or (bit_or (bit_or (hit x (get_or set 0 0)) (hit x (get_or set 1 0))) (hit x (get_or set 2 0))) (hit x (get_or set 3 0)))
+    bit_or (bit_or (bit_or (bit_or (bit_or (bit_or (bit_or (hit x (get_or set 0 0)) (hit x (get_or set 1 0))) (hit x (get_or set 2 0)))
+    (hit x (get_or set 3 0)))
     (hit x (get_or set 4 0))) (hit x (get_or set 5 0))) (hit x (get_or set 6 0))) (hit x (get_or set 7 0))
 
 or_hits : (s t : Bool) → bit_or (cond s 255 0) (cond t 255 0) ≡ cond (s || t) 255 0
@@ -44,7 +46,8 @@ any_of_eight false false false false false false false true = refl
 any_of_eight false false false false false false false false = refl
 
 joined : (a b c d e f g h : Bool) →
-    bit_or (bit_or (bit_or (bit_or (bit_or (bit_or (bit_or (cond a 255 0) (cond b 255 0)) (cond c 255 0)) (cond d 255 0)) (cond e 255 0)) (cond f 255 0)) (cond g 255 0)) (cond h 255 0)
+    bit_or (bit_or (bit_or (bit_or (bit_or (bit_or (bit_or (cond a 255 0) (cond b 255 0)) (cond c 255 0)) (cond d 255 0)) (cond e 255 0)) (cond f 255 0))
+    (cond g 255 0)) (cond h 255 0)
     ≡ cond (a || (b || (c || (d || (e || (f || (g || (h || false)))))))) 255 0
 joined a b c d e f g h =
     rw (
@@ -79,13 +82,21 @@ hits-is_in (a ∷ b ∷ c ∷ d ∷ e ∷ f ∷ g ∷ h ∷ i ∷ rest) eight x 
 -- the joined comparisons of a block
 abbrev compared : List ℕ → List ℕ → List ℕ
 compared v set =
-    zip2 bit_or (zip2 bit_or (zip2 bit_or (zip2 bit_or (zip2 bit_or (zip2 bit_or (zip2 bit_or (zip2 hit v (replicate 32 (get_or set 0 0))) (zip2 hit v (replicate 32 (get_or set 1 0)))) (zip2 hit v (replicate 32 (get_or set 2 0))))
-    (zip2 hit v (replicate 32 (get_or set 3 0)))) (zip2 hit v (replicate 32 (get_or set 4 0)))) (zip2 hit v (replicate 32 (get_or set 5 0)))) (zip2 hit v (replicate 32 (get_or set 6 0)))) (zip2 hit v (replicate 32 (get_or set 7 0)))
+    zip2 bit_or (zip2 bit_or
+    (zip2 bit_or (zip2 bit_or
+    (zip2 bit_or (zip2 bit_or (zip2 bit_or (zip2 hit v (replicate 32 (get_or set 0 0))) (zip2 hit v (replicate 32 (get_or set 1 0))))
+    (zip2 hit v (replicate 32 (get_or set 2 0))))
+    (zip2 hit v (replicate 32 (get_or set 3 0)))) (zip2 hit v (replicate 32 (get_or set 4 0)))) (zip2 hit v (replicate 32 (get_or set 5 0))))
+    (zip2 hit v (replicate 32 (get_or set 6 0)))) (zip2 hit v (replicate 32 (get_or set 7 0)))
 
 compared_is : (v set : List ℕ) → length v ≡ 32 → compared v set ≡ map (hits set) v
 compared_is v set long =
     let s = λ (k : ℕ). zip2_splat hit v 32 (get_or set k 0) long in
-    zip2_of_maps bit_or _ _ v (zip2_of_maps bit_or _ _ v (zip2_of_maps bit_or _ _ v (zip2_of_maps bit_or _ _ v (zip2_of_maps bit_or _ _ v (zip2_of_maps bit_or _ _ v (zip2_of_maps bit_or _ _ v (s 0) (s 1)) (s 2)) (s 3)) (s 4)) (s 5)) (s 6)) (s 7)
+    zip2_of_maps bit_or _ _ v
+    (zip2_of_maps bit_or _ _ v
+    (zip2_of_maps bit_or _ _ v
+    (zip2_of_maps bit_or _ _ v (zip2_of_maps bit_or _ _ v (zip2_of_maps bit_or _ _ v (zip2_of_maps bit_or _ _ v (s 0) (s 1)) (s 2)) (s 3)) (s 4)) (s 5))
+    (s 6)) (s 7)
 
 tops : (f : ℕ → ℕ) (p : ℕ → Bool) → ((x : ℕ) → top 7 (f x) ≡ p x) → (v : List ℕ) → map (top 7) (map f v) ≡ map p v
 tops f p same [] = refl
@@ -99,8 +110,10 @@ mask_inside v set long eight =
     ∙ mask_l-mod (map (is_in set) v) 64 (omega (arith, length-map v (is_in set)))
 
 -- and of those whose byte is not
-pub mask_outside : (v set : List ℕ) → length v ≡ 32 → length set ≡ 8 → mask_l (map (top 7) (map (λ x. 255 - x) (compared v set))) % 2 ^ 64 ≡ mask_l (map (passes false set) v)
+pub mask_outside : (v set : List ℕ) → length v ≡ 32 → length set ≡ 8 → mask_l (map (top 7) (map (λ x. 255 - x) (compared v set))) % 2 ^ 64
+    ≡ mask_l (map (passes false set) v)
 mask_outside v set long eight =
     ap (λ l. mask_l (map (top 7) l) % 2 ^ 64) (ap (map (λ x. 255 - x)) (compared_is v set long) ∙ map-map (λ x. 255 - x) (hits set) v)
-    ∙ ap (λ l. mask_l l % 2 ^ 64) (tops (λ x. 255 - hits set x) (λ x. not (is_in set x)) (λ x. ap (λ y. top 7 (255 - y)) (hits-is_in set eight x) ∙ top_miss (is_in set x)) v)
+    ∙ ap (λ l. mask_l l % 2 ^ 64)
+    (tops (λ x. 255 - hits set x) (λ x. not (is_in set x)) (λ x. ap (λ y. top 7 (255 - y)) (hits-is_in set eight x) ∙ top_miss (is_in set x)) v)
     ∙ mask_l-mod (map (λ x. not (is_in set x)) v) 64 (omega (arith, length-map v (λ x. not (is_in set x))))

@@ -1,5 +1,6 @@
 -- From each cursor of a run the first end is the same.
-use Rattle.std.proofs.Common.{◌≡◌, ◌≢◌, ℕ, zero, suc, ◌+◌, ◌-◌, ◌<◌, ◌≤◌, ◌==◌, Bool, true, false, not, if◌then◌else◌, Some, None, List, [], ◌∷◌, ◌++◌, Option, length, drop, get_or, slice_get, slice_set, refl, sym, ◌∙◌, ap, subst, arith, length-append, ◌⊎◌, inl, inr, ⊎_elim}
+use Rattle.std.proofs.Common.{◌≡◌, ◌≢◌, ℕ, zero, suc, ◌+◌, ◌-◌, ◌<◌, ◌≤◌, ◌==◌, Bool, true, false, not, if◌then◌else◌, Some, None, List, [], ◌∷◌, ◌++◌, Option}
+use Rattle.std.proofs.Common.{length, drop, get_or, slice_get, slice_set, refl, sym, ◌∙◌, ap, subst, arith, length-append, ◌⊎◌, inl, inr, ⊎_elim}
 use Rattle.std.specs.Prelude.{unwrap_or}
 use Rattle.std.specs.Option.{is_some}
 use Rattle.std.proofs.lemmas.Bool.{ne_eqb}
@@ -27,7 +28,8 @@ run_left set bytes zero h = omega arith
 run_left set [] (suc k) h = absurd (omega arith)
 run_left set (byte ∷ bytes) (suc k) h = go (is_in set byte) h (run_left set bytes k)
   where
-    go : (b : Bool) → suc k ≤ (if b then suc (run_length set bytes) else 0) → (k ≤ run_length set bytes → k + run_length set (drop k bytes) ≡ run_length set bytes) →
+    go : (b : Bool) → suc k ≤ (if b then suc (run_length set bytes) else 0)
+        → (k ≤ run_length set bytes → k + run_length set (drop k bytes) ≡ run_length set bytes) →
         suc k + run_length set (drop k bytes) ≡ (if b then suc (run_length set bytes) else 0)
     go true most left = omega (arith, left (omega arith))
     go false most left = absurd (omega arith)
@@ -53,7 +55,8 @@ span_run set s c e d at low high =
     let some : (run_length set (drop d s) == 0) ≡ false = ne_eqb (run_length set (drop d s)) 0 (λ z. omega (arith, is.1, same, z)) in
     ap (λ b. slice_get (end_if (not b) (d + run_length set (drop d s))) 0) some ∙ ap Some same
 
-first_behind : (set : List ℕ) (c : ℕ) (bytes : List ℕ) (k e : ℕ) → slice_get (first_in set c bytes) 0 ≡ Some e → c + k ≤ e → slice_get (first_in set (c + k) (drop k bytes)) 0 ≡ Some e
+first_behind : (set : List ℕ) (c : ℕ) (bytes : List ℕ) (k e : ℕ) → slice_get (first_in set c bytes) 0 ≡ Some e → c + k ≤ e
+    → slice_get (first_in set (c + k) (drop k bytes)) 0 ≡ Some e
 first_behind set c bytes zero e at h = let n : c + 0 ≡ c = omega arith in rw n at
 first_behind set c [] (suc k) e at h = absurd (cc)
 first_behind set c (byte ∷ bytes) (suc k) e at h = go (is_in set byte) at (first_behind set (c + 1) bytes k e)
@@ -67,7 +70,8 @@ first_behind set c (byte ∷ bytes) (suc k) e at h = go (is_in set byte) at (fir
     go true is later = let same : c ≡ e = cc in absurd (omega arith)
     go false is later = rw n (later is (omega arith))
 
-none_behind : (set : List ℕ) (c : ℕ) (bytes : List ℕ) (k : ℕ) → slice_get (first_in set c bytes) 0 ≡ None → slice_get (first_in set (c + k) (drop k bytes)) 0 ≡ None
+none_behind : (set : List ℕ) (c : ℕ) (bytes : List ℕ) (k : ℕ) → slice_get (first_in set c bytes) 0 ≡ None
+    → slice_get (first_in set (c + k) (drop k bytes)) 0 ≡ None
 none_behind set c bytes zero at = let n : c + 0 ≡ c = omega arith in rw n at
 none_behind set c [] (suc k) at = refl
 none_behind set c (byte ∷ bytes) (suc k) at = go (is_in set byte) at (none_behind set (c + 1) bytes k)
@@ -112,7 +116,8 @@ grown_run nodes more s run is = record {
 }
 
 pub true_grown : (nodes more : List Node) (s : List ℕ) (found : Found) → AreTrue nodes s found → AreTrue (nodes ++ more) s found
-true_grown nodes more s found are = record { eight = are.eight; each = λ slot other h. grown_run nodes more s (get_or found.runs slot other) (are.each slot other h); balance = are.balance }
+true_grown nodes more s found are =
+    record { eight = are.eight; each = λ slot other h. grown_run nodes more s (get_or found.runs slot other) (are.each slot other h); balance = are.balance }
 
 pub empty_run : (nodes : List Node) (s : List ℕ) (run : Run) → run.until < run.from → IsTrueRun nodes s run
 empty_run nodes s run h = record { known = λ some. absurd (omega arith); ends = λ c low high. absurd (omega arith) }
@@ -124,7 +129,8 @@ same_or_not (suc i) zero = inr (λ e. omega arith)
 same_or_not (suc i) (suc j) = ⊎_elim (λ e. inl (ap suc e)) (λ n. inr (λ e. n (omega arith))) (same_or_not i j)
 
 -- a true run in the place of one
-pub true_put : (nodes : List Node) (s first_ends : List ℕ) (runs : List Run) (slot : ℕ) (run : Run) → AreTrue nodes s (found_of runs first_ends) → IsTrueRun nodes s run → AreTrue nodes s (found_of (slice_set runs slot run) first_ends)
+pub true_put : (nodes : List Node) (s first_ends : List ℕ) (runs : List Run) (slot : ℕ) (run : Run) → AreTrue nodes s (found_of runs first_ends)
+    → IsTrueRun nodes s run → AreTrue nodes s (found_of (slice_set runs slot run) first_ends)
 true_put nodes s first_ends runs slot run are is = record {
   eight = length-set runs slot run ∙ are.eight;
   each = λ at other h. let long = length-set runs slot run in
@@ -136,48 +142,61 @@ true_put nodes s first_ends runs slot run are is = record {
 }
 
 -- what a run says from one of its cursors
-pub run_tells : (nodes : List Node) (s first_ends : List ℕ) (runs : List Run) (found : Found) (slot : ℕ) (other : Run) (id at : ℕ) → found_of runs first_ends ≡ found → AreTrue nodes s found → slot < 8 →
-    (get_or runs slot other).id.0 ≡ id → (get_or runs slot other).from ≤ at → at ≤ (get_or runs slot other).until → (get_or runs slot other).end ≡ end_of (tree nodes id) s at 0
+pub run_tells : (nodes : List Node) (s first_ends : List ℕ) (runs : List Run) (found : Found) (slot : ℕ) (other : Run) (id at : ℕ) → found_of runs first_ends
+    ≡ found → AreTrue nodes s found → slot < 8 →
+    (get_or runs slot other).id.0 ≡ id → (get_or runs slot other).from ≤ at → at ≤ (get_or runs slot other).until → (get_or runs slot other).end
+    ≡ end_of (tree nodes id) s at 0
 run_tells nodes s first_ends runs found slot other id at is are h same low high =
     let known = subst (AreTrue nodes s) (sym is) are in
     let one = known.each slot other (omega (arith, known.eight, h)) in
     sym (one.ends at low high) ∙ ap (λ n. end_of (tree nodes n) s at 0) same
 
 -- the same where a look says whether there is an end
-pub break_look : (set s : List ℕ) (c d : ℕ) (end : Option ℕ) → end ≡ slice_get (ends (Break set) s c) 0 → c ≤ d → d ≤ unwrap_or end (length s) → slice_get (ends (Break set) s d) 0 ≡ end
+pub break_look : (set s : List ℕ) (c d : ℕ) (end : Option ℕ) → end ≡ slice_get (ends (Break set) s c) 0 → c ≤ d → d ≤ unwrap_or end (length s)
+    → slice_get (ends (Break set) s d) 0 ≡ end
 break_look set s c d None at low high = break_none set s c d (sym at) low
 break_look set s c d (Some e) at low high = break_run set s c e d (sym at) low high
 
-pub stop_look : (set s : List ℕ) (c d : ℕ) (end : Option ℕ) → end ≡ slice_get (ends (BreakX set) s c) 0 → c ≤ d → d ≤ unwrap_or end (length s) → slice_get (ends (BreakX set) s d) 0 ≡ end
+pub stop_look : (set s : List ℕ) (c d : ℕ) (end : Option ℕ) → end ≡ slice_get (ends (BreakX set) s c) 0 → c ≤ d → d ≤ unwrap_or end (length s)
+    → slice_get (ends (BreakX set) s d) 0 ≡ end
 stop_look set s c d None at low high = stop_none set s c d (sym at) low
 stop_look set s c d (Some e) at low high = stop_run set s c e d (sym at) low high
 
 -- an entry of BREAKX stands for BREAKX
-pub is_stop : (entries : List Entry) (id : ℕ) (entry : Entry) (set : List ℕ) → IsTable entries → id < length entries → get_or entries id entry ≡ entry → entry.kind ≡ K.BreakX set → tree (nodes_of entries) id ≡ Leaf (BreakX set)
+pub is_stop : (entries : List Entry) (id : ℕ) (entry : Entry) (set : List ℕ) → IsTable entries → id < length entries → get_or entries id entry ≡ entry
+    → entry.kind ≡ K.BreakX set → tree (nodes_of entries) id ≡ Leaf (BreakX set)
 is_stop entries id entry set t h e is =
-    tree-at (nodes_of entries) id (node_of entry.kind) t.parts (node-at entries id entry h e) ∙ ap (λ (k : Kind). tree_over (trees_onto [] (nodes_of entries)) (node_of k)) is
+    tree-at (nodes_of entries) id (node_of entry.kind) t.parts (node-at entries id entry h e)
+    ∙ ap (λ (k : Kind). tree_over (trees_onto [] (nodes_of entries)) (node_of k)) is
 
 -- an entry of BAL stands for BAL
-pub is_bal : (entries : List Entry) (id : ℕ) (entry : Entry) → IsTable entries → id < length entries → get_or entries id entry ≡ entry → entry.kind ≡ K.Bal → tree (nodes_of entries) id ≡ Leaf Bal
+pub is_bal : (entries : List Entry) (id : ℕ) (entry : Entry) → IsTable entries → id < length entries → get_or entries id entry ≡ entry → entry.kind ≡ K.Bal
+    → tree (nodes_of entries) id ≡ Leaf Bal
 is_bal entries id entry t h e is =
-    tree-at (nodes_of entries) id (node_of entry.kind) t.parts (node-at entries id entry h e) ∙ ap (λ (k : Kind). tree_over (trees_onto [] (nodes_of entries)) (node_of k)) is
+    tree-at (nodes_of entries) id (node_of entry.kind) t.parts (node-at entries id entry h e)
+    ∙ ap (λ (k : Kind). tree_over (trees_onto [] (nodes_of entries)) (node_of k)) is
 
 -- the first end of BAL is that of its number
 pub bal_first : (pattern : Pattern) (s : List ℕ) (c : ℕ) (end : Option ℕ) → pattern ≡ Leaf Bal → end ≡ slice_get (ends Bal s c) 0 → end ≡ end_of pattern s c 0
 bal_first pattern s c end is looked = looked ∙ sym (ap (λ (t : Pattern). end_of t s c 0) is)
 
 -- behind an end of BAL the next is the first from there
-pub bal_next : (pattern : Pattern) (s : List ℕ) (c i last : ℕ) (end : Option ℕ) → c ≤ length s → pattern ≡ Leaf Bal → end ≡ slice_get (ends Bal s last) 0 → end_of pattern s c i ≡ Some last → end ≡ end_of pattern s c (i + 1)
+pub bal_next : (pattern : Pattern) (s : List ℕ) (c i last : ℕ) (end : Option ℕ) → c ≤ length s → pattern ≡ Leaf Bal → end ≡ slice_get (ends Bal s last) 0
+    → end_of pattern s c i ≡ Some last → end ≡ end_of pattern s c (i + 1)
 bal_next pattern s c i last end h is looked at =
     let more : suc i ≡ i + 1 = omega arith in
-    looked ∙ sym (balanced_next s c i last h (sym (ap (λ (t : Pattern). end_of t s c i) is) ∙ at)) ∙ ap (λ n. slice_get (ends Bal s c) n) more ∙ sym (ap (λ (t : Pattern). end_of t s c (i + 1)) is)
+    looked ∙ sym (balanced_next s c i last h (sym (ap (λ (t : Pattern). end_of t s c i) is) ∙ at)) ∙ ap (λ n. slice_get (ends Bal s c) n) more
+    ∙ sym (ap (λ (t : Pattern). end_of t s c (i + 1)) is)
 
 -- the first place of BAL is that of its number
-pub bal_place : (pattern : Pattern) (s : List ℕ) (from until place : ℕ) → pattern ≡ Leaf Bal → IsFirstPlace (leaf_has_end Bal s) from until place → IsFirstPlace (has_end pattern s) from until place
-bal_place pattern s from until place is first = same_place (leaf_has_end Bal s) (has_end pattern s) from until place (λ c. sym (ap (λ (t : Pattern). has_end t s c) is)) first
+pub bal_place : (pattern : Pattern) (s : List ℕ) (from until place : ℕ) → pattern ≡ Leaf Bal → IsFirstPlace (leaf_has_end Bal s) from until place
+    → IsFirstPlace (has_end pattern s) from until place
+bal_place pattern s from until place is first =
+    same_place (leaf_has_end Bal s) (has_end pattern s) from until place (λ c. sym (ap (λ (t : Pattern). has_end t s c) is)) first
 
 -- one place more from which BAL has no end
-pub no_place : (s : List ℕ) (from place : ℕ) (end : Option ℕ) → ((c : ℕ) → from ≤ c → c < place → leaf_has_end Bal s c ≡ false) → end ≡ slice_get (ends Bal s place) 0 → is_some end ≡ false →
+pub no_place : (s : List ℕ) (from place : ℕ) (end : Option ℕ) → ((c : ℕ) → from ≤ c → c < place → leaf_has_end Bal s c ≡ false)
+    → end ≡ slice_get (ends Bal s place) 0 → is_some end ≡ false →
     (c : ℕ) → from ≤ c → c < place + 1 → leaf_has_end Bal s c ≡ false
 no_place s from place end none is fails c low high =
     ⊎_elim
@@ -186,18 +205,22 @@ no_place s from place end none is fails c low high =
     (below_or_not c place)
 
 -- behind an end of BREAKX the next is the first from the byte behind it
-pub stop_next : (pattern : Pattern) (set s : List ℕ) (c i last : ℕ) (end : Option ℕ) → pattern ≡ Leaf (BreakX set) → end ≡ end_of pattern s (last + 1) 0 → end_of pattern s c i ≡ Some last → end ≡ end_of pattern s c (i + 1)
+pub stop_next : (pattern : Pattern) (set s : List ℕ) (c i last : ℕ) (end : Option ℕ) → pattern ≡ Leaf (BreakX set) → end ≡ end_of pattern s (last + 1) 0
+    → end_of pattern s c i ≡ Some last → end ≡ end_of pattern s c (i + 1)
 stop_next pattern set s c i last end is looked at =
-    looked ∙ ap (λ (t : Pattern). end_of t s (last + 1) 0) is ∙ sym (stop_behind set s c i last (sym (ap (λ (t : Pattern). end_of t s c i) is) ∙ at)) ∙ sym (ap (λ (t : Pattern). end_of t s c (i + 1)) is)
+    looked ∙ ap (λ (t : Pattern). end_of t s (last + 1) 0) is ∙ sym (stop_behind set s c i last (sym (ap (λ (t : Pattern). end_of t s c i) is) ∙ at))
+    ∙ sym (ap (λ (t : Pattern). end_of t s c (i + 1)) is)
 
 -- the first ends of an entry are those of its number
-pub of_entry : (entries : List Entry) (nodes : List Node) (id : ℕ) (entry : Entry) (s : List ℕ) (c : ℕ) → nodes_of entries ≡ nodes → IsTable entries → id < length nodes → get_or entries id entry ≡ entry →
+pub of_entry : (entries : List Entry) (nodes : List Node) (id : ℕ) (entry : Entry) (s : List ℕ) (c : ℕ) → nodes_of entries ≡ nodes → IsTable entries
+    → id < length nodes → get_or entries id entry ≡ entry →
     end_of_node (node_of entry.kind) s c 0 ≡ end_of (tree nodes id) s c 0
 of_entry entries nodes id entry s c is t h e =
     let fits : id < length entries = omega (arith, length-nodes entries, ap length is, h) in
     end_of-kind entries id entry s c 0 t fits e ∙ ap (λ (n : List Node). end_of (tree n id) s c 0) is
 
 -- what was found out of a node is true of its number
-pub run_of_node : (nodes : List Node) (node : Node) (s : List ℕ) (run : Run) → run.id.0 < length nodes → ((c : ℕ) → end_of_node node s c 0 ≡ end_of (tree nodes run.id.0) s c 0) →
+pub run_of_node : (nodes : List Node) (node : Node) (s : List ℕ) (run : Run) → run.id.0 < length nodes
+    → ((c : ℕ) → end_of_node node s c 0 ≡ end_of (tree nodes run.id.0) s c 0) →
     ((c : ℕ) → run.from ≤ c → c ≤ run.until → end_of_node node s c 0 ≡ run.end) → IsTrueRun nodes s run
 run_of_node nodes node s run known same ends = record { known = λ _. known; ends = λ c low high. sym (same c) ∙ ends c low high }

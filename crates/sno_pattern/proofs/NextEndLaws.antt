@@ -1,5 +1,6 @@
 -- The end that is tried after another.
-use Rattle.std.proofs.Common.{◌≡◌, ℕ, zero, suc, ◌+◌, ◌-◌, ◌<◌, ◌≤◌, nat_lt, true, false, Some, None, List, [], ◌∷◌, length, get_or, slice_get, Contains, refl, sym, ◌∙◌, ap, arith}
+use Rattle.std.proofs.Common.{◌≡◌, ℕ, zero, suc, ◌+◌, ◌-◌, ◌<◌, ◌≤◌, nat_lt, true, false, Some, None, List, [], ◌∷◌, length, get_or, slice_get, Contains, refl}
+use Rattle.std.proofs.Common.{sym, ◌∙◌, ap, arith}
 use Rattle.std.proofs.lemmas.Bool.{lt-ltb, le-ltb}
 use Rattle.sno_pattern.specs.Pattern.{Pattern, Arb, Leaf}
 use Rattle.sno_pattern.specs.Ends.{count_from, ends}
@@ -33,7 +34,8 @@ first_above-next low z (e ∷ es) (suc k) last r at =
     rw not_above (first_above-next (e + 1) z es k last r.1 at)
 
 -- the end with the next number is the next end
-pub next_end-at : (pattern : Pattern) (s : List ℕ) (c i last : ℕ) → c ≤ length s → end_of pattern s c i ≡ Some last → next_end pattern s c last ≡ end_of pattern s c (i + 1)
+pub next_end-at : (pattern : Pattern) (s : List ℕ) (c i last : ℕ) → c ≤ length s → end_of pattern s c i ≡ Some last → next_end pattern s c last
+    ≡ end_of pattern s c (i + 1)
 next_end-at pattern s c i last h at =
     let more : i + 1 ≡ suc i = omega arith in
     rw (more, end_of-ends_of pattern s c (suc i))
@@ -67,7 +69,8 @@ arb-number c zero k last at = cc
 arb-number c (suc n) zero last at = let same : c ≡ last = cc in (omega arith, omega arith)
 arb-number c (suc n) (suc k) last at = let m = arb-number (c + 1) n k last at in (omega (arith, m.0), omega (arith, m.1))
 
-pub arb-next : (s : List ℕ) (c k last : ℕ) → c ≤ length s → slice_get (ends Arb s c) k ≡ Some last → last < length s → Some (last + 1) ≡ slice_get (ends Arb s c) (k + 1)
+pub arb-next : (s : List ℕ) (c k last : ℕ) → c ≤ length s → slice_get (ends Arb s c) k ≡ Some last → last < length s
+    → Some (last + 1) ≡ slice_get (ends Arb s c) (k + 1)
 arb-next s c k last h at below =
     let m = arb-number c (length s + 1 - c) k last at in
     let n : last + 1 ≡ c + (k + 1) = omega (arith, m.0) in

@@ -1,5 +1,6 @@
 -- The next place at which a primitive has an end.
-use Rattle.std.proofs.Common.{◌≡◌, ℕ, zero, suc, ◌+◌, ◌-◌, ◌<◌, ◌≤◌, ◌==◌, nat_eq, Bool, true, false, not, ◌||◌, cond, if◌then◌else◌, Some, None, List, [], ◌∷◌, length, min, take, drop, get_or, position, slice_get, slice_index, refl, sym, ◌∙◌, ap, arith, ◌⊎◌, inl, inr, ⊎_elim}
+use Rattle.std.proofs.Common.{◌≡◌, ℕ, zero, suc, ◌+◌, ◌-◌, ◌<◌, ◌≤◌, ◌==◌, nat_eq, Bool, true, false, not, ◌||◌, cond, if◌then◌else◌, Some, None, List, [], ◌∷◌}
+use Rattle.std.proofs.Common.{length, min, take, drop, get_or, position, slice_get, slice_index, refl, sym, ◌∙◌, ap, arith, ◌⊎◌, inl, inr, ⊎_elim}
 use Rattle.std.specs.Option.{is_some}
 use Rattle.std.specs.List.{position_from, starts_with}
 use Rattle.std.proofs.lemmas.Bool.{eq-eqb, ne_eqb}
@@ -98,7 +99,8 @@ module _ (p : ℕ → Bool) (s : List ℕ) (from until : ℕ) where
 
 -- where a text stands, there stands its first byte
 module _ (byte : ℕ) (rest : List ℕ) where
-  starts : (s : List ℕ) (c k : ℕ) → is_some (slice_get (end_after (λ b. b == byte) (slice_get s c) k) 0) ≡ false → starts_with nat_eq (drop c s) (byte ∷ rest) ≡ false
+  starts : (s : List ℕ) (c k : ℕ) → is_some (slice_get (end_after (λ b. b == byte) (slice_get s c) k) 0) ≡ false
+      → starts_with nat_eq (drop c s) (byte ∷ rest) ≡ false
   starts [] zero k h = refl
   starts [] (suc c) k h = refl
   starts (x ∷ s) zero k h =
@@ -110,13 +112,15 @@ module _ (byte : ℕ) (rest : List ℕ) where
   text_begins : (s : List ℕ) (c : ℕ) → byte_passes (λ b. b == byte) s c ≡ false → leaf_has_end (Text (byte ∷ rest)) s c ≡ false
   text_begins s c h = end_if-some (starts_with nat_eq (drop c s) (byte ∷ rest)) (c + length (byte ∷ rest)) ∙ starts s c c h
 
-first_byte : (text s : List ℕ) (c : ℕ) → (length text == 0) ≡ false → byte_passes (λ b. b == slice_index text 0) s c ≡ false → leaf_has_end (Text text) s c ≡ false
+first_byte : (text s : List ℕ) (c : ℕ) → (length text == 0) ≡ false → byte_passes (λ b. b == slice_index text 0) s c ≡ false
+    → leaf_has_end (Text text) s c ≡ false
 first_byte [] s c some h = absurd (true_or_false (sym (eq-eqb 0 0 refl) ∙ some))
 first_byte (byte ∷ rest) s c some h = text_begins byte rest s c h
 
 module _ (text s : List ℕ) (some : (length text == 0) ≡ false) (until : ℕ) where
   -- before the first place of its first byte there stands no text
-  pub text_first : (from next : ℕ) → IsFirstPlace (byte_passes (λ b. b == slice_index text 0) s) from until next → (c : ℕ) → from ≤ c → c < next → leaf_has_end (Text text) s c ≡ false
+  pub text_first : (from next : ℕ) → IsFirstPlace (byte_passes (λ b. b == slice_index text 0) s) from until next → (c : ℕ) → from ≤ c → c < next
+      → leaf_has_end (Text text) s c ≡ false
   text_first from next first c low high = first_byte text s c some (first.none c low high)
 
   -- nor is there one before the next place of that byte
@@ -124,14 +128,16 @@ module _ (text s : List ℕ) (some : (length text == 0) ≡ false) (until : ℕ)
       IsFirstPlace (byte_passes (λ b. b == slice_index text 0) s) (place + 1) until next → (c : ℕ) → from ≤ c → c < next → leaf_has_end (Text text) s c ≡ false
   text_next from place next none here first c low high =
       ⊎_elim (λ below. none c low below)
-      (λ above. ⊎_elim (λ same. rw (← same) here) (λ behind. text_first (place + 1) next first c (omega (arith, behind)) high) (here_or_behind place c above)) (below_or_not c place)
+      (λ above. ⊎_elim (λ same. rw (← same) here) (λ behind. text_first (place + 1) next first c (omega (arith, behind)) high) (here_or_behind place c above))
+      (below_or_not c place)
 
 -- where a text does not stand
 pub not_there : (text s : List ℕ) (c : ℕ) → starts_with nat_eq (take (length s - c) (drop c s)) text ≡ false → leaf_has_end (Text text) s c ≡ false
 not_there text s c h = end_if-some (starts_with nat_eq (drop c s) text) (c + length text) ∙ (rw (take_rest s c) at h)
 
 -- a run of bytes of a set begins where one of them stands
-span_begins : (set s : List ℕ) (c : ℕ) (low high : ℕ) → is_some (slice_get (end_after (is_in set) (slice_get s c) low) 0) ≡ is_some (slice_get (end_if (not (run_length set (drop c s) == 0)) high) 0)
+span_begins : (set s : List ℕ) (c : ℕ) (low high : ℕ) → is_some (slice_get (end_after (is_in set) (slice_get s c) low) 0)
+    ≡ is_some (slice_get (end_if (not (run_length set (drop c s) == 0)) high) 0)
 span_begins set [] zero low high = refl
 span_begins set [] (suc c) low high = refl
 span_begins set (x ∷ s) zero low high = go (is_in set x)
@@ -144,7 +150,8 @@ span_begins set (x ∷ s) zero low high = go (is_in set x)
     go false = refl
 span_begins set (x ∷ s) (suc c) low high = span_begins set s c low high
 
-pub span_place : (set s : List ℕ) (from until place : ℕ) → IsFirstPlace (leaf_has_end (Any set) s) from until place → IsFirstPlace (leaf_has_end (Span set) s) from until place
+pub span_place : (set s : List ℕ) (from until place : ℕ) → IsFirstPlace (leaf_has_end (Any set) s) from until place
+    → IsFirstPlace (leaf_has_end (Span set) s) from until place
 span_place set s from until place first =
     same_place (leaf_has_end (Any set) s) (leaf_has_end (Span set) s) from until place (λ c. span_begins set s c c (c + run_length set (drop c s))) first
 
@@ -153,7 +160,8 @@ none_at_all : (set : List ℕ) (k n : ℕ) (s : List ℕ) → None ≡ slice_get
 none_at_all set k n [] e = refl
 none_at_all set k n (x ∷ s) e = go (is_in set x) e (none_at_all set (k + 1) (n + 1) s)
   where
-    go : (b : Bool) → None ≡ slice_get (if b then k ∷ [] else first_in set (k + 1) s) 0 → (None ≡ slice_get (first_in set (k + 1) s) 0 → is_some (slice_get (first_in set (n + 1) s) 0) ≡ false) →
+    go : (b : Bool) → None ≡ slice_get (if b then k ∷ [] else first_in set (k + 1) s) 0
+        → (None ≡ slice_get (first_in set (k + 1) s) 0 → is_some (slice_get (first_in set (n + 1) s) 0) ≡ false) →
         is_some (slice_get (if b then n ∷ [] else first_in set (n + 1) s) 0) ≡ false
     go true none behind = absurd (cc)
     go false none behind = behind none
@@ -166,7 +174,8 @@ none_behind set k x s e = go (is_in set x) e
     go false none = none
 
 -- where a byte of a set is ahead of no place, it is ahead of no later one
-none_later : (set : List ℕ) (c d k n : ℕ) (s : List ℕ) → c ≤ d → None ≡ slice_get (first_in set k (drop c s)) 0 → is_some (slice_get (first_in set n (drop d s)) 0) ≡ false
+none_later : (set : List ℕ) (c d k n : ℕ) (s : List ℕ) → c ≤ d → None ≡ slice_get (first_in set k (drop c s)) 0
+    → is_some (slice_get (first_in set n (drop d s)) 0) ≡ false
 none_later set zero zero k n s h e = none_at_all set k n s e
 none_later set zero (suc d) k n [] h e = refl
 none_later set zero (suc d) k n (x ∷ s) h e = none_later set zero d (k + 1) n s (omega arith) (none_behind set k x s e)
@@ -174,7 +183,8 @@ none_later set (suc c) zero k n s h e = absurd (omega arith)
 none_later set (suc c) (suc d) k n [] h e = refl
 none_later set (suc c) (suc d) k n (x ∷ s) h e = none_later set c d k n s (omega arith) e
 
-pub break_place_here : (set s : List ℕ) (from until end : ℕ) → from ≤ until → Some end ≡ slice_get (first_in set from (drop from s)) 0 → IsFirstPlace (leaf_has_end (Break set) s) from until from
+pub break_place_here : (set s : List ℕ) (from until end : ℕ) → from ≤ until → Some end ≡ slice_get (first_in set from (drop from s)) 0
+    → IsFirstPlace (leaf_has_end (Break set) s) from until from
 break_place_here set s from until end range e = record {
   behind = omega arith;
   before = range;
@@ -182,7 +192,8 @@ break_place_here set s from until end range e = record {
   found = λ high. ap is_some (sym e);
 }
 
-pub break_place_none : (set s : List ℕ) (from until : ℕ) → from ≤ until → None ≡ slice_get (first_in set from (drop from s)) 0 → IsFirstPlace (leaf_has_end (Break set) s) from until until
+pub break_place_none : (set s : List ℕ) (from until : ℕ) → from ≤ until → None ≡ slice_get (first_in set from (drop from s)) 0
+    → IsFirstPlace (leaf_has_end (Break set) s) from until until
 break_place_none set s from until range e = record {
   behind = range;
   before = omega arith;
@@ -191,7 +202,8 @@ break_place_none set s from until range e = record {
 }
 
 -- eight times the same byte
-pub same_eight : (byte : ℕ) (bytes : List ℕ) → position (is_in (byte ∷ byte ∷ byte ∷ byte ∷ byte ∷ byte ∷ byte ∷ byte ∷ [])) bytes ≡ position (λ b. b == byte) bytes
+pub same_eight : (byte : ℕ) (bytes : List ℕ) → position (is_in (byte ∷ byte ∷ byte ∷ byte ∷ byte ∷ byte ∷ byte ∷ byte ∷ [])) bytes
+    ≡ position (λ b. b == byte) bytes
 same_eight byte bytes = ap (λ (p : ℕ → Bool). position p bytes) (λ i b. same b i)
   where
     once : (t : Bool) → (t || (t || (t || (t || (t || (t || (t || (t || false)))))))) ≡ t

@@ -1,5 +1,6 @@
 -- Runs of bytes of a set.
-use Rattle.std.proofs.Common.{◌≡◌, ℕ, suc, ◌+◌, Bool, true, false, not, cond, if◌then◌else◌, Some, None, ◌≢◌, ◌==◌, List, [], ◌∷◌, length, take, drop, ◌-◌, position, slice_get, option_map, refl, ◌∙◌, ap, arith}
+use Rattle.std.proofs.Common.{◌≡◌, ℕ, suc, ◌+◌, Bool, true, false, not, cond, if◌then◌else◌, Some, None, ◌≢◌, ◌==◌, List, [], ◌∷◌, length, take, drop, ◌-◌}
+use Rattle.std.proofs.Common.{position, slice_get, option_map, refl, ◌∙◌, ap, arith}
 use Rattle.std.specs.Prelude.{unwrap_or}
 use Rattle.std.specs.List.{position_from}
 use Rattle.std.proofs.lemmas.Bool.{ne_eqb}
@@ -7,12 +8,14 @@ use Rattle.std.proofs.lemmas.List.{take_rest}
 use Rattle.std.proofs.lemmas.Iterator.Adapters.{position_from-zero}
 use Rattle.sno_pattern.specs.Ends.{is_in, end_if, run_length, first_in}
 
-run_from : (set : List ℕ) (i : ℕ) (bytes : List ℕ) → unwrap_or (position_from (λ byte. not (is_in set byte)) i bytes) (i + length bytes) ≡ i + run_length set bytes
+run_from : (set : List ℕ) (i : ℕ) (bytes : List ℕ) → unwrap_or (position_from (λ byte. not (is_in set byte)) i bytes) (i + length bytes)
+    ≡ i + run_length set bytes
 run_from set i [] = refl
 run_from set i (byte ∷ bytes) = go (is_in set byte) (run_from set (i + 1) bytes)
   where
     go : (b : Bool) → unwrap_or (position_from (λ byte. not (is_in set byte)) (i + 1) bytes) (i + 1 + length bytes) ≡ i + 1 + run_length set bytes →
-        unwrap_or (cond (not b) (Some i) (position_from (λ byte. not (is_in set byte)) (i + 1) bytes)) (i + suc (length bytes)) ≡ i + (if b then suc (run_length set bytes) else 0)
+        unwrap_or (cond (not b) (Some i) (position_from (λ byte. not (is_in set byte)) (i + 1) bytes)) (i + suc (length bytes))
+        ≡ i + (if b then suc (run_length set bytes) else 0)
     go true h =
         let left : i + suc (length bytes) ≡ i + 1 + length bytes = omega arith in
         let right : i + suc (run_length set bytes) ≡ i + 1 + run_length set bytes = omega arith in
@@ -32,7 +35,8 @@ first_from set c i [] = refl
 first_from set c i (byte ∷ bytes) = go (is_in set byte) (let e : c + (i + 1) ≡ c + i + 1 = omega arith in rw e at (first_from set c (i + 1) bytes))
   where
     go : (b : Bool) → option_map (λ n. c + n) (position_from (is_in set) (i + 1) bytes) ≡ slice_get (first_in set (c + i + 1) bytes) 0 →
-        option_map (λ n. c + n) (cond b (Some i) (position_from (is_in set) (i + 1) bytes)) ≡ slice_get (if b then (c + i) ∷ [] else first_in set (c + i + 1) bytes) 0
+        option_map (λ n. c + n) (cond b (Some i) (position_from (is_in set) (i + 1) bytes))
+        ≡ slice_get (if b then (c + i) ∷ [] else first_in set (c + i + 1) bytes) 0
     go true h = refl
     go false h = h
 

@@ -1,5 +1,6 @@
 -- Where the first byte that passes stands, part by part.
-use Rattle.std.proofs.Common.{◌≡◌, ◌≢◌, ℕ, suc, ◌+◌, ◌*◌, ◌-◌, ◌<◌, ◌≤◌, Bool, true, false, not, cond, ltb, Some, None, Option, List, [], ◌∷◌, ◌++◌, length, take, drop, map, position, option_map, refl, sym, ◌∙◌, ap, arith}
+use Rattle.std.proofs.Common.{◌≡◌, ◌≢◌, ℕ, suc, ◌+◌, ◌*◌, ◌-◌, ◌<◌, ◌≤◌, Bool, true, false, not, cond, ltb, Some, None, Option, List, [], ◌∷◌, ◌++◌, length}
+use Rattle.std.proofs.Common.{take, drop, map, position, option_map, refl, sym, ◌∙◌, ap, arith}
 use Rattle.std.specs.List.{position_from, position_or_len}
 use Rattle.std.specs.Simd.Lanes.{mask_l}
 use Rattle.std.proofs.lemmas.Bool.{lt-ltb, le-ltb}
@@ -22,7 +23,8 @@ from_found : (p : ℕ → Bool) (i : ℕ) (xs ys : List ℕ) (n : ℕ) → posit
 from_found p i [] ys n e = absurd (cc)
 from_found p i (x ∷ xs) ys n e = go (p x) e (from_found p (i + 1) xs ys n)
   where
-    go : (b : Bool) → cond b (Some i) (position_from p (i + 1) xs) ≡ Some n → (position_from p (i + 1) xs ≡ Some n → position_from p (i + 1) (xs ++ ys) ≡ Some n) →
+    go : (b : Bool) → cond b (Some i) (position_from p (i + 1) xs) ≡ Some n
+        → (position_from p (i + 1) xs ≡ Some n → position_from p (i + 1) (xs ++ ys) ≡ Some n) →
         cond b (Some i) (position_from p (i + 1) (xs ++ ys)) ≡ Some n
     go true e rest = e
     go false e rest = rest e
@@ -33,7 +35,8 @@ from_passed p i (x ∷ xs) ys e =
     let same : i + 1 + length xs ≡ i + suc (length xs) = omega arith in
     go (p x) e (λ none. rw same at (from_passed p (i + 1) xs ys none))
   where
-    go : (b : Bool) → cond b (Some i) (position_from p (i + 1) xs) ≡ None → (position_from p (i + 1) xs ≡ None → position_from p (i + 1) (xs ++ ys) ≡ position_from p (i + suc (length xs)) ys) →
+    go : (b : Bool) → cond b (Some i) (position_from p (i + 1) xs) ≡ None
+        → (position_from p (i + 1) xs ≡ None → position_from p (i + 1) (xs ++ ys) ≡ position_from p (i + suc (length xs)) ys) →
         cond b (Some i) (position_from p (i + 1) (xs ++ ys)) ≡ position_from p (i + suc (length xs)) ys
     go true e rest = absurd (cc)
     go false e rest = rest e
@@ -52,7 +55,8 @@ passed_before p xs ys e =
     ∙ (rw zero_right at (from_shifted p (length xs) 0 ys)) ∙ ap (option_map (λ n. length xs + n)) (sym (position_from-zero p ys))
 
 -- what is found of a part that begins at a place
-pub found_at : (p : ℕ → Bool) (bytes : List ℕ) (at k n : ℕ) → position p bytes ≡ option_map (λ m. at + m) (position p (drop at bytes)) → Some n ≡ position p (take k (drop at bytes)) →
+pub found_at : (p : ℕ → Bool) (bytes : List ℕ) (at k n : ℕ) → position p bytes ≡ option_map (λ m. at + m) (position p (drop at bytes))
+    → Some n ≡ position p (take k (drop at bytes)) →
     Some (at + n) ≡ position p bytes
 found_at p bytes at k n searched e =
     let found : position p (drop at bytes) ≡ Some n =
@@ -71,7 +75,8 @@ passed_at p bytes at k inside searched e =
     let long : length (take k ys) ≡ k = omega (arith, length-take k ys, length-drop at bytes) in
     let passed : position p ys ≡ option_map (λ m. k + m) (position p (drop k ys)) =
     ap (position p) (sym (take-append-drop k ys)) ∙ (rw long at (passed_before p (take k ys) (drop k ys) (sym e))) in
-    searched ∙ ap (option_map (λ m. at + m)) passed ∙ option_map-add at k (position p (drop k ys)) ∙ ap (λ xs. option_map (λ m. at + k + m) (position p xs)) (drop-drop k at bytes)
+    searched ∙ ap (option_map (λ m. at + m)) passed ∙ option_map-add at k (position p (drop k ys))
+    ∙ ap (λ xs. option_map (λ m. at + k + m) (position p xs)) (drop-drop k at bytes)
 
 pub searched_none : (p : ℕ → Bool) (bytes : List ℕ) → position p bytes ≡ option_map (λ m. 0 + m) (position p (drop 0 bytes))
 searched_none p bytes = go (position p bytes)
@@ -102,7 +107,8 @@ no_lane p xs mask none e =
     rw past refl
 
 -- else the lowest bit is the first lane that passes
-pub first_lane : (p : ℕ → Bool) (xs : List ℕ) (mask : ℕ) → length xs ≤ 64 → mask ≢ 0 → mask ≡ mask_l (map p xs) → Some (count_trailing_zeros 64 mask) ≡ position p xs
+pub first_lane : (p : ℕ → Bool) (xs : List ℕ) (mask : ℕ) → length xs ≤ 64 → mask ≢ 0 → mask ≡ mask_l (map p xs)
+    → Some (count_trailing_zeros 64 mask) ≡ position p xs
 first_lane p xs mask few some e =
     let lowest : count_trailing_zeros 64 mask ≡ position_or_len p xs = ap (count_trailing_zeros 64) e ∙ trailing_mask_l p 64 xs few (omega arith) in
     let apart : position_or_len p xs ≢ length xs = λ all. some (e ∙ none_set p xs all) in
@@ -114,7 +120,8 @@ first_lane p xs mask few some e =
 pub found_near : (p : ℕ → Bool) (bytes : List ℕ) (k n : ℕ) → Some n ≡ position p (take k bytes) → Some n ≡ position p bytes
 found_near p bytes k n e = sym (ap (position p) (sym (take-append-drop k bytes)) ∙ found_before p (take k bytes) (drop k bytes) n (sym e))
 
-pub passed_near : (p : ℕ → Bool) (bytes : List ℕ) (k : ℕ) (o : Option ℕ) → k ≤ length bytes → None ≡ position p (take k bytes) → o ≡ position p (take (length bytes - k) (drop k bytes)) →
+pub passed_near : (p : ℕ → Bool) (bytes : List ℕ) (k : ℕ) (o : Option ℕ) → k ≤ length bytes → None ≡ position p (take k bytes)
+    → o ≡ position p (take (length bytes - k) (drop k bytes)) →
     option_map (λ m. k + m) o ≡ position p bytes
 passed_near p bytes k o inside none e =
     let long : length (take k bytes) ≡ k = omega (arith, length-take k bytes) in

@@ -1,5 +1,6 @@
 -- Sets of bytes.
-use Rattle.std.proofs.Common.{◌≡◌, ◌≢◌, ℕ, zero, suc, ◌+◌, ◌*◌, ◌/◌, ◌%◌, ◌^◌, ◌<◌, ◌≤◌, ◌==◌, Bool, true, false, ◌||◌, cond, List, [], ◌∷◌, length, take, get_or, filter, slice_index, slice_set, bit_or, refl, sym, ◌∙◌, ap, arith, ◌⊎◌, inl, inr, ⊎_elim, w64}
+use Rattle.std.proofs.Common.{◌≡◌, ◌≢◌, ℕ, zero, suc, ◌+◌, ◌*◌, ◌/◌, ◌%◌, ◌^◌, ◌<◌, ◌≤◌, ◌==◌, Bool, true, false, ◌||◌, cond, List, [], ◌∷◌, length, take}
+use Rattle.std.proofs.Common.{get_or, filter, slice_index, slice_set, bit_or, refl, sym, ◌∙◌, ap, arith, ◌⊎◌, inl, inr, ⊎_elim, w64}
 use Rattle.std.proofs.lemmas.Bool.{eq-eqb, ne_eqb, eqb-true}
 use Rattle.std.proofs.lemmas.Bool.Decides.{eqb_tells}
 use Rattle.std.proofs.lemmas.List.{get_or-set_same, get_or-set_other, take_more}
@@ -25,7 +26,8 @@ before-count p c (suc n) b h = go (p c) (before-count p (c + 1) n b (omega arith
     apart : (c == b) ≡ false
     apart = ne_eqb c b (λ e. omega arith)
 
-    go : (t : Bool) → is_in (filter p (count_from (c + 1) n)) b ≡ false → is_in (cond t (c ∷ filter p (count_from (c + 1) n)) (filter p (count_from (c + 1) n))) b ≡ false
+    go : (t : Bool) → is_in (filter p (count_from (c + 1) n)) b ≡ false
+        → is_in (cond t (c ∷ filter p (count_from (c + 1) n)) (filter p (count_from (c + 1) n))) b ≡ false
     go true e = rw (apart, e) refl
     go false e = e
 
@@ -37,7 +39,8 @@ here_or_behind (suc c) (suc b) h = ⊎_elim (λ at. inl (ap suc at)) (λ behind.
 
 pub is_in-filter : (p : ℕ → Bool) (c n b : ℕ) → c ≤ b → b < c + n → is_in (filter p (count_from c n)) b ≡ p b
 is_in-filter p c zero b h k = absurd (omega arith)
-is_in-filter p c (suc n) b h k = ⊎_elim (λ at. rw (← at) (here (p c))) (λ behind. later behind (p c) (is_in-filter p (c + 1) n b (omega arith) (omega arith))) (here_or_behind c b h)
+is_in-filter p c (suc n) b h k =
+    ⊎_elim (λ at. rw (← at) (here (p c))) (λ behind. later behind (p c) (is_in-filter p (c + 1) n b (omega arith) (omega arith))) (here_or_behind c b h)
   where
     rest : List ℕ
     rest = filter p (count_from (c + 1) n)
@@ -58,7 +61,8 @@ behind-count p c (suc n) b h = go (p c) (behind-count p (c + 1) n b (omega arith
     apart : (c == b) ≡ false
     apart = ne_eqb c b (λ e. omega arith)
 
-    go : (t : Bool) → is_in (filter p (count_from (c + 1) n)) b ≡ false → is_in (cond t (c ∷ filter p (count_from (c + 1) n)) (filter p (count_from (c + 1) n))) b ≡ false
+    go : (t : Bool) → is_in (filter p (count_from (c + 1) n)) b ≡ false
+        → is_in (cond t (c ∷ filter p (count_from (c + 1) n)) (filter p (count_from (c + 1) n))) b ≡ false
     go true e = rw (apart, e) refl
     go false e = e
 

@@ -1,9 +1,11 @@
 -- A shape tells the tree.
-use Rattle.std.proofs.Common.{◌≡◌, ℕ, zero, suc, ◌+◌, ◌<◌, ◌≤◌, List, [], ◌∷◌, length, get_or, refl, sym, ◌∙◌, ap, ◌-◌, arith, Option, Some, None, IfSome, slice_get, ◌≢◌, ◌==◌, ◌&&◌, nat_eq, nat_le, not, Bool, true, false, if◌then◌else◌, drop}
+use Rattle.std.proofs.Common.{◌≡◌, ℕ, zero, suc, ◌+◌, ◌<◌, ◌≤◌, List, [], ◌∷◌, length, get_or, refl, sym, ◌∙◌, ap, ◌-◌, arith, Option, Some, None, IfSome}
+use Rattle.std.proofs.Common.{slice_get, ◌≢◌, ◌==◌, ◌&&◌, nat_eq, nat_le, not, Bool, true, false, if◌then◌else◌, drop}
 use Rattle.std.specs.List.{starts_with}
 use Rattle.sno_pattern.specs.Pattern.{Pattern, Arb, Leaf}
 use Rattle.sno_pattern.specs.Ends.{is_in, count_from, end_if, end_after, run_length, first_in, ends}
-use Rattle.sno_pattern.specs.Table.{Node, LeafNode, FenceNode, CutNode, AbortNode, SucceedNode, ArbnoNode, AltNode, CatNode, CondNode, ImmNode, PlaceNode, DeferNode, tree_over, trees_onto, tree, PartsBelow}
+use Rattle.sno_pattern.specs.Table.{Node, LeafNode, FenceNode, CutNode, AbortNode, SucceedNode, ArbnoNode, AltNode, CatNode, CondNode, ImmNode, PlaceNode}
+use Rattle.sno_pattern.specs.Table.{DeferNode, tree_over, trees_onto, tree, PartsBelow}
 use Rattle.sno_pattern.specs.Kinds.{node_of, nodes_of, IsTable}
 use Rattle.sno_pattern.specs.Shape.{HasShape, shape_of, end_of, end_of_node}
 use Rattle.sno_pattern.specs.declared.kind.Kind.{Kind}
@@ -12,7 +14,8 @@ use Rattle.sno_pattern.specs.declared.kind.Entry.{Entry}
 use Rattle.sno_pattern.proofs.EndsRange.{Within, ends-rise, Rises-at}
 use Rattle.sno_pattern.proofs.TableLaws.{tree-at, AllParts-at}
 
-pub HasShape-node : (nodes : List Node) (id : ℕ) (node : Node) → PartsBelow node id → tree nodes id ≡ tree_over (trees_onto [] nodes) node → HasShape nodes id (shape_of node)
+pub HasShape-node : (nodes : List Node) (id : ℕ) (node : Node) → PartsBelow node id → tree nodes id ≡ tree_over (trees_onto [] nodes) node
+    → HasShape nodes id (shape_of node)
 HasShape-node nodes id (LeafNode a) h e = (a, e)
 HasShape-node nodes id FenceNode h e = e
 HasShape-node nodes id AbortNode h e = e
@@ -41,18 +44,22 @@ end_of-tree ts (ImmNode p target) s c i = refl
 end_of-tree ts (PlaceNode target) s c i = refl
 end_of-tree ts (DeferNode primitive expression) s c i = refl
 
-pub node-at : (entries : List Entry) (id : ℕ) (entry : Entry) → id < length entries → get_or entries id entry ≡ entry → slice_get (nodes_of entries) id ≡ Some (node_of entry.kind)
+pub node-at : (entries : List Entry) (id : ℕ) (entry : Entry) → id < length entries → get_or entries id entry ≡ entry → slice_get (nodes_of entries) id
+    ≡ Some (node_of entry.kind)
 node-at [] id entry h e = absurd (omega arith)
 node-at (x ∷ entries) zero entry h e = ap (λ (k : Entry). Some (node_of k.kind)) e
 node-at (x ∷ entries) (suc id) entry h e = node-at entries id entry (omega arith) e
 
-pub has_shape : (entries : List Entry) (id : ℕ) (entry : Entry) → IsTable entries → id < length entries → get_or entries id entry ≡ entry → HasShape (nodes_of entries) id (shape_of (node_of entry.kind))
+pub has_shape : (entries : List Entry) (id : ℕ) (entry : Entry) → IsTable entries → id < length entries → get_or entries id entry ≡ entry
+    → HasShape (nodes_of entries) id (shape_of (node_of entry.kind))
 has_shape entries id entry t h e =
     let at = node-at entries id entry h e in
     let z : 0 + id ≡ id = omega arith in
-    HasShape-node (nodes_of entries) id (node_of entry.kind) (rw z at (AllParts-at 0 (nodes_of entries) id (node_of entry.kind) t.parts at)) (tree-at (nodes_of entries) id (node_of entry.kind) t.parts at)
+    HasShape-node (nodes_of entries) id (node_of entry.kind) (rw z at (AllParts-at 0 (nodes_of entries) id (node_of entry.kind) t.parts at))
+    (tree-at (nodes_of entries) id (node_of entry.kind) t.parts at)
 
-pub end_of-kind : (entries : List Entry) (id : ℕ) (entry : Entry) (s : List ℕ) (c i : ℕ) → IsTable entries → id < length entries → get_or entries id entry ≡ entry → end_of_node (node_of entry.kind) s c i ≡ end_of (tree (nodes_of entries) id) s c i
+pub end_of-kind : (entries : List Entry) (id : ℕ) (entry : Entry) (s : List ℕ) (c i : ℕ) → IsTable entries → id < length entries → get_or entries id entry
+    ≡ entry → end_of_node (node_of entry.kind) s c i ≡ end_of (tree (nodes_of entries) id) s c i
 end_of-kind entries id entry s c i t h e =
     let at = node-at entries id entry h e in
     rw (tree-at (nodes_of entries) id (node_of entry.kind) t.parts at) (end_of-tree (trees_onto [] (nodes_of entries)) (node_of entry.kind) s c i)
@@ -91,7 +98,8 @@ first_in-one set c (byte ∷ bytes) i h = go (is_in set byte) (first_in-one set 
     go false e = e
 
 -- a primitive has one end at most, but for BREAKX, ARB and BAL
-pub one_end : (kind : Kind) (s : List ℕ) (c i : ℕ) → kind ≢ K.Arb → kind ≢ K.Bal → ((set : List ℕ) → kind ≢ K.BreakX set) → i ≢ 0 → None ≡ end_of_node (node_of kind) s c i
+pub one_end : (kind : Kind) (s : List ℕ) (c i : ℕ) → kind ≢ K.Arb → kind ≢ K.Bal → ((set : List ℕ) → kind ≢ K.BreakX set) → i ≢ 0
+    → None ≡ end_of_node (node_of kind) s c i
 one_end (K.Text bytes) s c i a b x h = end_if-one (starts_with nat_eq (drop c s) bytes.items) (c + length bytes.items) i h
 one_end (K.Len n) s c i a b x h = end_if-one (nat_le (c + n) (length s)) (c + n) i h
 one_end (K.Pos n) s c i a b x h = end_if-one (c == n) c i h

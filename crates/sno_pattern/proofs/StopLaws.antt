@@ -1,5 +1,6 @@
 -- The places at which BREAKX stops.
-use Rattle.std.proofs.Common.{◌≡◌, ℕ, zero, suc, ◌+◌, ◌-◌, ◌<◌, ◌≤◌, Bool, true, false, if◌then◌else◌, Some, None, List, [], ◌∷◌, Option, length, drop, slice_get, refl, sym, ◌∙◌, ap, arith}
+use Rattle.std.proofs.Common.{◌≡◌, ℕ, zero, suc, ◌+◌, ◌-◌, ◌<◌, ◌≤◌, Bool, true, false, if◌then◌else◌, Some, None, List, [], ◌∷◌, Option, length, drop}
+use Rattle.std.proofs.Common.{slice_get, refl, sym, ◌∙◌, ap, arith}
 use Rattle.std.proofs.lemmas.List.{drop-drop, length-drop}
 use Rattle.std.specs.Option.{is_some}
 use Rattle.sno_pattern.specs.Pattern.{Break, BreakX}
@@ -53,7 +54,8 @@ module _ (set s : List ℕ) (c k last : ℕ) (at : slice_get (ends (BreakX set) 
   pub stop_behind : slice_get (ends (BreakX set) s c) (k + 1) ≡ slice_get (ends (BreakX set) s (last + 1)) 0
   stop_behind =
       let more : k + 1 ≡ suc k = omega arith in
-      ap (slice_get (all_in set c (drop c s))) more ∙ here.2 ∙ ap (λ bytes. slice_get (first_in set (last + 1) bytes) 0) behind ∙ sym (all_in-first set (last + 1) (drop (last + 1) s))
+      ap (slice_get (all_in set c (drop c s))) more ∙ here.2 ∙ ap (λ bytes. slice_get (first_in set (last + 1) bytes) 0) behind
+      ∙ sym (all_in-first set (last + 1) (drop (last + 1) s))
 
   -- a stop stands before the end
   pub no_stop_behind : length s ≤ last → slice_get (ends (BreakX set) s c) (k + 1) ≡ None
@@ -66,13 +68,16 @@ none_after (x ∷ stops) zero i h e = cc
 none_after (x ∷ stops) (suc k) zero h e = absurd (omega arith)
 none_after (x ∷ stops) (suc k) (suc i) h e = none_after stops k i (omega arith) e
 
-pub none_at_first : (set s : List ℕ) (c i : ℕ) (r q : Option ℕ) → r ≡ slice_get (ends (BreakX set) s c) 0 → r ≡ None → q ≡ None → q ≡ slice_get (ends (BreakX set) s c) i
+pub none_at_first : (set s : List ℕ) (c i : ℕ) (r q : Option ℕ) → r ≡ slice_get (ends (BreakX set) s c) 0 → r ≡ None → q ≡ None
+    → q ≡ slice_get (ends (BreakX set) s c) i
 none_at_first set s c i r q first is none = none ∙ sym (none_after (ends (BreakX set) s c) 0 i (omega arith) (sym first ∙ is))
 
-pub none_behind : (set s : List ℕ) (c k i : ℕ) (r q : Option ℕ) → k < i → r ≡ slice_get (ends (BreakX set) s c) (k + 1) → r ≡ None → q ≡ None → q ≡ slice_get (ends (BreakX set) s c) i
+pub none_behind : (set s : List ℕ) (c k i : ℕ) (r q : Option ℕ) → k < i → r ≡ slice_get (ends (BreakX set) s c) (k + 1) → r ≡ None → q ≡ None
+    → q ≡ slice_get (ends (BreakX set) s c) i
 none_behind set s c k i r q before next is none = none ∙ sym (none_after (ends (BreakX set) s c) (k + 1) i (omega arith) (sym next ∙ is))
 
 -- BREAKX has an end where BREAK has one
-pub stop_place : (set s : List ℕ) (from until place : ℕ) → IsFirstPlace (leaf_has_end (Break set) s) from until place → IsFirstPlace (leaf_has_end (BreakX set) s) from until place
+pub stop_place : (set s : List ℕ) (from until place : ℕ) → IsFirstPlace (leaf_has_end (Break set) s) from until place
+    → IsFirstPlace (leaf_has_end (BreakX set) s) from until place
 stop_place set s from until place first =
     same_place (leaf_has_end (Break set) s) (leaf_has_end (BreakX set) s) from until place (λ c. ap is_some (sym (all_in-first set c (drop c s)))) first

@@ -1,9 +1,11 @@
 -- What appending a node keeps.
-use Rattle.std.proofs.Common.{◌≡◌, ℕ, zero, suc, ◌+◌, ◌<◌, ◌≤◌, List, [], ◌∷◌, ◌++◌, length, get_or, refl, sym, ◌∙◌, ap, subst, arith, length-append, Some, slice_get, Bool, true, false, ◌&&◌, ◌↔◌, IsTrue, ◌⊎◌, inl, inr, ⊎_elim}
+use Rattle.std.proofs.Common.{◌≡◌, ℕ, zero, suc, ◌+◌, ◌<◌, ◌≤◌, List, [], ◌∷◌, ◌++◌, length, get_or, refl, sym, ◌∙◌, ap, subst, arith, length-append, Some}
+use Rattle.std.proofs.Common.{slice_get, Bool, true, false, ◌&&◌, ◌↔◌, IsTrue, ◌⊎◌, inl, inr, ⊎_elim}
 use Rattle.std.proofs.Math.ListN.{get_or-append}
 use Rattle.std.proofs.Math.Seq.{get_or-append_seam}
 use Rattle.sno_pattern.specs.Pattern.{Pattern, Cut, Arbno, Cond, Imm}
-use Rattle.sno_pattern.specs.Table.{Node, LeafNode, FenceNode, CutNode, AbortNode, SucceedNode, ArbnoNode, AltNode, CatNode, CondNode, ImmNode, PlaceNode, DeferNode, tree_over, trees_onto, tree, no_pattern, AllParts, PartsBelow}
+use Rattle.sno_pattern.specs.Table.{Node, LeafNode, FenceNode, CutNode, AbortNode, SucceedNode, ArbnoNode, AltNode, CatNode, CondNode, ImmNode, PlaceNode}
+use Rattle.sno_pattern.specs.Table.{DeferNode, tree_over, trees_onto, tree, no_pattern, AllParts, PartsBelow}
 use Rattle.sno_pattern.specs.Built.{Appends}
 use Rattle.sno_pattern.specs.Quiet.{IsQuiet}
 use Rattle.sno_pattern.specs.Kinds.{node_of, nodes_of, flags_of, quiet_over, IsTable}
@@ -33,13 +35,16 @@ flags_of-append (x ∷ xs) entry = ap (λ bs. x.quiet ∷ bs) (flags_of-append x
 
 trees_onto-length : (before : List Pattern) (nodes : List Node) → length (trees_onto before nodes) ≡ length before + length nodes
 trees_onto-length before [] = omega arith
-trees_onto-length before (x ∷ nodes) = omega (arith, trees_onto-length (before ++ tree_over before x ∷ []) nodes, length-append before (tree_over before x ∷ []))
+trees_onto-length before (x ∷ nodes) =
+    omega (arith, trees_onto-length (before ++ tree_over before x ∷ []) nodes, length-append before (tree_over before x ∷ []))
 
 -- an old tree stays
-trees_onto-old : (before : List Pattern) (nodes : List Node) (i : ℕ) → i < length before → get_or (trees_onto before nodes) i no_pattern ≡ get_or before i no_pattern
+trees_onto-old : (before : List Pattern) (nodes : List Node) (i : ℕ) → i < length before → get_or (trees_onto before nodes) i no_pattern
+    ≡ get_or before i no_pattern
 trees_onto-old before [] i h = refl
 trees_onto-old before (x ∷ nodes) i h =
-    trees_onto-old (before ++ tree_over before x ∷ []) nodes i (omega (arith, length-append before (tree_over before x ∷ []))) ∙ get_or-append before (tree_over before x ∷ []) no_pattern i h
+    trees_onto-old (before ++ tree_over before x ∷ []) nodes i (omega (arith, length-append before (tree_over before x ∷ [])))
+    ∙ get_or-append before (tree_over before x ∷ []) no_pattern i h
 
 trees_onto-append : (before : List Pattern) (xs ys : List Node) → trees_onto before (xs ++ ys) ≡ trees_onto (trees_onto before xs) ys
 trees_onto-append before [] ys = refl
@@ -51,7 +56,8 @@ tree-append nodes more id h =
     ap (λ ts. get_or ts id no_pattern) (trees_onto-append [] nodes more) ∙
     trees_onto-old (trees_onto [] nodes) more id (omega (arith, trees_onto-length [] nodes))
 
-tree_over-same : (xs ys : List Pattern) (node : Node) (n : ℕ) → PartsBelow node n → ((i : ℕ) → i < n → get_or xs i no_pattern ≡ get_or ys i no_pattern) → tree_over xs node ≡ tree_over ys node
+tree_over-same : (xs ys : List Pattern) (node : Node) (n : ℕ) → PartsBelow node n → ((i : ℕ) → i < n → get_or xs i no_pattern ≡ get_or ys i no_pattern)
+    → tree_over xs node ≡ tree_over ys node
 tree_over-same xs ys (LeafNode a) n h e = refl
 tree_over-same xs ys FenceNode n h e = refl
 tree_over-same xs ys AbortNode n h e = refl
@@ -71,7 +77,9 @@ trees_onto-at before [] n k node e h at = absurd (cc)
 trees_onto-at before (x ∷ nodes) n zero node e h at =
     let next = before ++ tree_over before x ∷ [] in
     let here : get_or (trees_onto next nodes) n no_pattern ≡ tree_over before x =
-    trees_onto-old next nodes n (omega (arith, length-append before (tree_over before x ∷ []))) ∙ (let s : get_or (before ++ tree_over before x ∷ []) (length before) no_pattern ≡ tree_over before x = get_or-append_seam before (tree_over before x) [] no_pattern in rw e s) in
+    trees_onto-old next nodes n (omega (arith, length-append before (tree_over before x ∷ [])))
+    ∙ (let s : get_or (before ++ tree_over before x ∷ []) (length before) no_pattern ≡ tree_over before x = get_or-append_seam before
+    (tree_over before x) [] no_pattern in rw e s) in
     let same : tree_over before x ≡ tree_over (trees_onto next nodes) x =
     tree_over-same before (trees_onto next nodes) x n h.0
     (λ i below. sym (trees_onto-old before (x ∷ nodes) i (omega arith))) in
@@ -84,7 +92,8 @@ trees_onto-at before (x ∷ nodes) n (suc k) node e h at =
     rw at_n (trees_onto-at next nodes (suc n) k node (omega (arith, length-append before (tree_over before x ∷ []))) h.1 at)
 
 -- the tree of a number is the tree of its node
-pub tree-at : (nodes : List Node) (id : ℕ) (node : Node) → AllParts 0 nodes → slice_get nodes id ≡ Some node → tree nodes id ≡ tree_over (trees_onto [] nodes) node
+pub tree-at : (nodes : List Node) (id : ℕ) (node : Node) → AllParts 0 nodes → slice_get nodes id ≡ Some node
+    → tree nodes id ≡ tree_over (trees_onto [] nodes) node
 tree-at nodes id node h at = let e : 0 + id ≡ id = omega arith in rw e at (trees_onto-at [] nodes 0 id node refl h at)
 
 pub AllParts-at : (n : ℕ) (nodes : List Node) (k : ℕ) (node : Node) → AllParts n nodes → slice_get nodes k ≡ Some node → PartsBelow node (n + k)
@@ -108,8 +117,10 @@ quiet_over-tree flags trees AbortNode n h e = (λ t. absurd (cc), λ t. absurd t
 quiet_over-tree flags trees SucceedNode n h e = (λ t. absurd (cc), λ t. absurd t)
 quiet_over-tree flags trees (CutNode p) n h e = e p h
 quiet_over-tree flags trees (ArbnoNode p) n h e = e p h
-quiet_over-tree flags trees (AltNode p q) n h e = quiet-and (get_or flags p false) (get_or flags q false) (IsQuiet (get_or trees p no_pattern)) (IsQuiet (get_or trees q no_pattern)) (e p h.0) (e q h.1)
-quiet_over-tree flags trees (CatNode p q) n h e = quiet-and (get_or flags p false) (get_or flags q false) (IsQuiet (get_or trees p no_pattern)) (IsQuiet (get_or trees q no_pattern)) (e p h.0) (e q h.1)
+quiet_over-tree flags trees (AltNode p q) n h e = quiet-and (get_or flags p false) (get_or flags q false) (IsQuiet (get_or trees p no_pattern))
+    (IsQuiet (get_or trees q no_pattern)) (e p h.0) (e q h.1)
+quiet_over-tree flags trees (CatNode p q) n h e = quiet-and (get_or flags p false) (get_or flags q false) (IsQuiet (get_or trees p no_pattern))
+    (IsQuiet (get_or trees q no_pattern)) (e p h.0) (e q h.1)
 quiet_over-tree flags trees (CondNode p target) n h e = e p h
 quiet_over-tree flags trees (ImmNode p target) n h e = e p h
 quiet_over-tree flags trees (PlaceNode target) n h e = (λ t. tt, λ t. refl)
@@ -122,7 +133,8 @@ tree-last nodes node =
     ap (λ ts. get_or ts (length nodes) no_pattern) (trees_onto-append [] nodes (node ∷ [])) ∙
     rw (← long) (get_or-append_seam (trees_onto [] nodes) (tree_over (trees_onto [] nodes) node) [] no_pattern)
 
-quiet-last : (flags : List Bool) (quiet : Bool) (nodes : List Node) (node : Node) (id : ℕ) → length flags ≡ length nodes → length nodes ≡ id → AllParts 0 nodes → PartsBelow node id →
+quiet-last : (flags : List Bool) (quiet : Bool) (nodes : List Node) (node : Node) (id : ℕ) → length flags ≡ length nodes → length nodes ≡ id
+    → AllParts 0 nodes → PartsBelow node id →
     ((i : ℕ) → i < id → IsTrue (get_or flags i false) ↔ IsQuiet (tree nodes i)) → quiet ≡ quiet_over flags node →
     IsTrue (get_or (flags ++ quiet ∷ []) id false) ↔ IsQuiet (tree (nodes ++ node ∷ []) id)
 quiet-last flags quiet nodes node id same at h p q e =
@@ -142,9 +154,11 @@ old_or_last zero (suc i) h = absurd (omega arith)
 old_or_last (suc n) zero h = inl (omega arith)
 old_or_last (suc n) (suc i) h = ⊎_elim (λ below. inl (omega arith)) (λ at. inr (ap suc at)) (old_or_last n i (omega arith))
 
-quiet-appended : (xs : List Entry) (kind : Kind) (quiet : Bool) → IsTable xs → PartsBelow (node_of kind) (length xs) → quiet ≡ quiet_over (flags_of xs) (node_of kind) →
+quiet-appended : (xs : List Entry) (kind : Kind) (quiet : Bool) → IsTable xs → PartsBelow (node_of kind) (length xs)
+    → quiet ≡ quiet_over (flags_of xs) (node_of kind) →
     (id : ℕ) → id < length (xs ++ record { kind = kind; quiet = quiet } ∷ []) →
-    IsTrue (get_or (flags_of (xs ++ record { kind = kind; quiet = quiet } ∷ [])) id false) ↔ IsQuiet (tree (nodes_of (xs ++ record { kind = kind; quiet = quiet } ∷ [])) id)
+    IsTrue (get_or (flags_of (xs ++ record { kind = kind; quiet = quiet } ∷ [])) id false) ↔ IsQuiet
+    (tree (nodes_of (xs ++ record { kind = kind; quiet = quiet } ∷ [])) id)
 quiet-appended xs kind quiet h p q id below =
     let entry : Entry = record { kind = kind; quiet = quiet } in
     let same : length (flags_of xs) ≡ length (nodes_of xs) = omega (arith, length-flags xs, length-nodes xs) in
@@ -170,7 +184,8 @@ appends xs ys entry n at room e =
     let grown : nodes_of ys ≡ nodes_of xs ++ node_of entry.kind ∷ [] = ap nodes_of e ∙ nodes_of-append xs entry in
     (omega (arith, length-nodes xs), grown, omega (arith, length-nodes xs), λ k below. rw grown (tree-append (nodes_of xs) (node_of entry.kind ∷ []) k below))
 
-pub stands : (xs ys : List Entry) (entry : Entry) (n : ℕ) → n ≡ length xs → ys ≡ xs ++ entry ∷ [] → tree (nodes_of ys) n ≡ tree_over (trees_onto [] (nodes_of xs)) (node_of entry.kind)
+pub stands : (xs ys : List Entry) (entry : Entry) (n : ℕ) → n ≡ length xs → ys ≡ xs ++ entry ∷ [] → tree (nodes_of ys) n
+    ≡ tree_over (trees_onto [] (nodes_of xs)) (node_of entry.kind)
 stands xs ys entry n at e =
     let grown : nodes_of ys ≡ nodes_of xs ++ node_of entry.kind ∷ [] = ap nodes_of e ∙ nodes_of-append xs entry in
     let last : n ≡ length (nodes_of xs) = omega (arith, length-nodes xs) in

@@ -1,8 +1,10 @@
 -- The nodes that the stored kinds stand for, and what a table keeps of them. Private contracts alone cite it.
 use Rattle.std.specs.Prelude.{ℕ, ◌<◌, ◌≤◌, Bool, true, false, ◌&&◌, ◌↔◌, List, length, map, get_or, None, Some, IsTrue}
-use Rattle.sno_pattern.specs.Pattern.{Text, Len, Pos, Rpos, Tab, Rtab, Any, NotAny, Span, Break, BreakX, Arb, Bal, Rem, Fail}
+use Rattle.sno_pattern.specs.Pattern.{Text, Len, Pos, Rpos, Tab, Rtab, Any, NotAny, Span, Break, BreakX, Arb, Bal, Rem}
+use Rattle.sno_pattern.specs.Pattern.{Fail}
 use Rattle.sno_pattern.specs.Quiet.{IsQuiet}
-use Rattle.sno_pattern.specs.Table.{Node, LeafNode, FenceNode, CutNode, AbortNode, SucceedNode, ArbnoNode, AltNode, CatNode, CondNode, ImmNode, PlaceNode, DeferNode, AllParts, tree}
+use Rattle.sno_pattern.specs.Table.{Node, LeafNode, FenceNode, CutNode, AbortNode, SucceedNode, ArbnoNode, AltNode}
+use Rattle.sno_pattern.specs.Table.{CatNode, CondNode, ImmNode, PlaceNode, DeferNode, AllParts, tree}
 use Rattle.sno_pattern.specs.declared.kind.Kind.{Kind}
 use Rattle.sno_pattern.specs.declared.kind.Kind.TheVariants as K
 use Rattle.sno_pattern.specs.declared.kind.Entry.{Entry}
@@ -61,4 +63,5 @@ quiet_over flags (DeferNode primitive expression) = false
 pub record IsTable (entries : List Entry) : Type 0 where
   pub room : length entries ≤ 4000000
   pub parts : AllParts 0 (nodes_of entries)
-  pub quiet : (id : ℕ) → id < length entries → IsTrue (get_or (flags_of entries) id false) ↔ IsQuiet (tree (nodes_of entries) id)
+  pub quiet : (id : ℕ) → id < length entries → IsTrue (get_or (flags_of entries) id false) ↔ IsQuiet
+      (tree (nodes_of entries) id)

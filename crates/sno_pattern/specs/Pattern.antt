@@ -3,8 +3,8 @@ use Rattle.std.specs.Prelude.{ℕ, List, Option}
 use Rattle.sno_value.specs.declared.value.Name.{Name}
 use Rattle.sno_value.specs.declared.kind.PrimitiveKind.{PrimitiveKind}
 
--- a pattern that is matched in one piece: it has a list of ends and leaves nothing behind; a set is in rising order, each
--- byte once
+-- a pattern that is matched in one piece: it has a list of ends and leaves nothing behind; a set is in rising order,
+-- each byte once
 pub data Primitive : Type 0 where
   Text : (bytes : List ℕ) → Primitive
   Len : (count : ℕ) → Primitive

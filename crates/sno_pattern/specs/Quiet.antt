@@ -1,5 +1,6 @@
 -- Quiet patterns: matching one asks for nothing, and cuts nothing off but what a FENCE(P) cuts off of its own P.
-use Rattle.sno_pattern.specs.Pattern.{Pattern, Leaf, Fence, Cut, Abort, Succeed, Arbno, Alt, Cat, Cond, Imm, Place, Defer}
+use Rattle.sno_pattern.specs.Pattern.{Pattern, Leaf, Fence, Cut, Abort, Succeed, Arbno, Alt, Cat, Cond, Imm, Place}
+use Rattle.sno_pattern.specs.Pattern.{Defer}
 
 -- no deferred part, bare FENCE, ABORT or SUCCEED, also not inside a FENCE(P)
 abbrev pub IsQuiet : Pattern → Type 0

@@ -1,8 +1,10 @@
 -- What a shape says of a number.
 use Rattle.std.specs.Prelude.{ℕ, ◌<◌, ◌≡◌, List, Option, None, Some, slice_get}
-use Rattle.sno_pattern.specs.Pattern.{Pattern, Primitive, Leaf, Fence, Cut, Abort, Succeed, Arbno, Alt, Cat, Cond, Imm, Place, Defer}
+use Rattle.sno_pattern.specs.Pattern.{Pattern, Primitive, Leaf, Fence, Cut, Abort, Succeed, Arbno, Alt, Cat, Cond, Imm}
+use Rattle.sno_pattern.specs.Pattern.{Place, Defer}
 use Rattle.sno_pattern.specs.Ends.{ends}
-use Rattle.sno_pattern.specs.Table.{Node, LeafNode, FenceNode, CutNode, AbortNode, SucceedNode, ArbnoNode, AltNode, CatNode, CondNode, ImmNode, PlaceNode, DeferNode, tree}
+use Rattle.sno_pattern.specs.Table.{Node, LeafNode, FenceNode, CutNode, AbortNode, SucceedNode, ArbnoNode, AltNode}
+use Rattle.sno_pattern.specs.Table.{CatNode, CondNode, ImmNode, PlaceNode, DeferNode, tree}
 use Rattle.sno_value.specs.declared.ids.PatId.{PatId}
 use Rattle.sno_value.specs.declared.ids.ExprId.{ExprId}
 use Rattle.sno_pattern.specs.declared.shape.Shape.{Shape}

@@ -8,8 +8,8 @@ use crate::balance::balanced_end;
 use std::alloc::{AllocError, Global};
 use std::marker::Model;
 
-/// BAL's first ends in one subject. The bytes that looks without a table go through are counted, and once they are more than
-/// the subject has the table is made: few looks take no memory, and many take time for a few subjects at most.
+/// BAL's first ends in one subject. The bytes that looks without a table go through are counted, and once they are more
+/// than the subject has the table is made: few looks take no memory, and many take time for a few subjects at most.
 #[derive(Drop)]
 pub(crate) struct Balance {
     /// Empty as long as it is not made.
@@ -70,8 +70,8 @@ impl Balance {
     }
 }
 
-/// The end of BAL from a `(`, or 0. It hops from balanced part to balanced part up to the `)` that closes the bracket. Each
-/// part belongs to one bracket, so all brackets of a subject together hop over no more parts than it has bytes.
+/// The end of BAL from a `(`, or 0. It hops from balanced part to balanced part up to the `)` that closes the bracket.
+/// Each part belongs to one bracket, so all brackets of a subject together hop over no more parts than it has bytes.
 fn closed_end(table: &[usize], subject: &[u8], at: usize) -> usize
     requires inside { at < length subject.now }
     requires bracket { get_or subject.now at 0 ≡ 40 }

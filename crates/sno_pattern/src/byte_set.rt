@@ -68,8 +68,8 @@ impl ByteSet {
         place
     }
 
-    /// The first place whose byte is in the set, or is not where `inside` is false. What is near is found without lanes,
-    /// which take longer to make ready than a short run to look through.
+    /// The first place whose byte is in the set, or is not where `inside` is false. What is near is found without
+    /// lanes, which take longer to make ready than a short run to look through.
     #[inline(always)]
     fn first_that_passes(&self, bytes: &[u8], inside: bool) -> Option<usize>
         ensures { result ≡ position (passes inside self.now) bytes.now }

@@ -18,8 +18,8 @@ use std::marker::Model;
 /// How many runs are remembered.
 const RUNS: usize = 8;
 
-/// A run of cursors from each of which the first end of a primitive is the same. There is no cursor in it where `from` is
-/// greater than `until`.
+/// A run of cursors from each of which the first end of a primitive is the same. There is no cursor in it where `from`
+/// is greater than `until`.
 #[derive(Clone, Copy, Drop)]
 pub(crate) struct Run {
     pub id: PatId,
@@ -28,8 +28,8 @@ pub(crate) struct Run {
     pub end: Option<usize>,
 }
 
-/// What the looks through one subject have found out: the last runs that SPAN, BREAK and BREAKX looked through, and BAL's
-/// first ends.
+/// What the looks through one subject have found out: the last runs that SPAN, BREAK and BREAKX looked through, and
+/// BAL's first ends.
 #[derive(Drop)]
 pub struct Looks {
     runs: [Run; RUNS],

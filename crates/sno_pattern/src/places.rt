@@ -10,7 +10,8 @@ use crate::kind::Kind;
 use crate::lanes::first_in;
 use crate::sets::break_end;
 
-/// The first place, from `from` up to `until`, at which a primitive node has an end; `until` where it has none before that.
+/// The first place, from `from` up to `until`, at which a primitive
+/// node has an end; `until` where it has none before that.
 pub(crate) fn first_place_of_kind(kind: &Kind, subject: &[u8], from: usize, until: usize) -> usize
     requires start { from ≤ length subject.now }
     requires range { from ≤ until }
@@ -104,8 +105,8 @@ fn place_outside_set(set: &ByteSet, subject: &[u8], from: usize, until: usize) -
     }
 }
 
-/// The first place at which a byte of a set stands or is ahead. Where one is ahead of the beginning that is the place, and
-/// else no place has one ahead.
+/// The first place at which a byte of a set stands or is ahead. Where one is ahead of the beginning that is the place,
+/// and else no place has one ahead.
 fn place_before_set(set: &ByteSet, subject: &[u8], from: usize, until: usize) -> usize
     requires start { from ≤ length subject.now }
     requires range { from ≤ until }

@@ -1,8 +1,12 @@
 //! The table of patterns: its builders and look-ups.
-ghost use Rattle.std.specs.Prelude.{◌≡◌, ℕ, ◌+◌, ◌<◌, ◌≤◌, ◌↔◌, ◌⊎◌, [], ◌∷◌, ◌++◌, length, Some, None, IfOk, IfErr, IfSome, OnOk, OnErr, IsErrOf, IsTrue, Contains};
-ghost use Rattle.sno_pattern.specs.Pattern.{Text, Arb, Bal, Rem, Fail, Leaf, Fence, Cut, Abort, Succeed, Arbno, Alt, Cat, Cond, Imm, Place, Defer};
+ghost use Rattle.std.specs.Prelude.{◌≡◌, ℕ, ◌+◌, ◌<◌, ◌≤◌, ◌↔◌, ◌⊎◌, [], ◌∷◌, ◌++◌, length, Some, None, IfOk, IfErr};
+ghost use Rattle.std.specs.Prelude.{IfSome, OnOk, OnErr, IsErrOf, IsTrue, Contains};
+ghost use Rattle.sno_pattern.specs.Pattern.{Text, Arb, Bal, Rem, Fail, Leaf, Fence, Cut, Abort, Succeed, Arbno, Alt};
+ghost use Rattle.sno_pattern.specs.Pattern.{Cat, Cond, Imm, Place, Defer};
 ghost use Rattle.sno_pattern.specs.Shape.{HasShape, IsPrimitive, end_of};
-ghost use Rattle.sno_pattern.specs.Table.{tree, tree_over, trees_onto, LeafNode, FenceNode, AbortNode, SucceedNode, CutNode, ArbnoNode, AltNode, CatNode, CondNode, ImmNode, PlaceNode, DeferNode, PartsBelow};
+ghost use Rattle.sno_pattern.specs.Table.{tree, tree_over, trees_onto, LeafNode, FenceNode, AbortNode, SucceedNode};
+ghost use Rattle.sno_pattern.specs.Table.{CutNode, ArbnoNode, AltNode, CatNode, CondNode, ImmNode, PlaceNode};
+ghost use Rattle.sno_pattern.specs.Table.{DeferNode, PartsBelow};
 ghost use Rattle.sno_pattern.specs.Arguments.{IsArgOf, IsNullSet, IsBadCount, IsGoodArg, primitive_of};
 ghost use Rattle.sno_pattern.specs.Built.{Appends};
 ghost use Rattle.sno_pattern.specs.Quiet.{IsQuiet};
@@ -44,8 +48,8 @@ pub enum BuildError {
 /// A table of patterns, which grows and never changes what it holds. Contracts see it as its list of nodes.
 ///
 /// Each builder appends one node and gives its number. It is refused `Full` where the table holds 4,000,000 nodes and
-/// `NoMemory` where memory is; `prim` has two refusals more. A refusal leaves the table as it was. What the patterns match
-/// is the book's; the limit is this profile's.
+/// `NoMemory` where memory is; `prim` has two refusals more. A refusal leaves the table as it was. What the patterns
+/// match is the book's; the limit is this profile's.
 #[derive(Drop)]
 pub struct Patterns {
     entries: Vec<Entry>,
@@ -101,8 +105,8 @@ impl Patterns {
         }
     }
 
-    /// A primitive with its argument: a count where `prim` takes one, else a set of bytes. An empty set is `NullSet` and a
-    /// negative count `BadCount`, also where the table is full.
+    /// A primitive with its argument: a count where `prim` takes one, else a set of bytes. An empty set is `NullSet`
+    /// and a negative count `BadCount`, also where the table is full.
     pub fn prim(&mut self, prim: Prim, arg: Arg<'_>) -> Result<PatId, BuildError>
         requires { IsArgOf prim arg }
         ensures ok { IfOk result (Appends self.old self.new (LeafNode (primitive_of prim arg.entry))) }
@@ -357,7 +361,8 @@ impl Patterns {
         end_behind_of_kind(&self.entries[id.0 as usize].kind, subject, last)
     }
 
-    /// The first place, from `from` up to `until`, at which a primitive has an end; `until` where it has none before that.
+    /// The first place, from `from` up to `until`, at which a
+    /// primitive has an end; `until` where it has none before that.
     pub fn first_place(&self, id: PatId, subject: &[u8], from: usize, until: usize) -> usize
         requires id { id.0 < length self.now }
         requires primitive { IsPrimitive (tree self.now id.0) }
@@ -369,8 +374,8 @@ impl Patterns {
         first_place_of_kind(&self.entries[id.0 as usize].kind, subject, from, until)
     }
 
-    /// The first end of a primitive, as `end_at` gives it, by what was found out before where that says it. What is found
-    /// out by this look is remembered.
+    /// The first end of a primitive, as `end_at` gives it, by what was found out before where that says it. What is
+    /// found out by this look is remembered.
     pub fn look(&self, looks: &mut Looks, id: PatId, subject: &[u8], at: usize) -> Option<usize>
         requires id { id.0 < length self.now }
         requires primitive { IsPrimitive (tree self.now id.0) }
@@ -385,7 +390,8 @@ impl Patterns {
         end
     }
 
-    /// The end of a primitive behind another, as `end_behind` gives it, by what was found out before where that says it.
+    /// The end of a primitive behind another, as `end_behind`
+    /// gives it, by what was found out before where that says it.
     pub fn look_behind(
         &self,
         looks: &mut Looks,
@@ -416,8 +422,8 @@ impl Patterns {
         end
     }
 
-    /// The first place of a range at which a primitive has an end, as `first_place` gives it. Where it may be far to the end
-    /// from the first of them, that is looked for first, and remembered.
+    /// The first place of a range at which a primitive has an end, as `first_place` gives it. Where it may be far to
+    /// the end from the first of them, that is looked for first, and remembered.
     pub fn look_for_place(
         &self,
         looks: &mut Looks,
@@ -519,7 +525,9 @@ fn append(entries: &mut Vec<Entry>, kind: Kind) -> Result<PatId, BuildError>
     requires parts { PartsBelow (node_of kind) (length entries.old.items) }
     ensures table { IsTable entries.new.items }
     ensures ok { IfOk result (Appends (nodes_of entries.old.items) (nodes_of entries.new.items) (node_of kind)) }
-    ensures stands { IfOk result (λ id. tree (nodes_of entries.new.items) id.0 ≡ tree_over (trees_onto [] (nodes_of entries.old.items)) (node_of kind)) }
+    ensures stands { IfOk result
+        (λ id. tree (nodes_of entries.new.items) id.0
+        ≡ tree_over (trees_onto [] (nodes_of entries.old.items)) (node_of kind)) }
     ensures err { OnErr result (entries.new.items ≡ entries.old.items) }
     ensures full { IsErrOf result BuildError.Full ↔ (length entries.old.items ≡ 4000000) }
     ensures others { IfErr result (λ e. (e ≡ BuildError.Full) ⊎ (e ≡ BuildError.NoMemory)) }

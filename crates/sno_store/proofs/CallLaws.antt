@@ -1,5 +1,6 @@
 -- Calls: what is moved out of variables, what is seen of it, and what comes back.
-use Rattle.std.proofs.Common.{◌≡◌, ℕ, ◌<◌, ◌≤◌, eqb, Bool, true, false, ◌==◌, ◌⊎◌, inl, inr, Some, slice_get, List, [], ◌∷◌, ◌++◌, length, map, get_or, set, refl, sym, ap, ◌∙◌, arith, if◌then◌else◌}
+use Rattle.std.proofs.Common.{◌≡◌, ℕ, ◌<◌, ◌≤◌, eqb, Bool, true, false, ◌==◌, ◌⊎◌, inl, inr, Some, slice_get, List, [], ◌∷◌, ◌++◌, length, map, get_or, set}
+use Rattle.std.proofs.Common.{refl, sym, ap, ◌∙◌, arith, if◌then◌else◌}
 use Rattle.std.specs.List.{list_any}
 use Rattle.std.proofs.lemmas.Bool.{eqb-true, eqb-false, cases_lt, or_from, or_parts}
 use Rattle.std.proofs.lemmas.List.{length-set, get_or-set_same, get_or-set_other, get_or_past, set-set, set_comm, same_lists, map-append}
@@ -18,7 +19,8 @@ abbrev pub numbered : List (SymId × Value) → List (ℕ × Value)
 numbered ss = map (λ s. (s.0.0, s.1)) ss
 
 -- a variable is null, and what it had is known
-kept_value : {V : Type 0} (null : V) (values : List V) (s t : ℕ) → (if s == t then get_or values s null else get_or (set values s null) t null) ≡ get_or values t null
+kept_value : {V : Type 0} (null : V) (values : List V) (s t : ℕ)
+    → (if s == t then get_or values s null else get_or (set values s null) t null) ≡ get_or values t null
 kept_value {V} null values s t = by (eqb s t) refl
   where
     by : (b : Bool) → eqb s t ≡ b → (if b then get_or values s null else get_or (set values s null) t null) ≡ get_or values t null
@@ -34,7 +36,8 @@ known_rest values s (t ∷ ts) = (λ n. (t, kept_value (Str []) values s t n) �
 seen_moved : (symbols : List SymId) (values : List Value) → saved_seen (moved symbols values) ≡ map (λ t. (t, get_or values t (Str []))) (numbers symbols)
 seen_moved [] values = refl
 seen_moved (symbol ∷ symbols) values =
-    ap (λ ss. (symbol.0, get_or values symbol.0 (Str [])) ∷ known symbol.0 (get_or values symbol.0 (Str [])) ss) (seen_moved symbols (set values symbol.0 (Str [])))
+    ap (λ ss. (symbol.0, get_or values symbol.0 (Str [])) ∷ known symbol.0 (get_or values symbol.0 (Str [])) ss)
+    (seen_moved symbols (set values symbol.0 (Str [])))
     ∙ ap (λ ss. (symbol.0, get_or values symbol.0 (Str [])) ∷ ss) (known_rest values symbol.0 (numbers symbols))
 
 moved-append : (xs ys : List SymId) (values : List Value) → moved (xs ++ ys) values ≡ moved xs values ++ moved ys (with_nulls (Str []) (numbers xs) values)
@@ -83,7 +86,8 @@ restored_begun (t ∷ ts) s values w e =
     let same : s ≡ t = cc in ap (λ (x : SymId × Value). restored (numbered (t ∷ ts)) (set values x.0.0 w)) same ∙ restored_first t ts values w
 
 -- the last value comes back first
-pub restored_last : (ss : List (SymId × Value)) (s : SymId × Value) (values : List Value) → restored (numbered (ss ++ s ∷ [])) values ≡ restored (numbered ss) (set values s.0.0 s.1)
+pub restored_last : (ss : List (SymId × Value)) (s : SymId × Value) (values : List Value) → restored (numbered (ss ++ s ∷ [])) values
+    ≡ restored (numbered ss) (set values s.0.0 s.1)
 restored_last [] s values = refl
 restored_last (t ∷ ss) s values = ap (λ r. set r t.0.0 t.1) (restored_last ss s values)
 
@@ -93,12 +97,14 @@ pub record Alike {V : Type 0} (fs : List ℕ) (xs ys : List V) : Type 0 where
   pub others : (k : ℕ) (d : V) → list_any (λ f. f == k) fs ≡ false → get_or xs k d ≡ get_or ys k d
 
 -- a value that both have been given
-set_alike : {V : Type 0} (xs ys : List V) (j k : ℕ) (a d : V) → length xs ≡ length ys → (eqb j k ≡ false → get_or xs k d ≡ get_or ys k d) → get_or (set xs j a) k d ≡ get_or (set ys j a) k d
+set_alike : {V : Type 0} (xs ys : List V) (j k : ℕ) (a d : V) → length xs ≡ length ys → (eqb j k ≡ false → get_or xs k d ≡ get_or ys k d)
+    → get_or (set xs j a) k d ≡ get_or (set ys j a) k d
 set_alike {V} xs ys j k a d lengths others = by (eqb j k) refl
   where
     inside : (j ≡ k) → (k < length xs) ⊎ (length xs ≤ k) → get_or (set xs j a) k d ≡ get_or (set ys j a) k d
     inside e (inl within) =
-        ap (λ i. get_or (set xs i a) k d) e ∙ get_or-set_same xs k a d within ∙ sym (get_or-set_same ys k a d (omega arith)) ∙ ap (λ i. get_or (set ys i a) k d) (sym e)
+        ap (λ i. get_or (set xs i a) k d) e ∙ get_or-set_same xs k a d within ∙ sym (get_or-set_same ys k a d (omega arith))
+        ∙ ap (λ i. get_or (set ys i a) k d) (sym e)
     inside e (inr past) =
         get_or_past (set xs j a) k d (omega (arith, length-set xs j a)) ∙ sym (get_or_past (set ys j a) k d (omega (arith, length-set ys j a)))
 
@@ -123,7 +129,8 @@ alike_set fs xs ys j a h = record {
   others = λ k d e. set_alike xs ys j k a d h.lengths (λ o. h.others k d e);
 }
 
-arguments_alike : {V : Type 0} (null : V) (fs : List ℕ) (arguments xs ys : List V) → Alike fs xs ys → with_arguments null fs arguments xs ≡ with_arguments null fs arguments ys
+arguments_alike : {V : Type 0} (null : V) (fs : List ℕ) (arguments xs ys : List V) → Alike fs xs ys → with_arguments null fs arguments xs
+    ≡ with_arguments null fs arguments ys
 arguments_alike null [] arguments xs ys h = same_lists xs ys h.lengths (λ k d within. h.others k d refl)
 arguments_alike null (f ∷ fs) [] xs ys h = arguments_alike null fs [] (set xs f null) (set ys f null) (alike_rest f fs xs ys null h)
 arguments_alike null (f ∷ fs) (a ∷ arguments) xs ys h = arguments_alike null fs arguments (set xs f a) (set ys f a) (alike_rest f fs xs ys a h)
@@ -136,7 +143,8 @@ length-with_nulls : {V : Type 0} (null : V) (fs : List ℕ) (xs : List V) → le
 length-with_nulls null [] xs = refl
 length-with_nulls null (f ∷ fs) xs = length-with_nulls null fs (set xs f null) ∙ length-set xs f null
 
-untouched : {V : Type 0} (null : V) (fs : List ℕ) (xs : List V) (k : ℕ) (d : V) → list_any (λ f. f == k) fs ≡ false → get_or (with_nulls null fs xs) k d ≡ get_or xs k d
+untouched : {V : Type 0} (null : V) (fs : List ℕ) (xs : List V) (k : ℕ) (d : V) → list_any (λ f. f == k) fs ≡ false
+    → get_or (with_nulls null fs xs) k d ≡ get_or xs k d
 untouched null [] xs k d e = refl
 untouched null (f ∷ fs) xs k d e =
     let parts = or_parts (f == k) (list_any (λ g. g == k) fs) e in

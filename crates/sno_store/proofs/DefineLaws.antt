@@ -1,5 +1,6 @@
 -- What DEFINE makes of a prototype's names.
-use Rattle.std.proofs.Common.{◌≡◌, ℕ, ◌<◌, ◌≤◌, Bool, true, false, not, ◌&&◌, leb, List, [], ◌∷◌, ◌++◌, ◌-◌, length, map, take, replicate, ltb, if◌then◌else◌, Vec, Some, Result, Ok, Err, IsErrAnd, is_ok, refl, sym, ap, subst, ◌∙◌, arith}
+use Rattle.std.proofs.Common.{◌≡◌, ℕ, ◌<◌, ◌≤◌, Bool, true, false, not, ◌&&◌, leb, List, [], ◌∷◌, ◌++◌, ◌-◌, length, map, take, replicate, ltb, if◌then◌else◌}
+use Rattle.std.proofs.Common.{Vec, Some, Result, Ok, Err, IsErrAnd, is_ok, refl, sym, ap, subst, ◌∙◌, arith}
 use Rattle.std.specs.List.{list_all}
 use Rattle.std.specs.declared.alloc.Global.{Global}
 use Rattle.std.proofs.lemmas.Bool.{and_parts, leb-true, ltb-true, ltb-false, lt-ltb}
@@ -17,7 +18,8 @@ use Rattle.sno_store.specs.declared.functions.Function.TheVariants.{Defined}
 use Rattle.sno_store.specs.Functions.{with_function, definition_in, definition_by, with_definition}
 use Rattle.sno_store.specs.Outcomes.{IsError}
 use Rattle.sno_store.specs.Symbols.{HasMore, AreTooMany, AreJoined, IsDefinedByParts}
-use Rattle.sno_store.proofs.NameLaws.{with_name, place_kept, is_joined, given_number, added, with_names-append, placed, grown, has_both, has_one, with_symbol_symbols, too_many_more, too_many_behind, too_many_same}
+use Rattle.sno_store.proofs.NameLaws.{with_name, place_kept, is_joined, given_number, added, with_names-append, placed, grown, has_both, has_one}
+use Rattle.sno_store.proofs.NameLaws.{with_symbol_symbols, too_many_more, too_many_behind, too_many_same}
 
 -- whether a name may be one of a prototype
 abbrev pub may_be : List ℕ → Bool
@@ -53,7 +55,8 @@ sound_few p h = leb-true (length (names p)) 100 (and_parts (leb (length (names p
 
 still_symbol : (name : List ℕ) (ns symbols : List (List ℕ)) → is_symbol name symbols ≡ true → is_symbol name (with_names ns symbols) ≡ true
 still_symbol name ns symbols h =
-    lt-ltb (place name (with_names ns symbols)) (length (with_names ns symbols)) (omega (arith, placed name ns symbols h, grown ns symbols, ltb-true (place name symbols) (length symbols) h))
+    lt-ltb (place name (with_names ns symbols)) (length (with_names ns symbols))
+    (omega (arith, placed name ns symbols h, grown ns symbols, ltb-true (place name symbols) (length symbols) h))
 
 -- names that joined have the same places among more symbols
 places_kept : (ns symbols more : List (List ℕ)) → map (λ n. place n (with_names ns symbols ++ more)) ns ≡ map (λ n. place n (with_names ns symbols)) ns
@@ -82,12 +85,14 @@ pub begun_more : (p : Prototype) (old one : Contents) (f : SymId) → IsJoined p
 begun_more p old one f h = subst (HasMore old) (sym h.1) (has_one p.function old)
 
 -- and the formals, or the locals, could not
-pub formals_stopped : (p : Prototype) (old one : Contents) (f : SymId) (e : StoreError) → IsJoined p.function old one (Ok f) → AreTooMany p.formals one.symbols e → AreTooMany (names p) old.symbols e
+pub formals_stopped : (p : Prototype) (old one : Contents) (f : SymId) (e : StoreError) → IsJoined p.function old one (Ok f)
+    → AreTooMany p.formals one.symbols e → AreTooMany (names p) old.symbols e
 formals_stopped p old one f e h many =
     let all = too_many_more p.formals p.locals one.symbols e many in
     too_many_same (p.formals ++ p.locals) (names p) one.symbols old.symbols e (ap (with_names (p.formals ++ p.locals)) (begun_symbols p old one f h)) all
 
-pub locals_stopped : (p : Prototype) (old one two : Contents) (f : SymId) (e : StoreError) → IsJoined p.function old one (Ok f) → two.symbols ≡ with_names p.formals one.symbols
+pub locals_stopped : (p : Prototype) (old one two : Contents) (f : SymId) (e : StoreError) → IsJoined p.function old one (Ok f)
+    → two.symbols ≡ with_names p.formals one.symbols
     → AreTooMany p.locals two.symbols e → AreTooMany (names p) old.symbols e
 locals_stopped p old one two f e h formals many =
     let behind = too_many_behind p.formals p.locals one.symbols e (subst (λ ss. AreTooMany p.locals ss e) formals many) in
@@ -105,7 +110,8 @@ module _ (p : Prototype) (entry : List ℕ) (old one two three : Contents) (f : 
   its_place : f.0 ≡ place p.function three.symbols
   its_place =
       let given = given_number p.function old.symbols f.0 h1.0 in
-      sym (ap (place p.function) last_symbols ∙ placed p.function (p.formals ++ p.locals) one.symbols (ap (is_symbol p.function) (begun_symbols p old one f h1) ∙ given.is_one) ∙ ap (place p.function) (begun_symbols p old one f h1) ∙ given.at)
+      sym (ap (place p.function) last_symbols ∙ placed p.function (p.formals ++ p.locals) one.symbols (ap (is_symbol p.function) (begun_symbols p old one f h1)
+      ∙ given.is_one) ∙ ap (place p.function) (begun_symbols p old one f h1) ∙ given.at)
 
   its_formals : map (λ id. id.0) formals.items ≡ map (λ n. place n three.symbols) p.formals
   its_formals =
@@ -118,7 +124,8 @@ module _ (p : Prototype) (entry : List ℕ) (old one two three : Contents) (f : 
   same_functions : three.functions ≡ old.functions
   same_functions = ap (λ (c : Contents). c.functions) more_all.others
 
-  pub parts_done : (new : Contents) (d : Definition) (ds : List Function) → new ≡ record three { functions = ds } → ds ≡ with_function f.0 (Defined d) three.functions
+  pub parts_done : (new : Contents) (d : Definition) (ds : List Function) → new ≡ record three { functions = ds }
+      → ds ≡ with_function f.0 (Defined d) three.functions
       → d ≡ record { entry = entry_label entry p.function; formals = map (λ id. id.0) formals.items; locals = map (λ id. id.0) locals.items }
       → IsDefinedByParts p entry old new (Ok tt)
   parts_done new d ds en eds ed =
@@ -142,15 +149,26 @@ parts_passed p entry old new e (Ok done) is h = absurd is
 parts_passed p entry old new e (Err r) is h = (subst (AreTooMany (names p) old.symbols) (sym is) h.0, h.1)
 
 -- a refusal where the symbols would not be too many
-pub define_refused : (text entry : List ℕ) (p : Prototype) (symbols : List (List ℕ)) (functions : List Function) (e : StoreError) → Some p ≡ prototype text → is_sound p ≡ true
+pub define_refused : (text entry : List ℕ) (p : Prototype) (symbols : List (List ℕ)) (functions : List Function) (e : StoreError)
+    → Some p ≡ prototype text → is_sound p ≡ true
     → ltb 1_000_000 (length (with_names (names p) symbols)) ≡ false → AreTooMany (names p) symbols e → IsError (with_definition text entry symbols functions) e
 define_refused text entry p symbols functions e is sound room why = by e why
   where
-    meant : with_definition text entry symbols functions ≡ Ok (with_names (names p) symbols, with_function (place p.function (with_names (names p) symbols)) (Defined (definition entry p (with_names (names p) symbols))) functions)
+    meant : with_definition text entry symbols functions
+        ≡ Ok (
+          with_names (names p) symbols,
+          with_function (place p.function (with_names (names p) symbols))
+              (Defined (definition entry p (with_names (names p) symbols))) functions,
+        )
     meant =
         ap (definition_by entry symbols functions) (sym is)
         ∙ ap (λ b. if b then definition_in entry p (with_names (names p) symbols) functions else Err 12) sound
-        ∙ ap (λ b. if b then Err 9 else Ok (with_names (names p) symbols, with_function (place p.function (with_names (names p) symbols)) (Defined (definition entry p (with_names (names p) symbols))) functions)) room
+        ∙ ap (λ b. if b then Err 9
+        else Ok (
+          with_names (names p) symbols,
+          with_function (place p.function (with_names (names p) symbols))
+              (Defined (definition entry p (with_names (names p) symbols))) functions,
+        )) room
 
     by : (e : StoreError) → AreTooMany (names p) symbols e → IsError (with_definition text entry symbols functions) e
     by NoMemory h = ap is_ok meant
@@ -161,10 +179,12 @@ define_refused text entry p symbols functions e is sound room why = by e why
     by CallLevel h = absurd h
 
 -- what joined is taken back
-pub taken_back : (old new : Contents) (count : ℕ) (symbols : List (List ℕ)) (values : List Value) → HasMore old new → count ≡ length old.symbols → length old.values ≡ length old.symbols
+pub taken_back : (old new : Contents) (count : ℕ) (symbols : List (List ℕ)) (values : List Value) → HasMore old new → count ≡ length old.symbols
+    → length old.values ≡ length old.symbols
     → symbols ≡ take count new.symbols → values ≡ take count new.values → record new { symbols = symbols; values = values } ≡ old
 taken_back old new count symbols values more all same es ev =
     let ss : symbols ≡ old.symbols = es ∙ ap (λ n. take n new.symbols) all ∙ more.symbols in
     let vs : values ≡ old.values =
-    ev ∙ ap (take count) (ap (λ (c : Contents). c.values) more.others) ∙ take_at old.values (replicate (length new.symbols - length old.symbols) (Str [])) count (same ∙ sym all) in
+    ev ∙ ap (take count) (ap (λ (c : Contents). c.values) more.others) ∙ take_at old.values (replicate (length new.symbols - length old.symbols) (Str []))
+    count (same ∙ sym all) in
     (λ i. record new { symbols = ss i; values = vs i }) ∙ ap (λ (c : Contents). record c { symbols = old.symbols; values = old.values }) more.others

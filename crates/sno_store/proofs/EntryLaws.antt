@@ -22,11 +22,13 @@ set_past (entry ∷ entries) zero value past = absurd (omega arith)
 set_past (entry ∷ entries) (suc k) value past = ap (λ es. entry ∷ es) (set_past entries k value (omega arith))
 
 -- the values that aren't null are those of the filled entries
-pub filled_values : (entries : List (Value × Value)) → length (filter (λ value. not (is_null value)) (map (λ entry. entry.1) entries)) ≡ length (filled stored_notions entries)
+pub filled_values : (entries : List (Value × Value)) → length (filter (λ value. not (is_null value)) (map (λ entry. entry.1) entries))
+    ≡ length (filled stored_notions entries)
 filled_values [] = refl
 filled_values (entry ∷ entries) = more (not (is_null entry.1)) entry.1 entry _ _ (filled_values entries)
   where
-    more : (b : Bool) {X Y : Type 0} (x : X) (y : Y) (xs : List X) (ys : List Y) → length xs ≡ length ys → length (cond b (x ∷ xs) xs) ≡ length (cond b (y ∷ ys) ys)
+    more : (b : Bool) {X Y : Type 0} (x : X) (y : Y) (xs : List X) (ys : List Y) → length xs ≡ length ys → length (cond b (x ∷ xs) xs)
+        ≡ length (cond b (y ∷ ys) ys)
     more true x y xs ys e = ap suc e
     more false x y xs ys e = e
 

@@ -1,11 +1,13 @@
 -- Names that join the symbols, and what a store holds then.
-use Rattle.std.proofs.Common.{◌≡◌, ℕ, suc, ◌+◌, ◌-◌, ◌<◌, ◌≤◌, eqb, Bool, true, false, ltb, List, [], ◌∷◌, ◌++◌, length, map, replicate, take, drop, get_or, IsErrAnd, Vec, Result, Ok, Err, refl, sym, ap, subst, ◌∙◌, arith, if◌then◌else◌}
+use Rattle.std.proofs.Common.{◌≡◌, ℕ, suc, ◌+◌, ◌-◌, ◌<◌, ◌≤◌, eqb, Bool, true, false, ltb, List, [], ◌∷◌, ◌++◌, length, map, replicate, take, drop, get_or}
+use Rattle.std.proofs.Common.{IsErrAnd, Vec, Result, Ok, Err, refl, sym, ap, subst, ◌∙◌, arith, if◌then◌else◌}
 use Rattle.std.specs.Str.{bytes_eq}
 use Rattle.std.specs.List.{list_all}
 use Rattle.std.specs.declared.alloc.Global.{Global}
 use Rattle.std.proofs.lemmas.List.Folds.{list_all_at}
 use Rattle.std.proofs.lemmas.Bool.{ltb-true, ltb-false, lt-ltb, le-ltb, eqb-true, eqb-false, true_from_ne_false, both_ways}
-use Rattle.std.proofs.lemmas.List.{append-nil, append_assoc, length-append, length-take, length_push, replicate-append-replicate, take_all, take_at, take-take, at_drop_more, at_drop_all, map_push}
+use Rattle.std.proofs.lemmas.List.{append-nil, append_assoc, length-append, length-take, length_push, replicate-append-replicate, take_all, take_at, take-take}
+use Rattle.std.proofs.lemmas.List.{at_drop_more, at_drop_all, map_push}
 use Rattle.std.proofs.lemmas.Slice.Eq.{bytes_eq-Decides}
 use Rattle.sno_value.specs.declared.ids.SymId.{SymId}
 use Rattle.sno_value.specs.declared.value.Value.TheVariants.{Str}
@@ -50,7 +52,8 @@ is_joined name symbols = by (is_symbol name symbols) refl
   where
     by : (b : Bool) → is_symbol name symbols ≡ b → is_symbol name (if b then symbols else symbols ++ name ∷ []) ≡ true
     by true e = e
-    by false e = lt-ltb (place name (symbols ++ name ∷ [])) (length (symbols ++ name ∷ [])) (omega (arith, place_pushed name symbols e, length_push symbols name))
+    by false e = lt-ltb (place name (symbols ++ name ∷ [])) (length (symbols ++ name ∷ []))
+        (omega (arith, place_pushed name symbols e, length_push symbols name))
 
 -- What a name that joined is given.
 pub record IsGiven (name : List ℕ) (symbols : List (List ℕ)) (k : ℕ) : Type 0 where
@@ -61,7 +64,8 @@ pub record IsGiven (name : List ℕ) (symbols : List (List ℕ)) (k : ℕ) : Typ
 abbrev number_by : Bool → Bool → ℕ → ℕ → Result ℕ StoreError
 number_by found full k n = if found then Ok k else (if full then Err Full else Ok n)
 
-given_by : (name : List ℕ) (symbols : List (List ℕ)) (k : ℕ) (found : Bool) → is_symbol name symbols ≡ found → (full : Bool) → eqb (length symbols) 1_000_000 ≡ full
+given_by : (name : List ℕ) (symbols : List (List ℕ)) (k : ℕ) (found : Bool) → is_symbol name symbols ≡ found → (full : Bool)
+    → eqb (length symbols) 1_000_000 ≡ full
     → number_by found full (place name symbols) (length symbols) ≡ Ok k → IsGiven name symbols k
 given_by name symbols k true is full f e =
     let same : with_name name symbols ≡ symbols = ap (λ b. if b then symbols else symbols ++ name ∷ []) is in
@@ -78,7 +82,8 @@ given_by name symbols k false is false f e =
     let at = place_pushed name symbols is in
     record {
       at = ap (place name) more ∙ at ∙ number;
-      is_one = ap (is_symbol name) more ∙ lt-ltb (place name (symbols ++ name ∷ [])) (length (symbols ++ name ∷ [])) (omega (arith, at, length_push symbols name));
+      is_one = ap (is_symbol name) more ∙ lt-ltb (place name (symbols ++ name ∷ [])) (length (symbols ++ name ∷ []))
+          (omega (arith, at, length_push symbols name));
       few = λ h. subst (λ ss. length ss ≤ 1_000_000) (sym more) (omega (arith, length_push symbols name, h, eqb-false (length symbols) 1_000_000 f));
     }
 
@@ -115,7 +120,8 @@ placed name ns symbols h = let more = added ns symbols in ap (place name) more.1
 -- names before and behind those that are too many
 pub too_many_more : (xs ys symbols : List (List ℕ)) (e : StoreError) → AreTooMany xs symbols e → AreTooMany (xs ++ ys) symbols e
 too_many_more xs ys symbols NoMemory h = h
-too_many_more xs ys symbols Full h = subst (λ ss. 1_000_000 < length ss) (sym (with_names-append xs ys symbols)) (omega (arith, h, grown ys (with_names xs symbols)))
+too_many_more xs ys symbols Full h =
+    subst (λ ss. 1_000_000 < length ss) (sym (with_names-append xs ys symbols)) (omega (arith, h, grown ys (with_names xs symbols)))
 too_many_more xs ys symbols NullName h = h
 too_many_more xs ys symbols WrongType h = h
 too_many_more xs ys symbols BadPrototype h = h
@@ -144,14 +150,16 @@ others_by false true k n e h = cc
 others_by false false k n e h = absurd (cc)
 
 -- why a name could not join, of some names behind it
-stopped_by : (name : List ℕ) (ns symbols : List (List ℕ)) (e : StoreError) → is_name name ≡ true → joining name symbols ≡ Err e → AreTooMany (name ∷ ns) symbols e
+stopped_by : (name : List ℕ) (ns symbols : List (List ℕ)) (e : StoreError) → is_name name ≡ true → joining name symbols ≡ Err e
+    → AreTooMany (name ∷ ns) symbols e
 stopped_by [] ns symbols e is h = absurd (cc)
 stopped_by (byte ∷ bytes) ns symbols e is h =
     let full : e ≡ Full = others_by (is_symbol (byte ∷ bytes) symbols) (eqb (length symbols) 1_000_000) (place (byte ∷ bytes) symbols) (length symbols) e h in
     let room = full_by (byte ∷ bytes) symbols (is_symbol (byte ∷ bytes) symbols) refl (eqb (length symbols) 1_000_000) refl (h ∙ ap Err full) in
     subst (AreTooMany ((byte ∷ bytes) ∷ ns) symbols) (sym full) (omega (arith, room, grown ns (with_name (byte ∷ bytes) symbols)))
 
-pub stopped : (name : List ℕ) (ns : List (List ℕ)) (old new : Contents) (e : StoreError) → is_name name ≡ true → IsJoined name old new (Err e) → AreTooMany (name ∷ ns) old.symbols e × (new ≡ old)
+pub stopped : (name : List ℕ) (ns : List (List ℕ)) (old new : Contents) (e : StoreError) → is_name name ≡ true → IsJoined name old new (Err e)
+    → AreTooMany (name ∷ ns) old.symbols e × (new ≡ old)
 stopped name ns old new NoMemory is h = (tt, h.1)
 stopped name ns old new NullName is h = (stopped_by name ns old.symbols NullName is h.0, h.1)
 stopped name ns old new Full is h = (stopped_by name ns old.symbols Full is h.0, h.1)
@@ -169,13 +177,15 @@ too_many_same xs ys a b CallLevel same h = h
 
 -- one of texts that all pass
 all_at : (test : List ℕ → Bool) (texts : List (List ℕ)) (i : ℕ) (d : List ℕ) → i < length texts → list_all test texts ≡ true → test (get_or texts i d) ≡ true
-all_at test texts i d within all = true_from_ne_false (test (get_or texts i d)) (λ none. both_ways (list_all test texts) (list_all_at test texts i d within none) all)
+all_at test texts i d within all =
+    true_from_ne_false (test (get_or texts i d)) (λ none. both_ways (list_all test texts) (list_all_at test texts i d within none) all)
 
 -- no symbols more
 pub has_none : (c : Contents) → HasMore c c
 has_none c = record {
   symbols = take_all (length c.symbols) c.symbols (omega arith);
-  others = let none : length c.symbols - length c.symbols ≡ 0 = omega arith in ap (λ vs. record c { values = vs }) (sym (ap (λ n. c.values ++ replicate n (Str [])) none ∙ append-nil c.values));
+  others = let none : length c.symbols - length c.symbols ≡ 0 =
+      omega arith in ap (λ vs. record c { values = vs }) (sym (ap (λ n. c.values ++ replicate n (Str [])) none ∙ append-nil c.values));
 }
 
 -- one name more
@@ -194,7 +204,8 @@ has_one name c = by (is_symbol name c.symbols)
 pub with_symbol_symbols : (name : List ℕ) (c : Contents) → (with_symbol name c).symbols ≡ with_name name c.symbols
 with_symbol_symbols name c = by (is_symbol name c.symbols)
   where
-    by : (b : Bool) → (if b then c else record c { symbols = c.symbols ++ name ∷ []; values = c.values ++ Str [] ∷ [] }).symbols ≡ (if b then c.symbols else c.symbols ++ name ∷ [])
+    by : (b : Bool) → (if b then c else record c { symbols = c.symbols ++ name ∷ []; values = c.values ++ Str [] ∷ [] }).symbols
+        ≡ (if b then c.symbols else c.symbols ++ name ∷ [])
     by true = refl
     by false = refl
 
@@ -205,22 +216,26 @@ has_both a b c h g =
     let second : length b.symbols ≤ length c.symbols = omega (arith, ap length g.symbols, length-take (length b.symbols) c.symbols) in
     let counts : (length b.symbols - length a.symbols) + (length c.symbols - length b.symbols) ≡ length c.symbols - length a.symbols = omega arith in
     let values = append_assoc a.values (replicate (length b.symbols - length a.symbols) (Str [])) (replicate (length c.symbols - length b.symbols) (Str []))
-    ∙ ap (λ vs. a.values ++ vs) (replicate-append-replicate (length b.symbols - length a.symbols) (length c.symbols - length b.symbols) (Str []) ∙ ap (λ n. replicate n (Str [])) counts) in
+    ∙ ap (λ vs. a.values ++ vs) (replicate-append-replicate (length b.symbols - length a.symbols) (length c.symbols - length b.symbols) (Str [])
+    ∙ ap (λ n. replicate n (Str [])) counts) in
     record {
       symbols = sym (take-take (length a.symbols) (length b.symbols) c.symbols first) ∙ ap (take (length a.symbols)) g.symbols ∙ h.symbols;
       others =
-          g.others ∙ ap (λ (x : Contents). record x { symbols = c.symbols; values = x.values ++ replicate (length c.symbols - length b.symbols) (Str []) }) h.others
+          g.others ∙ ap (λ (x : Contents). record x { symbols = c.symbols; values = x.values ++ replicate (length c.symbols - length b.symbols) (Str []) })
+          h.others
           ∙ ap (λ vs. record a { symbols = c.symbols; values = vs }) values;
     }
 
 -- a step of the call that joins names, with the name at i
-module _ (texts : List (List ℕ)) (i : ℕ) (name : List ℕ) (t : (i < length texts) × (name ≡ get_or texts i name)) (initial : List (List ℕ)) (old new : Contents) where
+module _ (texts : List (List ℕ)) (i : ℕ) (name : List ℕ) (t : (i < length texts) × (name ≡ get_or texts i name)) (initial : List (List ℕ))
+    (old new : Contents) where
   -- the symbols that all names make, from here on
   from_here : with_names (drop i texts) old.symbols ≡ with_names (name ∷ drop (i + 1) texts) old.symbols
   from_here =
       at_drop_more (λ ns. with_names ns old.symbols) texts i name t.0 ∙ ap (λ n. with_names (n ∷ drop (i + 1) texts) old.symbols) (sym t.1)
 
-  pub step_stopped : (e : StoreError) → list_all is_name texts ≡ true → IsJoined name old new (Err e) → with_names (drop i texts) old.symbols ≡ with_names texts initial
+  pub step_stopped : (e : StoreError) → list_all is_name texts ≡ true → IsJoined name old new (Err e) → with_names (drop i texts) old.symbols
+      ≡ with_names texts initial
       → AreTooMany texts initial e × (new ≡ old)
   step_stopped e are h same =
       let is : is_name name ≡ true = ap is_name t.1 ∙ all_at is_name texts i name t.0 are in
@@ -243,7 +258,8 @@ module _ (texts : List (List ℕ)) (i : ℕ) (name : List ℕ) (t : (i < length 
     its_number : place name (with_names texts initial) ≡ id.0
     its_number =
         let given = given_number name old.symbols id.0 h.0 in
-        ap (place name) (sym step_symbols) ∙ placed name (drop (i + 1) texts) new.symbols (ap (is_symbol name) joined ∙ given.is_one) ∙ ap (place name) joined ∙ given.at
+        ap (place name) (sym step_symbols) ∙ placed name (drop (i + 1) texts) new.symbols (ap (is_symbol name) joined ∙ given.is_one)
+        ∙ ap (place name) joined ∙ given.at
 
     pub step_numbers : (so_far now : List SymId) → now ≡ so_far ++ id ∷ []
         → map (λ id. id.0) so_far ++ map (λ n. place n (with_names texts initial)) (drop i texts) ≡ map (λ n. place n (with_names texts initial)) texts

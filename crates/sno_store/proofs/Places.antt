@@ -1,5 +1,6 @@
 -- The place of an element, found from the last subscript on.
-use Rattle.std.proofs.Common.{◌≡◌, ℕ, zero, suc, ◌+◌, ◌*◌, ◌<◌, ◌≤◌, ℤ, int_le, unsigned_abs, ◌-ℤ◌, ◌&&◌, Bool, true, false, cond, List, [], ◌∷◌, length, drop, get_or, Option, None, Some, refl, sym, ap, subst, ◌∙◌, arith}
+use Rattle.std.proofs.Common.{◌≡◌, ℕ, zero, suc, ◌+◌, ◌*◌, ◌<◌, ◌≤◌, ℤ, int_le, unsigned_abs, ◌-ℤ◌, ◌&&◌, Bool, true, false, cond, List, [], ◌∷◌, length, drop}
+use Rattle.std.proofs.Common.{get_or, Option, None, Some, refl, sym, ap, subst, ◌∙◌, arith}
 use Rattle.std.proofs.Math.Nat.{mul_comm, mul-le-mul_right}
 use Rattle.std.proofs.lemmas.Int.{ints}
 use Rattle.std.proofs.lemmas.List.{drop_more}
@@ -11,7 +12,8 @@ use Rattle.sno_store.proofs.Prototypes.{size_some, times}
 count_behind : (dimensions : List Dimension) (i : ℕ) → element_count (drop i dimensions) ≤ element_count dimensions
 count_behind dimensions zero = omega arith
 count_behind [] (suc i) = omega arith
-count_behind (dimension ∷ dimensions) (suc i) = omega (arith, count_behind dimensions i, times (size dimension) (element_count dimensions) (size_some dimension))
+count_behind (dimension ∷ dimensions) (suc i) =
+    omega (arith, count_behind dimensions i, times (size dimension) (element_count dimensions) (size_some dimension))
 
 behind-none : (block : ℕ) (o : Option ℕ) → behind block o None ≡ None
 behind-none block (Some n) = refl
@@ -41,7 +43,8 @@ place_small : (place block o s : ℕ) → place < block → o < s → place + o 
 place_small place block o s inside small =
     omega (arith, mul-le-mul_right {m = suc o} {n = s} block (omega arith))
 
-module _ (dimensions : List Dimension) (is : List ℤ) (k i place block : ℕ) (d : Dimension) (j : ℤ) (rank : length is ≡ length dimensions) (next : i ≡ k + 1) (within : k < length dimensions)
+module _ (dimensions : List Dimension) (is : List ℤ) (k i place block : ℕ) (d : Dimension) (j : ℤ) (rank : length is ≡ length dimensions) (next : i ≡ k + 1)
+    (within : k < length dimensions)
     (behind_it : block ≡ element_count (drop i dimensions)) (so_far : Some place ≡ element_place (drop i dimensions) (drop i is)) where
   -- the elements from one dimension on
   pub block_before : size (get_or dimensions k d) * block ≡ element_count (drop k dimensions)
@@ -52,7 +55,8 @@ module _ (dimensions : List Dimension) (is : List ℤ) (k i place block : ℕ) (
   pub place_before : element_place (drop k dimensions) (drop k is) ≡ behind block (offset (get_or dimensions k d) (get_or is k j)) (Some place)
   place_before =
       (λ n. element_place (drop_more dimensions k d within n) (drop_more is k j (omega arith) n))
-      ∙ (λ n. behind (element_count (drop (sym next n) dimensions)) (offset (get_or dimensions k d) (get_or is k j)) (element_place (drop (sym next n) dimensions) (drop (sym next n) is)))
+      ∙ (λ n. behind (element_count (drop (sym next n) dimensions)) (offset (get_or dimensions k d) (get_or is k j))
+      (element_place (drop (sym next n) dimensions) (drop (sym next n) is)))
       ∙ (λ n. behind (sym behind_it n) (offset (get_or dimensions k d) (get_or is k j)) (sym so_far n))
 
   -- a subscript out of range

@@ -1,5 +1,6 @@
 -- How many elements a prototype says, counted from text to text with a cap.
-use Rattle.std.proofs.Common.{◌≡◌, ℕ, ◌+◌, ◌*◌, ◌-◌, ◌^◌, ◌<◌, ◌≤◌, min, Bool, true, false, List, [], ◌∷◌, ◌++◌, filter_map, length, option_map, ltb, drop, get_or, Option, None, Some, refl, sym, ap, subst, ◌∙◌, arith}
+use Rattle.std.proofs.Common.{◌≡◌, ℕ, ◌+◌, ◌*◌, ◌-◌, ◌^◌, ◌<◌, ◌≤◌, min, Bool, true, false, List, [], ◌∷◌, ◌++◌, filter_map, length, option_map, ltb, drop}
+use Rattle.std.proofs.Common.{get_or, Option, None, Some, refl, sym, ap, subst, ◌∙◌, arith}
 use Rattle.std.proofs.Math.Nat.{min-eq_left, min-eq_right, min-le_right, mul-pos, mul-one, one-mul, mul_assoc, mul_comm, le-mul_of_pos_right}
 use Rattle.std.proofs.lemmas.Bool.{ltb-true, ltb-false}
 use Rattle.std.specs.List.{cons_option}
@@ -77,12 +78,16 @@ counts (text ∷ texts) count some few = by (dimension_of text) (counts texts)
     with_rest : (dimension : Dimension) (dimensions : Option (List Dimension))
         → option_map (λ ds. min (counted_with count dimension * element_count ds) most) dimensions
         ≡ option_map (λ ds. min (count * element_count ds) most) (before (Some dimension) dimensions)
-    with_rest dimension (Some ds) = ap Some (by_cap (counted_with count dimension) (count * size dimension) (element_count ds) (count_some ds) (kept count (size dimension) some) ∙ ap (λ z. min z most) (mul_assoc count (size dimension) (element_count ds)))
+    with_rest dimension (Some ds) =
+        ap Some (by_cap (counted_with count dimension) (count * size dimension) (element_count ds) (count_some ds) (kept count (size dimension) some)
+        ∙ ap (λ z. min z most) (mul_assoc count (size dimension) (element_count ds)))
     with_rest dimension None = refl
 
-    by : (o : Option Dimension) → ((count : ℕ) → 0 < count → count ≤ most → counted texts count ≡ option_map (λ ds. min (count * element_count ds) most) (dimensions_from texts))
+    by : (o : Option Dimension)
+        → ((count : ℕ) → 0 < count → count ≤ most → counted texts count ≡ option_map (λ ds. min (count * element_count ds) most) (dimensions_from texts))
         → counted_on o (counted texts) count ≡ option_map (λ ds. min (count * element_count ds) most) (before o (dimensions_from texts))
-    by (Some dimension) rest = rest (counted_with count dimension) (kept_some count dimension some) (min-le_right _ _) ∙ with_rest dimension (dimensions_from texts)
+    by (Some dimension) rest = rest (counted_with count dimension) (kept_some count dimension some) (min-le_right _ _)
+        ∙ with_rest dimension (dimensions_from texts)
     by None rest = refl
 
 -- what is told of the texts
@@ -108,7 +113,8 @@ refused_at texts i count text t none so_far =
     ap (λ o. counted_on o (counted (drop (i + 1) texts)) count) none ∙ sym (step texts i count text t.0 t.1) ∙ so_far ∙ from_one texts
 
 -- and one that is a dimension goes on with it
-pub counted_at : (texts : List (List ℕ)) (i count : ℕ) (text : List ℕ) (dimension : Dimension) → (i < length texts) × (text ≡ get_or texts i text) → Some dimension ≡ dimension_of text
+pub counted_at : (texts : List (List ℕ)) (i count : ℕ) (text : List ℕ) (dimension : Dimension) → (i < length texts) × (text ≡ get_or texts i text)
+    → Some dimension ≡ dimension_of text
     → counted (drop i texts) count ≡ counted texts 1 → counted (drop (i + 1) texts) (counted_with count dimension) ≡ counted texts 1
 counted_at texts i count text dimension t some so_far =
     ap (λ o. counted_on o (counted (drop (i + 1) texts)) count) some ∙ sym (step texts i count text t.0 t.1) ∙ so_far
@@ -129,35 +135,41 @@ all_read (text ∷ texts) dimensions e = by (dimension_of text) (dimensions_from
     by None rest more h = absurd (cc)
 
 -- the dimensions so far, and those of the texts that are left
-read_at : (texts : List (List ℕ)) (i n : ℕ) (text : List ℕ) (so_far : List Dimension) (o : Option Dimension) → (i < length texts) × (text ≡ get_or texts i text) → o ≡ dimension_of text → n ≡ i + 1
+read_at : (texts : List (List ℕ)) (i n : ℕ) (text : List ℕ) (so_far : List Dimension) (o : Option Dimension) → (i < length texts) × (text ≡ get_or texts i text)
+    → o ≡ dimension_of text → n ≡ i + 1
     → so_far ++ filter_map dimension_of (drop i texts) ≡ filter_map dimension_of texts
     → so_far ++ cons_option o (filter_map dimension_of (drop n texts)) ≡ filter_map dimension_of texts
 read_at texts i n text so_far o t is next all =
     (λ k. so_far ++ cons_option ((is ∙ ap dimension_of t.1) k) (filter_map dimension_of (drop (next k) texts)))
     ∙ sym (ap (λ ds. so_far ++ ds) (at_drop_more (filter_map dimension_of) texts i text t.0)) ∙ all
 
-pub read_more : (texts : List (List ℕ)) (i n : ℕ) (text : List ℕ) (so_far now : List Dimension) (dimension : Dimension) → (i < length texts) × (text ≡ get_or texts i text) → Some dimension ≡ dimension_of text → n ≡ i + 1
+pub read_more : (texts : List (List ℕ)) (i n : ℕ) (text : List ℕ) (so_far now : List Dimension) (dimension : Dimension) → (i < length texts)
+    × (text ≡ get_or texts i text) → Some dimension ≡ dimension_of text → n ≡ i + 1
     → now ≡ so_far ++ dimension ∷ [] → so_far ++ filter_map dimension_of (drop i texts) ≡ filter_map dimension_of texts
     → now ++ filter_map dimension_of (drop n texts) ≡ filter_map dimension_of texts
 read_more texts i n text so_far now dimension t is next pushed all =
     ap (λ ds. ds ++ filter_map dimension_of (drop n texts)) pushed ∙ append_assoc so_far (dimension ∷ []) (filter_map dimension_of (drop n texts))
     ∙ read_at texts i n text so_far (Some dimension) t is next all
 
-pub read_none : (texts : List (List ℕ)) (i n : ℕ) (text : List ℕ) (so_far : List Dimension) → (i < length texts) × (text ≡ get_or texts i text) → None ≡ dimension_of text → n ≡ i + 1
+pub read_none : (texts : List (List ℕ)) (i n : ℕ) (text : List ℕ) (so_far : List Dimension) → (i < length texts) × (text ≡ get_or texts i text)
+    → None ≡ dimension_of text → n ≡ i + 1
     → so_far ++ filter_map dimension_of (drop i texts) ≡ filter_map dimension_of texts
     → so_far ++ filter_map dimension_of (drop n texts) ≡ filter_map dimension_of texts
 read_none texts i n text so_far t is next all = read_at texts i n text so_far None t is next all
 
-pub read_all : (texts : List (List ℕ)) (i : ℕ) (so_far : List Dimension) → length texts ≤ i → so_far ++ filter_map dimension_of (drop i texts) ≡ filter_map dimension_of texts
+pub read_all : (texts : List (List ℕ)) (i : ℕ) (so_far : List Dimension) → length texts ≤ i → so_far ++ filter_map dimension_of (drop i texts)
+    ≡ filter_map dimension_of texts
     → so_far ≡ filter_map dimension_of texts
 read_all texts i so_far end all = sym (append-nil so_far) ∙ sym (ap (λ ds. so_far ++ ds) (at_drop_all (filter_map dimension_of) texts i end)) ∙ all
 
 -- the dimensions that are read, of a prototype with so many elements
-pub read_whole : (texts : List (List ℕ)) (dimensions : List Dimension) (count : ℕ) → dimensions ≡ filter_map dimension_of texts → option_map element_count (dimensions_from texts) ≡ Some count
+pub read_whole : (texts : List (List ℕ)) (dimensions : List Dimension) (count : ℕ) → dimensions ≡ filter_map dimension_of texts
+    → option_map element_count (dimensions_from texts) ≡ Some count
     → (dimensions_from texts ≡ Some dimensions) × (element_count dimensions ≡ count)
 read_whole texts dimensions count read e = by (dimensions_from texts) refl e
   where
-    by : (o : Option (List Dimension)) → dimensions_from texts ≡ o → option_map element_count o ≡ Some count → (dimensions_from texts ≡ Some dimensions) × (element_count dimensions ≡ count)
+    by : (o : Option (List Dimension)) → dimensions_from texts ≡ o → option_map element_count o ≡ Some count → (dimensions_from texts ≡ Some dimensions)
+        × (element_count dimensions ≡ count)
     by (Some ds) is h =
         let all : dimensions ≡ ds = read ∙ all_read texts ds is in
         let same : element_count ds ≡ count = cc in

@@ -1,5 +1,6 @@
 -- What DATA makes of a prototype's names.
-use Rattle.std.proofs.Common.{◌≡◌, ℕ, suc, ◌+◌, ◌<◌, ◌≤◌, eqb, leb, ltb, Bool, true, false, not, ◌&&◌, cond, nat_lt, List, [], ◌∷◌, ◌++◌, length, map, take, drop, get_or, position, if◌then◌else◌, Vec, Some, None, Result, Ok, Err, IsErrAnd, is_ok, refl, sym, ap, subst, ◌∙◌, arith}
+use Rattle.std.proofs.Common.{◌≡◌, ℕ, suc, ◌+◌, ◌<◌, ◌≤◌, eqb, leb, ltb, Bool, true, false, not, ◌&&◌, cond, nat_lt, List, [], ◌∷◌, ◌++◌, length, map, take}
+use Rattle.std.proofs.Common.{drop, get_or, position, if◌then◌else◌, Vec, Some, None, Result, Ok, Err, IsErrAnd, is_ok, refl, sym, ap, subst, ◌∙◌, arith}
 use Rattle.std.specs.List.{list_all, list_any, position_or_len}
 use Rattle.std.specs.Str.{bytes_eq}
 use Rattle.std.specs.declared.alloc.Global.{Global}
@@ -21,10 +22,12 @@ use Rattle.sno_store.proofs.DefineLaws.{begun_symbols, begun_more}
 
 -- a step of the look for a name that stands twice, with the name at i
 module _ (first : List ℕ) (texts : List (List ℕ)) (i : ℕ) (name : List ℕ) (t : (i < length texts) × (name ≡ get_or texts i name)) where
-  from_here : are_new (first ∷ take i texts) (drop i texts) ≡ (not (list_any (bytes_eq name) (first ∷ take i texts)) && are_new (first ∷ take (i + 1) texts) (drop (i + 1) texts))
+  from_here : are_new (first ∷ take i texts) (drop i texts)
+      ≡ (not (list_any (bytes_eq name) (first ∷ take i texts)) && are_new (first ∷ take (i + 1) texts) (drop (i + 1) texts))
   from_here =
       at_drop_more (are_new (first ∷ take i texts)) texts i name t.0 ∙ ap (λ n. are_new (first ∷ take i texts) (n ∷ drop (i + 1) texts)) (sym t.1)
-      ∙ ap (λ ns. not (list_any (bytes_eq name) (first ∷ take i texts)) && are_new (first ∷ ns) (drop (i + 1) texts)) (ap (λ n. take i texts ++ n ∷ []) t.1 ∙ sym (take_more texts i name t.0))
+      ∙ ap (λ ns. not (list_any (bytes_eq name) (first ∷ take i texts)) && are_new (first ∷ ns) (drop (i + 1) texts))
+      (ap (λ n. take i texts ++ n ∷ []) t.1 ∙ sym (take_more texts i name t.0))
 
   -- one that is new
   pub step_new : list_any (bytes_eq name) (first ∷ take i texts) ≡ false → are_new (first ∷ take i texts) (drop i texts) ≡ are_new (first ∷ []) texts
@@ -36,7 +39,8 @@ module _ (first : List ℕ) (texts : List (List ℕ)) (i : ℕ) (name : List ℕ
       → false ≡ are_new (first ∷ []) texts
   step_twice twice same = sym (ap (λ b. not b && are_new (first ∷ take (i + 1) texts) (drop (i + 1) texts)) twice) ∙ sym from_here ∙ same
 
-pub new_ends : (first : List ℕ) (texts : List (List ℕ)) (i : ℕ) → length texts ≤ i → are_new (first ∷ take i texts) (drop i texts) ≡ are_new (first ∷ []) texts → true ≡ are_new (first ∷ []) texts
+pub new_ends : (first : List ℕ) (texts : List (List ℕ)) (i : ℕ) → length texts ≤ i → are_new (first ∷ take i texts) (drop i texts) ≡ are_new (first ∷ []) texts
+    → true ≡ are_new (first ∷ []) texts
 new_ends first texts i end same = sym (at_drop_all (are_new (first ∷ take i texts)) texts i end) ∙ same
 
 -- what a prototype that makes a type is
@@ -81,7 +85,8 @@ module _ (p : Prototype) (made : makes_type p ≡ true) (old one two : Contents)
   its_place : f.0 ≡ place p.function two.symbols
   its_place =
       let given = given_number p.function old.symbols f.0 h1.0 in
-      sym (ap (place p.function) h2.0 ∙ placed p.function p.formals one.symbols (ap (is_symbol p.function) (begun_symbols p old one f h1) ∙ given.is_one) ∙ ap (place p.function) (begun_symbols p old one f h1) ∙ given.at)
+      sym (ap (place p.function) h2.0 ∙ placed p.function p.formals one.symbols (ap (is_symbol p.function) (begun_symbols p old one f h1) ∙ given.is_one)
+      ∙ ap (place p.function) (begun_symbols p old one f h1) ∙ given.at)
 
   pub type_more : HasMore old two
   type_more = has_both old one two (begun_more p old one f h1) h2.1
@@ -111,17 +116,20 @@ module _ (p : Prototype) (made : makes_type p ≡ true) (old one two : Contents)
   type_done new t number ts fs en ets et ek efs =
       let symbols : new.symbols ≡ two.symbols = ap (λ (c : Contents). c.symbols) en in
       let kept : two ≡ record new { types = old.types; functions = old.functions } =
-      (λ i. record two { types = same_types i; functions = same_functions i }) ∙ sym (ap (λ (c : Contents). record c { types = old.types; functions = old.functions }) en) in
+      (λ i. record two { types = same_types i; functions = same_functions i })
+      ∙ sym (ap (λ (c : Contents). record c { types = old.types; functions = old.functions }) en) in
       let its : t ≡ data_type p two.symbols = et ∙ (λ i. record { name = p.function; fields = h2.2 i }) in
       let types : new.types ≡ old.types ++ data_type p two.symbols ∷ [] = ap (λ (c : Contents). c.types) en ∙ ets ∙ (λ i. same_types i ++ its i ∷ []) in
       let number_is : number ≡ length old.types = ek ∙ ap length same_types in
-      let functions : new.functions ≡ with_fields (map (λ n. place n two.symbols) p.formals) (with_function (place p.function two.symbols) (Constructs (length old.types)) old.functions) =
+      let functions : new.functions ≡ with_fields (map (λ n. place n two.symbols) p.formals)
+      (with_function (place p.function two.symbols) (Constructs (length old.types)) old.functions) =
       ap (λ (c : Contents). c.functions) en ∙ efs ∙ (λ i. with_fields (h2.2 i) (with_function (its_place i) (Constructs (number_is i)) (same_functions i))) in (
         symbols ∙ type_symbols,
         subst (λ ss. length ss ≤ 1_000_000) (sym symbols) h2.3,
         subst (HasMore old) kept type_more,
         types ∙ ap (λ ss. old.types ++ data_type p ss ∷ []) (sym symbols),
-        functions ∙ ap (λ ss. with_fields (map (λ n. place n ss) p.formals) (with_function (place p.function ss) (Constructs (length old.types)) old.functions)) (sym symbols),
+        functions ∙ ap (λ ss. with_fields (map (λ n. place n ss) p.formals) (with_function (place p.function ss) (Constructs (length old.types)) old.functions))
+            (sym symbols),
       )
 
 -- a refusal of the parts that is passed on
@@ -133,7 +141,8 @@ type_passed p old new e (Err r) is h = (subst (AreTooMany (names p) old.symbols)
 abbrev Typed : Type 0
 Typed = List (List ℕ) × List DataType × List Function
 
-module _ (text : List ℕ) (p : Prototype) (symbols : List (List ℕ)) (types : List DataType) (functions : List Function) (is : Some p ≡ prototype text) (made : makes_type p ≡ true)
+module _ (text : List ℕ) (p : Prototype) (symbols : List (List ℕ)) (types : List DataType) (functions : List Function) (is : Some p ≡ prototype text)
+    (made : makes_type p ≡ true)
     (room : eqb (length types) 100_000 ≡ false) where
   judged : with_type text symbols types functions ≡ type_in p (with_names (names p) symbols) types functions
   judged =
@@ -152,7 +161,8 @@ module _ (text : List ℕ) (p : Prototype) (symbols : List (List ℕ)) (types : 
   accepted few = judged ∙ ap (λ b. if b then Err 9 else Ok (all_of (with_names (names p) symbols))) few
 
   -- a refusal where the symbols would not be too many
-  pub type_refused : (e : StoreError) → ltb 1_000_000 (length (with_names (names p) symbols)) ≡ false → AreTooMany (names p) symbols e → IsError (with_type text symbols types functions) e
+  pub type_refused : (e : StoreError) → ltb 1_000_000 (length (with_names (names p) symbols)) ≡ false → AreTooMany (names p) symbols e
+      → IsError (with_type text symbols types functions) e
   type_refused NoMemory few h = ap is_ok (accepted few)
   type_refused Full few h = absurd (omega (arith, h, ltb-false 1_000_000 (length (with_names (names p) symbols)) few))
   type_refused NullName few h = absurd h

@@ -1,5 +1,7 @@
 -- Arrays: what a prototype says, and which element subscripts name.
-use Rattle.std.specs.Prelude.{ℕ, ◌+◌, ◌*◌, ◌==◌, nat_lt, ℤ, pos, ◌-ℤ◌, int_le, unsigned_abs, Bool, ◌&&◌, List, [], ◌∷◌, length, take, drop, replicate, position, option_map, Option, None, Some, Result, Ok, Err, if◌then◌else◌}
+use Rattle.std.specs.Prelude.{ℕ, ◌+◌, ◌*◌, ◌==◌, nat_lt, ℤ, pos, ◌-ℤ◌, int_le, unsigned_abs, Bool, ◌&&◌, List, [], ◌∷◌}
+use Rattle.std.specs.Prelude.{length, take, drop, replicate, position, option_map, Option, None, Some, Result, Ok, Err}
+use Rattle.std.specs.Prelude.{if◌then◌else◌}
 use Rattle.std.specs.List.{slice_split}
 use Rattle.sno_value.specs.declared.ids.ObjId.{ObjId}
 use Rattle.sno_value.specs.declared.value.Name.{Name}
@@ -55,7 +57,8 @@ element_count (dimension ∷ dimensions) = size dimension * element_count dimens
 
 -- how far a subscript stands behind the lowest, if it is one of the dimension's
 abbrev pub offset : Dimension → ℤ → Option ℕ
-offset dimension i = if int_le dimension.low i && int_le i dimension.high then Some (unsigned_abs (i -ℤ dimension.low)) else None
+offset dimension i = if int_le dimension.low i && int_le i dimension.high
+    then Some (unsigned_abs (i -ℤ dimension.low)) else None
 
 -- so many blocks of elements, and some more
 abbrev pub behind : ℕ → Option ℕ → Option ℕ → Option ℕ
@@ -66,7 +69,8 @@ behind block blocks more = None
 -- earlier one passes over all elements of the dimensions behind it.
 abbrev pub element_place : List Dimension → List ℤ → Option ℕ
 element_place [] [] = Some 0
-element_place (dimension ∷ dimensions) (i ∷ is) = behind (element_count dimensions) (offset dimension i) (element_place dimensions is)
+element_place (dimension ∷ dimensions) (i ∷ is) =
+    behind (element_count dimensions) (offset dimension i) (element_place dimensions is)
 element_place dimensions is = None
 
 module _ {V : Type 0} where
@@ -77,7 +81,8 @@ module _ {V : Type 0} where
       else joined (ArrayOf (record { prototype = prototype; dimensions = dimensions; values = values })) objects
 
   abbrev pub filled_array : List ℕ → V → List (Object V) → Option (List Dimension) → Result (ObjId × List (Object V)) ℕ
-  filled_array prototype value objects (Some dimensions) = array_from prototype dimensions (replicate (element_count dimensions) value) objects
+  filled_array prototype value objects (Some dimensions) =
+      array_from prototype dimensions (replicate (element_count dimensions) value) objects
   filled_array prototype value objects None = Err 12
 
   -- an array each of whose elements has the value; another text than a prototype is error 12
@@ -86,7 +91,8 @@ module _ {V : Type 0} where
 
   abbrev pub element_of : ObjId → List ℤ → Option (Elements V) → Result (Option Name) ℕ
   element_of id is (Some elements) =
-      if length is == length elements.dimensions then Ok (option_map (Elem id) (element_place elements.dimensions is)) else Err 12
+      if length is == length elements.dimensions
+      then Ok (option_map (Elem id) (element_place elements.dimensions is)) else Err 12
   element_of id is None = Err 1
 
   -- the element that subscripts name, if they are in range; of no array it is error 1, and with a wrong number of

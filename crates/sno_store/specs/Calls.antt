@@ -1,4 +1,5 @@
--- Calls of functions that a program defines, over any type V of values: what a call saves and sets, and what comes back.
+-- Calls of functions that a program defines, over any type V
+-- of values: what a call saves and sets, and what comes back.
 use Rattle.std.specs.Prelude.{ℕ, List, [], ◌∷◌, ◌++◌, map, slice_index_or, slice_set}
 use Rattle.sno_store.specs.Definitions.{Definition}
 
@@ -20,11 +21,13 @@ module _ {V : Type 0} where
   abbrev pub with_arguments : V → List ℕ → List V → List V → List V
   with_arguments null [] arguments values = values
   with_arguments null (formal ∷ formals) [] values = with_arguments null formals [] (slice_set values formal null)
-  with_arguments null (formal ∷ formals) (argument ∷ arguments) values = with_arguments null formals arguments (slice_set values formal argument)
+  with_arguments null (formal ∷ formals) (argument ∷ arguments) values =
+      with_arguments null formals arguments (slice_set values formal argument)
 
   -- the values where a call begins: the function and its locals are null, and its formals are the arguments
   abbrev pub entered : V → ℕ → Definition → List V → List V → List V
-  entered null function d arguments values = with_arguments null d.formals arguments (with_nulls null (function ∷ d.locals) values)
+  entered null function d arguments values =
+      with_arguments null d.formals arguments (with_nulls null (function ∷ d.locals) values)
 
   -- the saved values come back, the last one first
   abbrev pub restored : List (ℕ × V) → List V → List V

@@ -1,5 +1,6 @@
 -- What a store holds, and what its calls do with that.
-use Rattle.std.specs.Prelude.{◌≡◌, ℕ, ◌==◌, List, [], ◌∷◌, ◌++◌, codes, length, slice_index_or, slice_set, Result, Ok, Err, IsOk, if◌then◌else◌}
+use Rattle.std.specs.Prelude.{◌≡◌, ℕ, ◌==◌, List, [], ◌∷◌, ◌++◌, codes, length, slice_index_or, slice_set, Result, Ok}
+use Rattle.std.specs.Prelude.{Err, IsOk, if◌then◌else◌}
 use Rattle.sno_value.specs.declared.ids.SymId.{SymId}
 use Rattle.sno_value.specs.declared.value.Name.{Name}
 use Rattle.sno_value.specs.declared.value.Name.TheVariants.{Var, Elem, Entry, Field}
@@ -9,7 +10,8 @@ use Rattle.sno_store.specs.declared.error.StoreError.{StoreError}
 use Rattle.sno_store.specs.declared.error.StoreError.TheVariants.{NullName, Full, NoMemory}
 use Rattle.sno_store.specs.declared.functions.Function.{Function}
 pub use Rattle.sno_store.specs.Names.{place, is_symbol}
-use Rattle.sno_store.specs.Objects.{Object, array_at, table_at, fields_at, element_value, entry_value, field_value, with_element, with_entry_value, with_field, changed}
+use Rattle.sno_store.specs.Objects.{Object, array_at, table_at, fields_at, element_value, entry_value, field_value}
+use Rattle.sno_store.specs.Objects.{with_element, with_entry_value, with_field, changed}
 use Rattle.sno_store.specs.Types.{DataType}
 
 -- What a store holds.
@@ -31,11 +33,13 @@ pub record Contents : Type 0 where
 abbrev pub joining : List ℕ → List (List ℕ) → Result ℕ StoreError
 joining [] symbols = Err NullName
 joining (byte ∷ bytes) symbols =
-    if is_symbol (byte ∷ bytes) symbols then Ok (place (byte ∷ bytes) symbols) else (if length symbols == 1_000_000 then Err Full else Ok (length symbols))
+    if is_symbol (byte ∷ bytes) symbols then Ok (place (byte ∷ bytes) symbols)
+    else (if length symbols == 1_000_000 then Err Full else Ok (length symbols))
 
 -- a name joins the symbols where it is none of them, and begins with the null string
 abbrev pub with_symbol : List ℕ → Contents → Contents
-with_symbol name c = if is_symbol name c.symbols then c else record c { symbols = c.symbols ++ name ∷ []; values = c.values ++ Str [] ∷ [] }
+with_symbol name c = if is_symbol name c.symbols then c
+    else record c { symbols = c.symbols ++ name ∷ []; values = c.values ++ Str [] ∷ [] }
 
 -- what `symbol` did
 abbrev pub IsJoined : List ℕ → Contents → Contents → Result SymId StoreError → Type 0
@@ -63,7 +67,8 @@ pattern n = Pat (record { 0 = n })
 -- a new store: the variables that begin with a pattern, then INPUT and OUTPUT, which begin with null
 abbrev pub new_contents : Contents
 new_contents = record {
-  symbols = codes "ARB" ∷ codes "BAL" ∷ codes "REM" ∷ codes "FAIL" ∷ codes "FENCE" ∷ codes "ABORT" ∷ codes "SUCCEED" ∷ codes "INPUT" ∷ codes "OUTPUT" ∷ [];
+  symbols = codes "ARB" ∷ codes "BAL" ∷ codes "REM" ∷ codes "FAIL" ∷ codes "FENCE" ∷ codes "ABORT" ∷ codes "SUCCEED"
+      ∷ codes "INPUT" ∷ codes "OUTPUT" ∷ [];
   values = pattern 0 ∷ pattern 1 ∷ pattern 2 ∷ pattern 3 ∷ pattern 4 ∷ pattern 5 ∷ pattern 6 ∷ Str [] ∷ Str [] ∷ [];
   objects = [];
   types = [];

@@ -1,5 +1,6 @@
 -- Functions that a program defines: what a prototype says, and what it defines.
-use Rattle.std.specs.Prelude.{ℕ, ◌+◌, ◌==◌, nat_le, Bool, false, not, ◌&&◌, ◌||◌, List, [], ◌∷◌, ◌++◌, codes, length, map, take, drop, position, option_map, Option, None, Some, if◌then◌else◌}
+use Rattle.std.specs.Prelude.{ℕ, ◌+◌, ◌==◌, nat_le, Bool, false, not, ◌&&◌, ◌||◌, List, [], ◌∷◌, ◌++◌, codes, length}
+use Rattle.std.specs.Prelude.{map, take, drop, position, option_map, Option, None, Some, if◌then◌else◌}
 use Rattle.std.specs.List.{list_all, slice_split}
 use Rattle.std.specs.Str.{bytes_eq}
 use Rattle.sno_store.specs.Arrays.{is_comma}
@@ -45,7 +46,8 @@ abbrev pub cut_at : ℕ → List ℕ → Option (List ℕ × List ℕ)
 cut_at byte text = option_map (λ place. (take place text, drop (place + 1) text)) (position (λ b. b == byte) text)
 
 abbrev pub lists_of : List ℕ → Option (List ℕ × List ℕ) → Option Prototype
-lists_of function (Some lists) = Some (record { function = function; formals = listed lists.0; locals = listed lists.1 })
+lists_of function (Some lists) =
+    Some (record { function = function; formals = listed lists.0; locals = listed lists.1 })
 lists_of function None = None
 
 abbrev pub prototype_in : Option (List ℕ × List ℕ) → Option Prototype

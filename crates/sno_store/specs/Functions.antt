@@ -1,5 +1,6 @@
 -- What the names of functions are, by the numbers of their symbols: what the latest DEFINE or DATA has made of each.
-use Rattle.std.specs.Prelude.{ℕ, zero, suc, nat_lt, Bool, true, false, List, [], ◌∷◌, length, slice_index_or, Option, None, Some, Result, Ok, Err, if◌then◌else◌}
+use Rattle.std.specs.Prelude.{ℕ, zero, suc, nat_lt, Bool, true, false, List, [], ◌∷◌, length, slice_index_or, Option}
+use Rattle.std.specs.Prelude.{None, Some, Result, Ok, Err, if◌then◌else◌}
 use Rattle.sno_store.specs.declared.functions.Function.{Function}
 use Rattle.sno_store.specs.declared.functions.Function.TheVariants.{Undefined, Defined, Constructs, IsField}
 use Rattle.sno_store.specs.Definitions.{Definition, Prototype, definition, is_sound, names, prototype, with_names}
@@ -40,14 +41,17 @@ is_field other = false
 abbrev pub is_field_at : List Function → ℕ → Bool
 is_field_at functions n = is_field (function_at functions n)
 
--- the symbols with the names, and the functions with the definition; more than 1,000,000 symbols are error 9 (this profile)
+-- the symbols with the names, and the functions with the definition;
+-- more than 1,000,000 symbols are error 9 (this profile)
 abbrev pub definition_in : List ℕ → Prototype → List (List ℕ) → List Function → Result (List (List ℕ) × List Function) ℕ
 definition_in entry p symbols functions =
     if nat_lt 1_000_000 (length symbols) then Err 9
     else Ok (symbols, with_function (place p.function symbols) (Defined (definition entry p symbols)) functions)
 
-abbrev pub definition_by : List ℕ → List (List ℕ) → List Function → Option Prototype → Result (List (List ℕ) × List Function) ℕ
-definition_by entry symbols functions (Some p) = if is_sound p then definition_in entry p (with_names (names p) symbols) functions else Err 12
+abbrev pub definition_by : List ℕ → List (List ℕ) → List Function → Option Prototype
+    → Result (List (List ℕ) × List Function) ℕ
+definition_by entry symbols functions (Some p) =
+    if is_sound p then definition_in entry p (with_names (names p) symbols) functions else Err 12
 definition_by entry symbols functions None = Err 12
 
 -- the symbols and the functions behind DEFINE; another text than a sound prototype is error 12

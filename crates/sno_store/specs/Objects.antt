@@ -1,6 +1,7 @@
--- Arrays, tables and objects of a program's own types, over any type V of values. An object's number is its place in the
--- list of objects.
-use Rattle.std.specs.Prelude.{ℕ, zero, suc, ◌==◌, List, [], ◌∷◌, ◌++◌, length, map, slice_get, slice_index_or, slice_set, Option, None, Some, Result, Ok, Err, if◌then◌else◌}
+-- Arrays, tables and objects of a program's own types, over any type V of values. An object's number is its place in
+-- the list of objects.
+use Rattle.std.specs.Prelude.{ℕ, zero, suc, ◌==◌, List, [], ◌∷◌, ◌++◌, length, map, slice_get, slice_index_or}
+use Rattle.std.specs.Prelude.{slice_set, Option, None, Some, Result, Ok, Err, if◌then◌else◌}
 use Rattle.sno_value.specs.declared.ids.ObjId.{ObjId}
 use Rattle.sno_store.specs.declared.dimension.Dimension.{Dimension}
 
@@ -25,8 +26,8 @@ pub data Object (V : Type 0) : Type 0 where
 abbrev pub object_number : ℕ → ObjId
 object_number n = record { 0 = n }
 
--- the array and the table with a number, if it is one's, and so the fields of an object of a program's own type, and the
--- number of its type
+-- the array and the table with a number, if it is one's, and so the fields of an object of a program's own type, and
+-- the number of its type
 abbrev pub as_array : {V : Type 0} → Option (Object V) → Option (Elements V)
 as_array (Some (ArrayOf elements)) = Some elements
 as_array other = None
@@ -105,4 +106,5 @@ changed change objects id = changed_at change objects id.0
 
 -- a new object; beside 1,000,000 others it is error 9
 abbrev pub joined : {V : Type 0} → Object V → List (Object V) → Result (ObjId × List (Object V)) ℕ
-joined object objects = if length objects == 1_000_000 then Err 9 else Ok (object_number (length objects), objects ++ object ∷ [])
+joined object objects = if length objects == 1_000_000 then Err 9
+    else Ok (object_number (length objects), objects ++ object ∷ [])

@@ -1,5 +1,6 @@
 -- What private calls say of objects, of calls and of prototypes. Private contracts alone cite it.
-use Rattle.std.specs.Prelude.{◌≡◌, ℕ, ◌+◌, max, ◌==◌, List, [], ◌∷◌, ◌++◌, length, map, slice_index_or, slice_set, Option, None, Some, Result, Ok, Err, if◌then◌else◌}
+use Rattle.std.specs.Prelude.{◌≡◌, ℕ, ◌+◌, max, ◌==◌, List, [], ◌∷◌, ◌++◌, length, map, slice_index_or, slice_set}
+use Rattle.std.specs.Prelude.{Option, None, Some, Result, Ok, Err, if◌then◌else◌}
 use Rattle.sno_value.specs.declared.ids.SymId.{SymId}
 use Rattle.sno_value.specs.declared.value.Value.{Value}
 use Rattle.sno_value.specs.declared.value.Value.TheVariants.{Str}
@@ -20,7 +21,8 @@ seen (Table entries) = TableOf entries.value
 seen (Data instance) = DataOf instance.data_type instance.fields.items
 
 -- what a call on the objects did
-abbrev pub Does : {X : Type 0} → (List (Object Value) → Result (X × List (Object Value)) ℕ) → List (Object Value) → List (Object Value) → Result X StoreError → Type 0
+abbrev pub Does : {X : Type 0} → (List (Object Value) → Result (X × List (Object Value)) ℕ) → List (Object Value)
+    → List (Object Value) → Result X StoreError → Type 0
 Does meant old new (Ok x) = meant old ≡ Ok (x, new)
 Does meant old new (Err refusal) = IsError (meant old) refusal × (new ≡ old)
 
@@ -28,12 +30,14 @@ Does meant old new (Err refusal) = IsError (meant old) refusal × (new ≡ old)
 -- error 9
 abbrev pub with_key : Value → List (Value × Value) → Option ℕ → Result (ℕ × List (Value × Value)) ℕ
 with_key key entries (Some place) = Ok (place, entries)
-with_key key entries None = if length entries == 1_000_000 then Err 9 else Ok (length entries, entries ++ (key, Str []) ∷ [])
+with_key key entries None =
+    if length entries == 1_000_000 then Err 9 else Ok (length entries, entries ++ (key, Str []) ∷ [])
 
 -- what a call on the entries of a table did
 abbrev pub IsEntry : Value → List (Value × Value) → List (Value × Value) → Result ℕ StoreError → Type 0
 IsEntry key old new (Ok place) = with_key key old (entry_place stored_notions key old) ≡ Ok (place, new)
-IsEntry key old new (Err refusal) = IsError (with_key key old (entry_place stored_notions key old)) refusal × (new ≡ old)
+IsEntry key old new (Err refusal) =
+    IsError (with_key key old (entry_place stored_notions key old)) refusal × (new ≡ old)
 
 -- what the parts of a prototype say
 abbrev pub prototype_seen : FunctionPrototype → Prototype
@@ -44,11 +48,12 @@ abbrev pub reach : List SymId → ℕ
 reach [] = 0
 reach (symbol ∷ symbols) = max (symbol.0 + 1) (reach symbols)
 
--- Values are moved out of variables, which are null from then on: of a symbol that stands more than once, the value goes
--- with the first.
+-- Values are moved out of variables, which are null from then on: of a symbol that stands more than once, the value
+-- goes with the first.
 abbrev pub moved : List SymId → List Value → List (SymId × Value)
 moved [] values = []
-moved (symbol ∷ symbols) values = (symbol, slice_index_or values symbol.0 (Str [])) ∷ moved symbols (slice_set values symbol.0 (Str []))
+moved (symbol ∷ symbols) values =
+    (symbol, slice_index_or values symbol.0 (Str [])) ∷ moved symbols (slice_set values symbol.0 (Str []))
 
 -- a symbol's value, wherever it stands
 abbrev pub known : ℕ → Value → List (ℕ × Value) → List (ℕ × Value)

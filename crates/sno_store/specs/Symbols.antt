@@ -1,5 +1,6 @@
 -- What private calls say of symbols and of the variables that join. Private contracts alone cite it.
-use Rattle.std.specs.Prelude.{◌≡◌, ℕ, ◌-◌, ◌<◌, ◌≤◌, List, [], ◌∷◌, ◌++◌, codes, length, map, replicate, take, Vec, Option, Some, None, Result, Ok, Err, if◌then◌else◌}
+use Rattle.std.specs.Prelude.{◌≡◌, ℕ, ◌-◌, ◌<◌, ◌≤◌, List, [], ◌∷◌, ◌++◌, codes, length, map, replicate, take, Vec}
+use Rattle.std.specs.Prelude.{Option, Some, None, Result, Ok, Err, if◌then◌else◌}
 use Rattle.std.specs.declared.alloc.Global.{Global}
 use Rattle.sno_value.specs.declared.ids.SymId.{SymId}
 use Rattle.sno_value.specs.declared.value.Value.{Value}
@@ -20,8 +21,8 @@ found name symbols = if is_symbol name symbols then Some (place name symbols) el
 abbrev pub appended : List ℕ → Value → Contents → Contents
 appended name value c = record c { symbols = c.symbols ++ name ∷ []; values = c.values ++ value ∷ [] }
 
--- a new store by stages: nothing, then with the variables of the patterns that search for an end, then with those of the
--- patterns that steer the search
+-- a new store by stages: nothing, then with the variables of the patterns that search for an end, then with those of
+-- the patterns that steer the search
 abbrev pub no_contents : Contents
 no_contents = record { symbols = []; values = []; objects = []; types = []; functions = []; calls = [] }
 
@@ -37,7 +38,8 @@ with_searches = record {
 
 abbrev pub with_controls : Contents
 with_controls = record {
-  symbols = codes "ARB" ∷ codes "BAL" ∷ codes "REM" ∷ codes "FAIL" ∷ codes "FENCE" ∷ codes "ABORT" ∷ codes "SUCCEED" ∷ [];
+  symbols = codes "ARB" ∷ codes "BAL" ∷ codes "REM" ∷ codes "FAIL" ∷ codes "FENCE"
+      ∷ codes "ABORT" ∷ codes "SUCCEED" ∷ [];
   values = pattern 0 ∷ pattern 1 ∷ pattern 2 ∷ pattern 3 ∷ pattern 4 ∷ pattern 5 ∷ pattern 6 ∷ [];
   objects = [];
   types = [];
@@ -48,7 +50,10 @@ with_controls = record {
 -- nothing but some symbols more, whose variables begin with null
 pub record HasMore (old new : Contents) : Type 0 where
   pub symbols : take (length old.symbols) new.symbols ≡ old.symbols
-  pub others : new ≡ record old { symbols = new.symbols; values = old.values ++ replicate (length new.symbols - length old.symbols) (Str []) }
+  pub others : new ≡ record old {
+    symbols = new.symbols;
+    values = old.values ++ replicate (length new.symbols - length old.symbols) (Str []);
+  }
 
 -- why names could not join: the symbols would be too many, or memory was refused
 abbrev pub AreTooMany : List (List ℕ) → List (List ℕ) → StoreError → Type 0
@@ -59,7 +64,8 @@ AreTooMany ns symbols other = ⊥
 -- what the call that joins names did
 abbrev pub AreJoined : List (List ℕ) → Contents → Contents → Result (Vec SymId Global) StoreError → Type 0
 AreJoined ns old new (Ok numbers) =
-    (new.symbols ≡ with_names ns old.symbols) × HasMore old new × (map (λ id. id.0) numbers.items ≡ map (λ name. place name new.symbols) ns) × (length new.symbols ≤ 1_000_000)
+    (new.symbols ≡ with_names ns old.symbols) × HasMore old new
+    × (map (λ id. id.0) numbers.items ≡ map (λ name. place name new.symbols) ns) × (length new.symbols ≤ 1_000_000)
 AreJoined ns old new (Err refusal) = AreTooMany ns old.symbols refusal × HasMore old new
 
 -- what the call that defines a function by the parts of its prototype did
@@ -68,7 +74,8 @@ IsDefinedByParts p entry old new (Ok done) =
     (new.symbols ≡ with_names (names p) old.symbols) ×
     (length new.symbols ≤ 1_000_000) ×
     HasMore old (record new { functions = old.functions }) ×
-    (new.functions ≡ with_function (place p.function new.symbols) (Defined (definition entry p new.symbols)) old.functions)
+    (new.functions ≡ with_function (place p.function new.symbols)
+    (Defined (definition entry p new.symbols)) old.functions)
 IsDefinedByParts p entry old new (Err refusal) = AreTooMany (names p) old.symbols refusal × HasMore old new
 
 -- what the call that makes a type by the parts of its prototype did
@@ -78,5 +85,6 @@ IsTypedByParts p old new (Ok done) =
     (length new.symbols ≤ 1_000_000) ×
     HasMore old (record new { types = old.types; functions = old.functions }) ×
     (new.types ≡ old.types ++ data_type p new.symbols ∷ []) ×
-    (new.functions ≡ with_fields (map (λ name. place name new.symbols) p.formals) (with_function (place p.function new.symbols) (Constructs (length old.types)) old.functions))
+    (new.functions ≡ with_fields (map (λ name. place name new.symbols) p.formals)
+    (with_function (place p.function new.symbols) (Constructs (length old.types)) old.functions))
 IsTypedByParts p old new (Err refusal) = AreTooMany (names p) old.symbols refusal × HasMore old new

@@ -1,5 +1,6 @@
 -- Tables: entries by their keys, in the order in which the keys joined.
-use Rattle.std.specs.Prelude.{ℕ, ◌==◌, pos, Bool, not, List, [], ◌∷◌, ◌++◌, codes, length, map, filter, position, option_map, Option, None, Some, Result, Ok, Err, if◌then◌else◌}
+use Rattle.std.specs.Prelude.{ℕ, ◌==◌, pos, Bool, not, List, [], ◌∷◌, ◌++◌, codes, length, map, filter, position}
+use Rattle.std.specs.Prelude.{option_map, Option, None, Some, Result, Ok, Err, if◌then◌else◌}
 use Rattle.std.specs.Fmt.{decimal}
 use Rattle.sno_value.specs.declared.ids.ObjId.{ObjId}
 use Rattle.sno_value.specs.declared.value.Name.{Name}

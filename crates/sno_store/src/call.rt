@@ -10,8 +10,8 @@ use sno_value::{SymId, Value};
 use std::alloc::{AllocError, Global};
 use std::marker::Model;
 
-/// What an open call has saved, the function's own value first. Where a symbol stands more than once, the value that its
-/// variable had stands with the first, and null with the others.
+/// What an open call has saved, the function's own value first. Where a symbol stands more than once, the value that
+/// its variable had stands with the first, and null with the others.
 #[derive(Drop)]
 pub(crate) struct Call {
     saved: Vec<(SymId, Value)>,
@@ -28,8 +28,8 @@ impl Model for Call {
 }
 
 impl Call {
-    /// Begins a call of a function: the values of its variables are saved, then it and its locals are null and its formals
-    /// are the arguments. Where memory is refused, the values are as they were.
+    /// Begins a call of a function: the values of its variables are saved, then it and its locals are null and its
+    /// formals are the arguments. Where memory is refused, the values are as they were.
     pub(crate) fn open(
         alloc: Global,
         function: SymId,
@@ -38,7 +38,8 @@ impl Call {
         values: &mut Vec<Value>,
     ) -> Result<Call, AllocError>
         ensures ok { IfOk result (λ call. call ≡ saved (Str []) function.0 definition.now values.old.items) }
-        ensures values { OnOk result (values.new.items ≡ entered (Str []) function.0 definition.now arguments.items values.old.items) }
+        ensures values { OnOk result
+            (values.new.items ≡ entered (Str []) function.0 definition.now arguments.items values.old.items) }
         ensures err { OnErr result (values.new.items ≡ values.old.items) }
     {
         let (formals, locals) = (definition.formals(), definition.locals());
@@ -83,7 +84,8 @@ fn save(alloc: Global, symbols: &[SymId], values: &mut Vec<Value>, saved: &mut V
 
 /// Formals are given arguments from left to right: missing ones are null, and extra ones are dropped.
 fn give(alloc: Global, formals: &[SymId], arguments: Vec<Value>, values: &mut Vec<Value>)
-    ensures { values.new.items ≡ with_arguments (Str []) (map (λ id. id.0) formals.now) arguments.items values.old.items }
+    ensures { values.new.items ≡ with_arguments (Str []) (map (λ id. id.0) formals.now)
+        arguments.items values.old.items }
 {
     let mut arguments = arguments.into_iter();
     'formals: for formal in formals {

@@ -18,13 +18,21 @@ impl Model for Definition {
 
     ghost Value = { Shown };
 
-    ghost view = { λ d. record { entry = d.entry.items; formals = map (λ id. id.0) d.formals.items; locals = map (λ id. id.0) d.locals.items } };
+    ghost view = { λ d. record {
+      entry = d.entry.items;
+      formals = map (λ id. id.0) d.formals.items;
+      locals = map (λ id. id.0) d.locals.items;
+    } };
 }
 
 impl Definition {
     /// A definition of these parts.
     pub(crate) fn new(entry: Vec<u8>, formals: Vec<SymId>, locals: Vec<SymId>) -> Definition
-        ensures { result ≡ record { entry = entry.items; formals = map (λ id. id.0) formals.items; locals = map (λ id. id.0) locals.items } }
+        ensures { result ≡ record {
+          entry = entry.items;
+          formals = map (λ id. id.0) formals.items;
+          locals = map (λ id. id.0) locals.items;
+        } }
     {
         Definition {
             entry,

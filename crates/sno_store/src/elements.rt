@@ -1,5 +1,6 @@
 //! Arrays.
-ghost use Rattle.std.specs.Prelude.{◌≡◌, ◌*◌, ◌<◌, ◌≤◌, [], ◌∷◌, ◌++◌, codes, Some, length, replicate, option_copied, option_map, slice_get, slice_set, IfOk, IfSome};
+ghost use Rattle.std.specs.Prelude.{◌≡◌, ◌*◌, ◌<◌, ◌≤◌, [], ◌∷◌, ◌++◌, codes, Some, length, replicate, option_copied};
+ghost use Rattle.std.specs.Prelude.{option_map, slice_get, slice_set, IfOk, IfSome};
 ghost use Rattle.std.specs.Fmt.{decimal};
 ghost use Rattle.sno_store.specs.Arrays.{dimensions_of, element_count, element_place};
 ghost use Rattle.sno_store.specs.Stored.{stored_notions};
@@ -30,7 +31,8 @@ impl Model for Elements {
 
     ghost view = { λ a. record { prototype = a.text.items; dimensions = a.dimensions.items; values = a.values.items } };
 
-    ghost invariant = { λ a. (length a.values.items ≡ element_count a.dimensions.items) × (length a.values.items ≤ 1_000_000) };
+    ghost invariant = { λ a. (length a.values.items ≡ element_count a.dimensions.items)
+        × (length a.values.items ≤ 1_000_000) };
 }
 
 impl Elements {
@@ -97,7 +99,8 @@ pub(crate) fn uniform(
 ) -> Result<Elements, AllocError>
     requires prototype { option_map element_count (dimensions_of prototype.now) ≡ Some count }
     requires few { count ≤ 1_000_000 }
-    ensures { IfOk result (λ a. (a.prototype ≡ prototype.now) × (dimensions_of prototype.now ≡ Some a.dimensions) × (a.values ≡ replicate count value.now)) }
+    ensures { IfOk result (λ a. (a.prototype ≡ prototype.now) × (dimensions_of prototype.now ≡ Some a.dimensions)
+        × (a.values ≡ replicate count value.now)) }
 {
     let text = Vec::from_slice(alloc, prototype)?;
     let dimensions = dimensions(alloc, prototype)?;
@@ -114,7 +117,12 @@ pub(crate) fn of_rows(
     requires count { count ≡ length (filled stored_notions entries.now) }
     requires some { 0 < count }
     requires few { 2 * count ≤ 1_000_000 }
-    ensures { IfOk result (λ a. a ≡ record { prototype = decimal count ++ codes ",2"; dimensions = up_to count ∷ up_to 2 ∷ []; values = rows (filled stored_notions entries.now) }) }
+    ensures { IfOk result (λ a. a
+        ≡ record {
+          prototype = decimal count ++ codes ",2";
+          dimensions = up_to count ∷ up_to 2 ∷ [];
+          values = rows (filled stored_notions entries.now);
+        }) }
 {
     let high = count as i64;
     let mut text = int_text(alloc, high)?;

@@ -1,5 +1,6 @@
 //! Tables.
-ghost use Rattle.std.specs.Prelude.{◌≡◌, ◌<◌, ◌≤◌, ◌↔◌, ◌*◌, [], ◌∷◌, ◌++◌, None, true, length, map, option_copied, slice_get, IsTrue, IfOk, OnOk, OnErr};
+ghost use Rattle.std.specs.Prelude.{◌≡◌, ◌<◌, ◌≤◌, ◌↔◌, ◌*◌, [], ◌∷◌, ◌++◌, None, true, length, map, option_copied};
+ghost use Rattle.std.specs.Prelude.{slice_get, IsTrue, IfOk, OnOk, OnErr};
 ghost use Rattle.indexmap.specs.IndexMap.{index_map_len, set_value_at};
 ghost use Rattle.sno_store.specs.Objects.{with_value_at};
 ghost use Rattle.sno_store.specs.Seen.{IsEntry};

@@ -2,7 +2,8 @@
 ghost use Rattle.std.specs.Prelude.{◌≡◌, ◌==◌, ◌<◌, ◌&&◌, not, length, option_map, position, take, IfSome};
 ghost use Rattle.std.specs.List.{list_all, list_any};
 ghost use Rattle.std.specs.Str.{bytes_eq};
-ghost use Rattle.sno_store.specs.Definitions.{cut_at, entry_label, is_device, is_letter, is_name, is_name_byte, is_sound, listed, prototype};
+ghost use Rattle.sno_store.specs.Definitions.{cut_at, entry_label, is_device, is_letter, is_name, is_name_byte};
+ghost use Rattle.sno_store.specs.Definitions.{is_sound, listed, prototype};
 ghost use Rattle.sno_store.specs.Seen.{prototype_seen};
 
 /// How many names a prototype has at most (this profile).
@@ -30,7 +31,8 @@ impl<'a> FunctionPrototype<'a> {
         })
     }
 
-    /// Whether all names may be: they are names, at most 100 (this profile), and neither INPUT nor OUTPUT is among them.
+    /// Whether all names may be: they are names, at most 100 (this
+    /// profile), and neither INPUT nor OUTPUT is among them.
     pub(crate) fn is_sound(self) -> bool
         ensures { result ≡ is_sound (prototype_seen self.entry) }
     {

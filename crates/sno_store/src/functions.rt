@@ -101,7 +101,9 @@ impl Functions {
         number: u32,
         fields: &[SymId],
     ) -> Result<(), AllocError>
-        ensures ok { OnOk result (self.new ≡ with_fields (map (λ id. id.0) fields.now) (with_function constructor.0 (Constructs number) self.old)) }
+        ensures ok { OnOk result
+            (self.new ≡ with_fields (map (λ id. id.0) fields.now)
+            (with_function constructor.0 (Constructs number) self.old)) }
         ensures err { OnErr result (self.new ≡ self.old) }
     {
         let names = [constructor];

@@ -1,5 +1,5 @@
-//! What a program's run keeps: the symbols, the values of the variables, the arrays, the tables and the objects of the types
-//! that the program makes, and the functions that the program defines with their open calls.
+//! What a program's run keeps: the symbols, the values of the variables, the arrays, the tables and the objects of the
+//! types that the program makes, and the functions that the program defines with their open calls.
 #![tactic(auto)]
 
 mod call;

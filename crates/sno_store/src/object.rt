@@ -1,6 +1,7 @@
 //! Arrays, tables and objects of the types that a program makes.
 ghost use Rattle.std.specs.Prelude.{◌≡◌, Some, option_map, option_copied};
-ghost use Rattle.sno_store.specs.Objects.{as_array, as_fields, as_table, as_type, with_element, with_entry_value, with_field};
+ghost use Rattle.sno_store.specs.Objects.{as_array, as_fields, as_table, as_type, with_element, with_entry_value};
+ghost use Rattle.sno_store.specs.Objects.{with_field};
 ghost use Rattle.sno_store.specs.Seen.{seen};
 
 use crate::elements::Elements;
@@ -8,8 +9,8 @@ use crate::entries::Entries;
 use crate::instance::Instance;
 use sno_value::Value;
 
-/// An array, a table, or an object of a type that the program made. Of the latter a program has many, so the others, which
-/// are larger, lie apart.
+/// An array, a table, or an object of a type that the program made. Of the latter a program has many, so the others,
+/// which are larger, lie apart.
 #[derive(Drop)]
 pub(crate) enum Object {
     Array(Box<Elements>),
@@ -40,8 +41,10 @@ impl Object {
 
     /// The object of a type that the program made, if it is one.
     pub(crate) fn instance(&self) -> Option<&Instance>
-        ensures number { option_map (λ instance. instance.data_type) (option_copied result) ≡ as_type (Some (seen self.now)) }
-        ensures fields { option_map (λ instance. instance.fields.items) (option_copied result) ≡ as_fields (Some (seen self.now)) }
+        ensures number { option_map (λ instance. instance.data_type) (option_copied result)
+            ≡ as_type (Some (seen self.now)) }
+        ensures fields { option_map (λ instance. instance.fields.items) (option_copied result)
+            ≡ as_fields (Some (seen self.now)) }
     {
         match self {
             Object::Data(instance) => Some(instance),

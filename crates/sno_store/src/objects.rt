@@ -2,7 +2,9 @@
 ghost use Rattle.std.specs.Prelude.{◌≡◌, ◌<◌, [], length, option_copied, option_map, unwrap_or};
 ghost use Rattle.sno_value.specs.declared.value.Value.TheVariants.{Str};
 ghost use Rattle.sno_store.specs.Arrays.{new_array, element_name, prototype_of};
-ghost use Rattle.sno_store.specs.Objects.{DataOf, TableOf, array_at, table_at, fields_at, type_at, changed, element_value, entry_value, field_value, joined, with_element, with_entry_value, with_field};
+ghost use Rattle.sno_store.specs.Objects.{DataOf, TableOf, array_at, table_at, fields_at, type_at, changed};
+ghost use Rattle.sno_store.specs.Objects.{element_value, entry_value, field_value, joined, with_element};
+ghost use Rattle.sno_store.specs.Objects.{with_entry_value, with_field};
 ghost use Rattle.sno_store.specs.Outcomes.{IsAnswered, itself};
 ghost use Rattle.sno_store.specs.Seen.{seen, Does};
 ghost use Rattle.sno_store.specs.Stored.{stored_notions};

@@ -1,5 +1,6 @@
 //! The store: symbols, variables, arrays, tables and objects of a program's own types, and functions with their calls.
-ghost use Rattle.std.specs.Prelude.{◌≡◌, ◌<◌, ◌≤◌, ℕ, List, [], ◌∷◌, ◌++◌, length, take, nat_lt, true, false, slice_index_or, Some, option_copied, option_map, IfOk, OnOk, OnErr, IsOkAnd};
+ghost use Rattle.std.specs.Prelude.{◌≡◌, ◌<◌, ◌≤◌, ℕ, List, [], ◌∷◌, ◌++◌, length, take, nat_lt, true, false};
+ghost use Rattle.std.specs.Prelude.{slice_index_or, Some, option_copied, option_map, IfOk, OnOk, OnErr, IsOkAnd};
 ghost use Rattle.std.specs.List.{list_all};
 ghost use Rattle.sno_value.specs.declared.value.Value.TheVariants.{Str};
 ghost use Rattle.sno_store.specs.Arrays.{new_array, element_name, prototype_of};
@@ -11,7 +12,8 @@ ghost use Rattle.sno_store.specs.First.{first_patterns, search_patterns, IsBegin
 ghost use Rattle.sno_store.specs.Outcomes.{IsAnswered, IsDefined, IsDone, IsEntered, IsTyped, itself};
 ghost use Rattle.sno_store.specs.Seen.{prototype_seen};
 ghost use Rattle.sno_store.specs.Stored.{stored_notions};
-ghost use Rattle.sno_store.specs.Symbols.{appended, found, no_contents, with_searches, with_controls, AreJoined, IsDefinedByParts, IsTypedByParts};
+ghost use Rattle.sno_store.specs.Symbols.{appended, found, no_contents, with_searches, with_controls, AreJoined};
+ghost use Rattle.sno_store.specs.Symbols.{IsDefinedByParts, IsTypedByParts};
 ghost use Rattle.sno_store.specs.Tables.{new_table, find_entry, make_entry, table_to_array};
 ghost use Rattle.sno_store.specs.Types.{field_name, makes_type, new_data, object_type, type_name};
 
@@ -36,12 +38,13 @@ const MOST_CALLS: usize = 200;
 /// How many types a program makes at most (this profile).
 const MOST_TYPES: usize = 100_000;
 
-/// The symbols of a program, the values of its variables, its arrays, tables and objects of its own types, and its functions
-/// with their open calls.
+/// The symbols of a program, the values of its variables, its arrays, tables and objects of its own types, and its
+/// functions with their open calls.
 ///
-/// Each symbol has a number, and names a variable, which begins with the null string (the book). Numbers are counted from
-/// 0 in the order in which the symbols joined. Arrays, tables and objects have numbers of their own, in the order in which
-/// they were made; they stay as long as the store, and so do types. A function has the number of its name's symbol.
+/// Each symbol has a number, and names a variable, which begins with the null string (the book). Numbers are counted
+/// from 0 in the order in which the symbols joined. Arrays, tables and objects have numbers of their own, in the order
+/// in which they were made; they stay as long as the store, and
+/// so do types. A function has the number of its name's symbol.
 #[derive(Drop)]
 pub struct Store {
     alloc: Global,
@@ -64,15 +67,23 @@ impl Model for Store {
 
     ghost Value = { Contents };
 
-    ghost view = { λ s. record { symbols = s.symbols; values = s.values.items; objects = s.objects; types = s.types.items; functions = s.functions; calls = s.calls.items } };
+    ghost view = { λ s. record {
+      symbols = s.symbols;
+      values = s.values.items;
+      objects = s.objects;
+      types = s.types.items;
+      functions = s.functions;
+      calls = s.calls.items;
+    } };
 
-    ghost invariant = { λ s. (length s.values.items ≡ length s.symbols) × (s.null ≡ Str []) × (length s.calls.items ≤ 200) × (length s.types.items ≤ 100_000) };
+    ghost invariant = { λ s. (length s.values.items ≡ length s.symbols) × (s.null ≡ Str [])
+        × (length s.calls.items ≤ 200) × (length s.types.items ≤ 100_000) };
 }
 
 impl Store {
-    /// A new store. Its first variables are ARB, BAL, REM, FAIL, FENCE, ABORT and SUCCEED, whose patterns the empty table
-    /// `patterns` is given, and INPUT and OUTPUT, which begin with null. Where memory is refused, the table holds the first
-    /// of the patterns, or none.
+    /// A new store. Its first variables are ARB, BAL, REM, FAIL, FENCE, ABORT and SUCCEED, whose patterns the empty
+    /// table `patterns` is given, and INPUT and OUTPUT, which begin with null. Where memory is refused, the table holds
+    /// the first of the patterns, or none.
     pub fn new(alloc: Global, patterns: &mut Patterns) -> Result<Store, AllocError>
         requires { patterns.old ≡ [] }
         ensures ok { IfOk result (λ store. store ≡ new_contents) }
@@ -95,8 +106,8 @@ impl Store {
         Ok(store)
     }
 
-    /// The number of the symbol with this text, which joins the symbols where it is none of them. Its variable then begins
-    /// with the null string. It takes expected constant time beside the text's length.
+    /// The number of the symbol with this text, which joins the symbols where it is none of them. Its variable then
+    /// begins with the null string. It takes expected constant time beside the text's length.
     ///
     /// The null string is `NullName`; a new symbol beside 1,000,000 others is `Full` (this profile).
     pub fn symbol(&mut self, name: &[u8]) -> Result<SymId, StoreError>
@@ -174,8 +185,8 @@ impl Store {
     /// them; each is `n`, from 1 to n, or `l:u`, from l to u, of an optional sign and digits, without blanks (this
     /// profile).
     ///
-    /// Another text is `BadPrototype`, and so are a bound that doesn't fit 64 bits, an n less than 1 and a u less than l.
-    /// More than 1,000,000 elements are `Full`, and so is an array beside 1,000,000 arrays, tables and objects.
+    /// Another text is `BadPrototype`, and so are a bound that doesn't fit 64 bits, an n less than 1 and a u less than
+    /// l. More than 1,000,000 elements are `Full`, and so is an array beside 1,000,000 arrays, tables and objects.
     pub fn new_array(&mut self, prototype: &[u8], value: &Value) -> Result<ObjId, StoreError>
         ensures { IsDone itself (new_array prototype.now value.now) self.old self.new result }
     {
@@ -194,8 +205,8 @@ impl Store {
     /// The element of an array that subscripts name, which is None where one is out of its dimension's range. The last
     /// subscript varies fastest (this profile). It takes no memory.
     ///
-    /// It is `WrongType` where the number is no array's, and `BadPrototype` where there are more or fewer subscripts than
-    /// dimensions.
+    /// It is `WrongType` where the number is no array's, and `BadPrototype` where there are more or fewer subscripts
+    /// than dimensions.
     pub fn element(&self, array: ObjId, subscripts: &[i64]) -> Result<Option<Name>, StoreError>
         ensures { IsAnswered itself (element_name self.now.objects array subscripts.now) result }
     {
@@ -243,11 +254,11 @@ impl Store {
 
     /// Defines a function, in place of what its name may be. A prototype `F(A,B)L,M` has the function's name, then
     /// its formals in parentheses, and then its locals, without blanks; `F()` has neither. A name is a letter, and then
-    /// letters, digits, dots and underscores. The names join the symbols in this order. Calls begin at the label `entry`, or
-    /// at the one that is named as the function where `entry` is empty.
+    /// letters, digits, dots and underscores. The names join the symbols in this order. Calls begin at the label
+    /// `entry`, or at the one that is named as the function where `entry` is empty.
     ///
-    /// Another text is `BadPrototype`, and so are more than 100 names, and INPUT or OUTPUT among them (this profile). More
-    /// than 1,000,000 symbols are `Full`.
+    /// Another text is `BadPrototype`, and so are more than 100 names, and INPUT or OUTPUT among them (this profile).
+    /// More than 1,000,000 symbols are `Full`.
     pub fn define(&mut self, prototype: &[u8], entry: &[u8]) -> Result<(), StoreError>
         ensures { IsDefined prototype.now entry.now self.old self.new result }
     {
@@ -275,12 +286,14 @@ impl Store {
         self.functions.definition(function)
     }
 
-    /// Makes a type. A prototype `T(F,G)` has its name, and then 1 to 99 fields in parentheses, without blanks; each is a
-    /// letter, and then letters, digits, dots and underscores. The names join the symbols in this order. As functions T is the
-    /// constructor from now on, and F and G are fields, in place of what they may be; types that were made before stay.
+    /// Makes a type. A prototype `T(F,G)` has its name, and then 1 to 99 fields in parentheses, without blanks; each is
+    /// a letter, and then letters, digits, dots and underscores. The names join the symbols in this order. As functions
+    /// T is the constructor from now on, and F and G are fields, in
+    /// place of what they may be; types that were made before stay.
     ///
-    /// Another text is `BadPrototype`, and so are a name that stands twice, and STRING, INTEGER, PATTERN, ARRAY, TABLE, NAME
-    /// or EXPRESSION as T (this profile). Beside 100,000 types it is `Full`, and so are more than 1,000,000 symbols.
+    /// Another text is `BadPrototype`, and so are a name that stands twice, and STRING, INTEGER, PATTERN, ARRAY, TABLE,
+    /// NAME or EXPRESSION as T (this profile). Beside 100,000
+    /// types it is `Full`, and so are more than 1,000,000 symbols.
     pub fn define_data(&mut self, prototype: &[u8]) -> Result<(), StoreError>
         ensures { IsTyped prototype.now self.old self.new result }
     {
@@ -315,8 +328,8 @@ impl Store {
         self.functions.is_field(function)
     }
 
-    /// A new object of the type with this number, whose fields have the values in the prototype's order: missing ones are
-    /// null, and extra ones are dropped. An object of no type has no fields.
+    /// A new object of the type with this number, whose fields have the values in the prototype's order: missing ones
+    /// are null, and extra ones are dropped. An object of no type has no fields.
     ///
     /// Beside 1,000,000 arrays, tables and objects it is `Full` (this profile).
     pub fn new_data(&mut self, data_type: u32, values: Vec<Value>) -> Result<ObjId, StoreError>
@@ -330,8 +343,8 @@ impl Store {
         Ok(id)
     }
 
-    /// The field of an object that a symbol names, if the object's type has one. It takes no memory, and time for the fields
-    /// of this type alone.
+    /// The field of an object that a symbol names, if the object's type has one. It takes no memory, and time for the
+    /// fields of this type alone.
     pub fn field(&self, object: ObjId, symbol: SymId) -> Option<Name>
         ensures { result ≡ field_name self.now.types self.now.objects object symbol.0 }
     {
@@ -358,13 +371,15 @@ impl Store {
         self.types.get(number as usize)
     }
 
-    /// Begins a call of a function that has a definition. The values of its variable, of its formals and of its locals are
-    /// saved, in this order. Then the function's variable and the locals are null, and the formals are the arguments:
-    /// missing ones are null, and extra ones are dropped. Nothing happens where the function has no definition.
+    /// Begins a call of a function that has a definition. The values of its variable, of its formals and of its locals
+    /// are saved, in this order. Then the function's variable and the locals are null, and the formals are the
+    /// arguments: missing ones are null, and extra ones are dropped.
+    /// Nothing happens where the function has no definition.
     ///
     /// Beside 200 open calls it is `CallLevel` (this profile).
     pub fn enter(&mut self, function: SymId, arguments: Vec<Value>) -> Result<(), StoreError>
-        ensures { (d : Shown) → definition_at self.old.functions function.0 ≡ Some d → IsEntered function d arguments.items self.old self.new result }
+        ensures { (d : Shown) → definition_at self.old.functions function.0 ≡ Some d
+            → IsEntered function d arguments.items self.old self.new result }
     {
         let Some(definition) = self.functions.definition(function) else {
             return Ok(())
@@ -384,10 +399,12 @@ impl Store {
         Ok(())
     }
 
-    /// Ends the innermost call: gives the value of its function's variable, and brings the saved values back, the last one
-    /// first. It takes no memory. Where no call is open, it is null and nothing happens.
+    /// Ends the innermost call: gives the value of its function's variable, and brings the saved values back, the last
+    /// one first. It takes no memory. Where no call is open, it is null and nothing happens.
     pub fn leave(&mut self) -> Value
-        ensures { (calls : List (List (ℕ × Value))) (call : List (ℕ × Value)) → self.old.calls ≡ calls ++ call ∷ [] → (result ≡ function_value (Str []) call self.old.values) × (self.new ≡ record self.old { values = restored call self.old.values; calls = calls }) }
+        ensures { (calls : List (List (ℕ × Value))) (call : List (ℕ × Value)) → self.old.calls ≡ calls ++ call ∷ []
+            → (result ≡ function_value (Str []) call self.old.values)
+            × (self.new ≡ record self.old { values = restored call self.old.values; calls = calls }) }
     {
         match self.calls.pop() {
             Some(call) => call.close(self.alloc, &mut self.values),
@@ -403,17 +420,19 @@ impl Store {
         self.calls.len() as u32
     }
 
-    /// Whether the symbols would be too many, had the names of a prototype joined them. It takes no memory, so that this is
-    /// told before any is asked for.
+    /// Whether the symbols would be too many, had the names of a prototype joined them. It takes no memory, so that
+    /// this is told before any is asked for.
     fn is_full_with(&self, parts: FunctionPrototype) -> bool
         requires few { length (names (prototype_seen parts)) ≤ 100 }
-        ensures { result ≡ nat_lt 1_000_000 (length (with_names (names (prototype_seen parts.entry)) self.now.symbols)) }
+        ensures { result ≡ nat_lt 1_000_000
+            (length (with_names (names (prototype_seen parts.entry)) self.now.symbols)) }
     {
         self.symbols.len() + MOST_NAMES > MOST_SYMBOLS
             && self.symbols.len_with(parts) > MOST_SYMBOLS
     }
 
-    /// A function is defined by the parts of its prototype. Where that is refused, some of its names may be new symbols.
+    /// A function is defined by the parts of its prototype. Where
+    /// that is refused, some of its names may be new symbols.
     fn define_parts(&mut self, parts: FunctionPrototype, entry: &[u8]) -> Result<(), StoreError>
         requires sound { is_sound (prototype_seen parts) ≡ true }
         requires few { length self.old.symbols ≤ 1_000_000 }
@@ -447,14 +466,17 @@ impl Store {
 
     /// Only so many symbols and their variables stay, the first ones.
     fn take_back(&mut self, count: usize)
-        ensures { self.new ≡ record self.old { symbols = take count self.old.symbols; values = take count self.old.values } }
+        ensures { self.new ≡ record self.old {
+          symbols = take count self.old.symbols;
+          values = take count self.old.values;
+        } }
     {
         self.symbols.truncate(count);
         self.values.truncate(count);
     }
 
-    /// The numbers of the names in a list, each of which joins the symbols where it is none of them. Where that is refused,
-    /// some of them may have joined.
+    /// The numbers of the names in a list, each of which joins the symbols where it is none of them. Where that is
+    /// refused, some of them may have joined.
     fn join(&mut self, list: &[u8]) -> Result<Vec<SymId>, StoreError>
         requires names { list_all is_name (listed list.now) ≡ true }
         requires few { length self.old.symbols ≤ 1_000_000 }

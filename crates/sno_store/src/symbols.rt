@@ -1,5 +1,6 @@
 //! The texts of the symbols, by number and by text.
-ghost use Rattle.std.specs.Prelude.{◌≡◌, ◌+◌, ◌||◌, ◌≤◌, ◌<◌, [], ◌∷◌, ◌++◌, length, take, false, slice_index_or, option_map, IfOk, OnOk, OnErr};
+ghost use Rattle.std.specs.Prelude.{◌≡◌, ◌+◌, ◌||◌, ◌≤◌, ◌<◌, [], ◌∷◌, ◌++◌, length, take, false, slice_index_or};
+ghost use Rattle.std.specs.Prelude.{option_map, IfOk, OnOk, OnErr};
 ghost use Rattle.std.specs.List.{list_any};
 ghost use Rattle.std.specs.Str.{bytes_eq};
 ghost use Rattle.sno_store.specs.Contents.{is_symbol};
@@ -74,7 +75,8 @@ impl Symbols {
     /// How many names of a list are no symbols, nor the first name, nor in the list before, each counted once.
     fn count_new(&self, first: &[u8], before: &[u8], list: &[u8]) -> usize
         requires few { length (listed list.now) ≤ 100 }
-        ensures number { length (with_names (listed list.now) (with_names (first.now ∷ listed before.now) self.now)) ≡ length (with_names (first.now ∷ listed before.now) self.now) + result }
+        ensures number { length (with_names (listed list.now) (with_names (first.now ∷ listed before.now) self.now))
+            ≡ length (with_names (first.now ∷ listed before.now) self.now) + result }
         ensures few { result ≤ length (listed list.now) }
     {
         if list.is_empty() {
@@ -91,8 +93,8 @@ impl Symbols {
         new
     }
 
-    /// Whether a name of a list, behind so many others of it, would be a symbol, had these, a name and those of the list
-    /// before joined.
+    /// Whether a name of a list, behind so many others of it, would be a symbol, had these, a name and those of the
+    /// list before joined.
     fn is_counted(
         &self,
         name: &[u8],
@@ -101,7 +103,8 @@ impl Symbols {
         list: &[u8],
         place: usize,
     ) -> bool
-        ensures { result ≡ (is_symbol name.now (with_names (first.now ∷ listed before.now) self.now) || list_any (bytes_eq name.now) (take place (listed list.now))) }
+        ensures { result ≡ (is_symbol name.now (with_names (first.now ∷ listed before.now) self.now)
+            || list_any (bytes_eq name.now) (take place (listed list.now))) }
     {
         self.has_with(name, first, before) || is_among(name, list, place)
     }

@@ -1,5 +1,6 @@
 -- Cores are found exactly.
-use Rattle.std.proofs.Common.{◌≡◌, ◌≢◌, ℕ, ◌+◌, ◌≤◌, ◌⊎◌, ◌&&◌, inl, inr, Bool, true, false, List, [], ◌∷◌, ◌++◌, length, arith, refl, ◌∙◌, ap, subst, Some, None, Option}
+use Rattle.std.proofs.Common.{◌≡◌, ◌≢◌, ℕ, ◌+◌, ◌≤◌, ◌⊎◌, ◌&&◌, inl, inr, Bool, true, false, List, [], ◌∷◌, ◌++◌, length, arith, refl, ◌∙◌, ap, subst, Some}
+use Rattle.std.proofs.Common.{None, Option}
 use Rattle.std.proofs.lemmas.List.{get_or_past}
 use Rattle.sno_value.specs.declared.ids.ExprId.{ExprId}
 use Rattle.sno_text.specs.declared.bytes.Class.TheVariants.{Blank}
@@ -15,7 +16,8 @@ use Rattle.sno_text.specs.Links.{Starts, Stops, Refuses}
 use Rattle.sno_text.specs.Outcome.{Outcome as Found_outcome, Extends}
 use Rattle.sno_text.specs.Statements.{HasExpression, HasObject, IsCore, HasCore, CoreTree, option_fits, core_fits, core_option_fits}
 use Rattle.sno_text.specs.Source.{option_ids, core_ids, core_option_ids}
-use Rattle.sno_text.specs.Pieces.{object_ids, MeetsColon, MeetsEquals, Gives, Lacks, StandsExpression, StandsObject, StandsCore, StandsCores, HasObjectPair, object_fits}
+use Rattle.sno_text.specs.Pieces.{object_ids, MeetsColon, MeetsEquals, Gives, Lacks, StandsExpression, StandsObject, StandsCore, StandsCores, HasObjectPair}
+use Rattle.sno_text.specs.Pieces.{object_fits}
 use Rattle.sno_text.proofs.Runs.{run_end_unique}
 use Rattle.sno_text.proofs.Starts.{reads_start, start_can_start}
 use Rattle.sno_text.proofs.Tables.{extends_same, grown_of, grown_trans, uses_none, uses_both}
@@ -31,7 +33,8 @@ start_at s i at k g b r = run_end_unique Blank s i k at (blanks_start s i k b r)
 
 no_start : (s : List ℕ) (i at : ℕ) → IsWholeRun Blank s i at → (at ≡ i) ⊎ (can_start (byte s at) ≡ false) → NoStart s i
 no_start s i at g (inl e) k b h = let f = start_at s i at k g b h in let some = b.some in absurd (omega arith)
-no_start s i at g (inr n) k b h = let f = start_at s i at k g b h in let yes = start_can_start s k h in let yes' : can_start (byte s at) ≡ true = rw f at yes in absurd (cc)
+no_start s i at g (inr n) k b h = let f = start_at s i at k g b h in let yes = start_can_start s k h in let yes' : can_start (byte s at) ≡ true =
+    rw f at yes in absurd (cc)
 
 blanks_at : (s : List ℕ) (i at : ℕ) → at ≢ i → IsWholeRun Blank s i at → IsBlanks s i at
 blanks_at s i at n g = record { some = let o = g.run.order in omega arith; run = g.run }
@@ -42,7 +45,8 @@ no_expression_only s i k None n r = (r, refl)
 no_expression_only s i k (Some t) n (m, b, r) = absurd (n m b (reads_start r))
 
 pub gives_no_expression : (s : List ℕ) (i at : ℕ) (old : List Node) → IsWholeRun Blank s i at → (at ≡ i) ⊎ (can_start (byte s at) ≡ false) → i ≤ length s →
-    Gives (Option Tree) (Option ExprId) (HasExpression s i) (MeetsEquals s) StandsExpression option_ids option_fits (length s) i old old (record { what = None; end = i; fits = true })
+    Gives (Option Tree) (Option ExprId) (HasExpression s i) (MeetsEquals s) StandsExpression option_ids option_fits (length s) i old old
+    (record { what = None; end = i; fits = true })
 gives_no_expression s i at old g h w = record {
   tree = None;
   reads = refl;
@@ -64,7 +68,8 @@ expression_only s i at k e (Some v) t g h only (m, b, r) stops =
 
 pub gives_expression : (s : List ℕ) (i at : ℕ) (old new : List Node) (f : Found) → at ≢ i → IsWholeRun Blank s i at → can_start (byte s at) ≡ true →
     Found_outcome s (Level 0) (Stops s 0) at old new (Some f) →
-    Gives (Option Tree) (Option ExprId) (HasExpression s i) (MeetsEquals s) StandsExpression option_ids option_fits (length s) i old new (record { what = Some f.id; end = f.end; fits = f.fits })
+    Gives (Option Tree) (Option ExprId) (HasExpression s i) (MeetsEquals s) StandsExpression option_ids option_fits (length s) i old new
+    (record { what = Some f.id; end = f.end; fits = f.fits })
 gives_expression s i at old new f n g h a = record {
   tree = Some a.tree;
   reads = (at, blanks_at s i at n g, a.finds.reads);
@@ -77,25 +82,29 @@ gives_expression s i at old new f n g h a = record {
   used = a.used;
 }
 
-expression_none : (s : List ℕ) (i at k : ℕ) (u : Option Tree) → IsWholeRun Blank s i at → can_start (byte s at) ≡ true → Refuses s (Level 0) (Stops s 0) at → HasExpression s i k u → MeetsEquals s k → ⊥
+expression_none : (s : List ℕ) (i at k : ℕ) (u : Option Tree) → IsWholeRun Blank s i at → can_start (byte s at) ≡ true
+    → Refuses s (Level 0) (Stops s 0) at → HasExpression s i k u → MeetsEquals s k → ⊥
 expression_none s i at k None g h f r stops = start_meets_none s i at g h (subst (MeetsEquals s) r stops)
 expression_none s i at k (Some v) g h f (m, b, r) stops =
     f.none k v (subst (λ x. Reads s (Level 0) x k v) (start_at s i at m g b (reads_start r)) r) (equals_stops s 0 k stops)
 
-pub lacks_expression : (s : List ℕ) (i at : ℕ) → IsWholeRun Blank s i at → can_start (byte s at) ≡ true → Refuses s (Level 0) (Stops s 0) at → Lacks (Option Tree) (HasExpression s i) (MeetsEquals s)
+pub lacks_expression : (s : List ℕ) (i at : ℕ) → IsWholeRun Blank s i at → can_start (byte s at) ≡ true
+    → Refuses s (Level 0) (Stops s 0) at → Lacks (Option Tree) (HasExpression s i) (MeetsEquals s)
 lacks_expression s i at g h f = record { none = λ k u r stops. expression_none s i at k u g h f r stops }
 
 -- [b "=" [b expr]]
 equals_at : (s : List ℕ) (i at k : ℕ) → IsWholeRun Blank s i at → IsBlanks s i k → byte s k ≡ 61 → k ≡ at
 equals_at s i at k g b e = run_end_unique Blank s i k at (blanks_whole s i k b (end_byte_equals s k e).no_blank) g
 
-no_object_only : (s : List ℕ) (i at k : ℕ) (b : Bool) (t : Option Tree) → IsWholeRun Blank s i at → (at ≡ i) ⊎ (byte s at ≢ 61) → HasObject s i k b t → (k ≡ i) × (b ≡ false) × (t ≡ None)
+no_object_only : (s : List ℕ) (i at k : ℕ) (b : Bool) (t : Option Tree) → IsWholeRun Blank s i at → (at ≡ i) ⊎ (byte s at ≢ 61) → HasObject s i k b t → (k ≡ i)
+    × (b ≡ false) × (t ≡ None)
 no_object_only s i at k false t g h r = (r.0, refl, r.1)
 no_object_only s i at k true t g (inl e) (m, b, d, r) = let f = equals_at s i at m g b d in let some = b.some in absurd (omega arith)
 no_object_only s i at k true t g (inr n) (m, b, d, r) = absurd (n (subst (λ x. byte s x ≡ 61) (equals_at s i at m g b d) d))
 
 pub gives_no_object : (s : List ℕ) (i at : ℕ) (old : List Node) → IsWholeRun Blank s i at → (at ≡ i) ⊎ (byte s at ≢ 61) → i ≤ length s →
-    Gives (Bool × Option Tree) Object (HasObjectPair s i) (MeetsColon s) StandsObject object_ids object_fits (length s) i old old (record { what = record { equals = false; object = None }; end = i; fits = true })
+    Gives (Bool × Option Tree) Object (HasObjectPair s i) (MeetsColon s) StandsObject object_ids object_fits (length s) i old old
+    (record { what = record { equals = false; object = None }; end = i; fits = true })
 gives_no_object s i at old g h w = record {
   tree = (false, None);
   reads = (refl, refl);
@@ -117,14 +126,16 @@ colon_not_equals s i at g e m =
     ]
 
 object_only : (s : List ℕ) (i at k e : ℕ) (b : Bool) (u t : Option Tree) → IsWholeRun Blank s i at → byte s at ≡ 61 →
-    ((k : ℕ) (u : Option Tree) → HasExpression s (at + 1) k u → MeetsEquals s k → (k ≡ e) × (u ≡ t)) → HasObject s i k b u → MeetsColon s k → (k ≡ e) × (b ≡ true) × (u ≡ t)
+    ((k : ℕ) (u : Option Tree) → HasExpression s (at + 1) k u → MeetsEquals s k → (k ≡ e) × (u ≡ t)) → HasObject s i k b u → MeetsColon s k
+    → (k ≡ e) × (b ≡ true) × (u ≡ t)
 object_only s i at k e false u t g h only r stops = absurd (colon_not_equals s i at g h (subst (MeetsColon s) r.0 stops))
 object_only s i at k e true u t g h only (m, b, d, r) stops =
     let q = only k u (subst (λ x. HasExpression s (x + 1) k u) (equals_at s i at m g b d) r) (colon_meets_equals stops) in (q.0, refl, q.1)
 
 pub gives_object : (s : List ℕ) (i at : ℕ) (old new : List Node) (f : Read (Option ExprId)) → at ≢ i → IsWholeRun Blank s i at → byte s at ≡ 61 →
     Gives (Option Tree) (Option ExprId) (HasExpression s (at + 1)) (MeetsEquals s) StandsExpression option_ids option_fits (length s) (at + 1) old new f →
-    Gives (Bool × Option Tree) Object (HasObjectPair s i) (MeetsColon s) StandsObject object_ids object_fits (length s) i old new (record { what = record { equals = true; object = f.what }; end = f.end; fits = f.fits })
+    Gives (Bool × Option Tree) Object (HasObjectPair s i) (MeetsColon s) StandsObject object_ids object_fits (length s) i old new
+    (record { what = record { equals = true; object = f.what }; end = f.end; fits = f.fits })
 gives_object s i at old new f n g h a = record {
   tree = (true, a.tree);
   reads = (at, blanks_at s i at n g, h, a.reads);
@@ -137,11 +148,14 @@ gives_object s i at old new f n g h a = record {
   used = a.used;
 }
 
-object_none : (s : List ℕ) (i at k : ℕ) (b : Bool) (u : Option Tree) → IsWholeRun Blank s i at → byte s at ≡ 61 → Lacks (Option Tree) (HasExpression s (at + 1)) (MeetsEquals s) → HasObject s i k b u → MeetsColon s k → ⊥
+object_none : (s : List ℕ) (i at k : ℕ) (b : Bool) (u : Option Tree) → IsWholeRun Blank s i at → byte s at ≡ 61
+    → Lacks (Option Tree) (HasExpression s (at + 1)) (MeetsEquals s) → HasObject s i k b u → MeetsColon s k → ⊥
 object_none s i at k false u g h f r stops = colon_not_equals s i at g h (subst (MeetsColon s) r.0 stops)
-object_none s i at k true u g h f (m, b, d, r) stops = f.none k u (subst (λ x. HasExpression s (x + 1) k u) (equals_at s i at m g b d) r) (colon_meets_equals stops)
+object_none s i at k true u g h f (m, b, d, r) stops =
+    f.none k u (subst (λ x. HasExpression s (x + 1) k u) (equals_at s i at m g b d) r) (colon_meets_equals stops)
 
-pub lacks_object : (s : List ℕ) (i at : ℕ) → IsWholeRun Blank s i at → byte s at ≡ 61 → Lacks (Option Tree) (HasExpression s (at + 1)) (MeetsEquals s) → Lacks (Bool × Option Tree) (HasObjectPair s i) (MeetsColon s)
+pub lacks_object : (s : List ℕ) (i at : ℕ) → IsWholeRun Blank s i at → byte s at ≡ 61 → Lacks (Option Tree) (HasExpression s (at + 1)) (MeetsEquals s)
+    → Lacks (Bool × Option Tree) (HasObjectPair s i) (MeetsColon s)
 lacks_object s i at g h f = record { none = λ k u r stops. object_none s i at k u.0 u.1 g h f r stops }
 
 -- a core
@@ -177,10 +191,16 @@ fits_three a b c x y z e f g = rw (e, f, g) refl
 
 pub gives_core : {n : ℕ} (s : List ℕ) (i : ℕ) (old one two new : List Node) (f : Found) (g : Read (Option ExprId)) (h : Read Object) →
     Found_outcome s Element (Stops s 7) i old one (Some f) →
-    Gives (Option Tree) (Option ExprId) (HasExpression s f.end) (MeetsEquals s) StandsExpression option_ids option_fits (length s) f.end one two g → Extends n one two →
-    Gives (Bool × Option Tree) Object (HasObjectPair s g.end) (MeetsColon s) StandsObject object_ids object_fits (length s) g.end two new h → Extends n two new →
+    Gives (Option Tree) (Option ExprId) (HasExpression s f.end) (MeetsEquals s) StandsExpression option_ids option_fits
+    (length s) f.end one two g → Extends n one two →
+    Gives (Bool × Option Tree) Object (HasObjectPair s g.end) (MeetsColon s) StandsObject object_ids object_fits
+    (length s) g.end two new h → Extends n two new →
     Gives CoreTree Core (IsCore s i) (MeetsColon s) StandsCore core_ids core_fits (length s) i old new
-    (record { what = record { subject = f.id; pattern = g.what; equals = h.what.equals; object = h.what.object }; end = h.end; fits = (f.fits && g.fits) && h.fits })
+    (record {
+      what = record { subject = f.id; pattern = g.what; equals = h.what.equals; object = h.what.object };
+      end = h.end;
+      fits = (f.fits && g.fits) && h.fits;
+    })
 gives_core s i old one two new f g h a b x c y = record {
   tree = record { subject = a.tree; pattern = b.tree; equals = c.tree.0; object = c.tree.1 };
   reads = record { after_subject = f.end; after_pattern = g.end; subject = a.finds.reads; pattern = b.reads; object = c.reads };
@@ -195,13 +215,15 @@ gives_core s i old one two new f g h a b x c y = record {
   within = c.within;
   room = let v = a.room in let w = b.room in let z = c.room in omega arith;
   used = uses_both (length old) one new (f.id ∷ []) (option_ids g.what ++ option_ids h.what.object) a.used
-      (uses_both (length one) two new (option_ids g.what) (option_ids h.what.object) b.used c.used (grown_of y)) (grown_trans one two new (grown_of x) (grown_of y));
+      (uses_both (length one) two new (option_ids g.what) (option_ids h.what.object) b.used c.used (grown_of y))
+      (grown_trans one two new (grown_of x) (grown_of y));
 }
 
 pub lacks_subject : (s : List ℕ) (i : ℕ) → Refuses s Element (Stops s 7) i → Lacks CoreTree (IsCore s i) (MeetsColon s)
 lacks_subject s i f = record { none = λ k u r stops. f.none r.after_subject u.subject r.subject (core_stops s i k u r stops) }
 
-pub lacks_pattern : (s : List ℕ) (i : ℕ) (old one : List Node) (f : Found) → Found_outcome s Element (Stops s 7) i old one (Some f) → Lacks (Option Tree) (HasExpression s f.end) (MeetsEquals s) →
+pub lacks_pattern : (s : List ℕ) (i : ℕ) (old one : List Node) (f : Found) → Found_outcome s Element (Stops s 7) i old one (Some f)
+    → Lacks (Option Tree) (HasExpression s f.end) (MeetsEquals s) →
     Lacks CoreTree (IsCore s i) (MeetsColon s)
 lacks_pattern s i old one f a b = record {
   none = λ k u r stops.
@@ -209,7 +231,8 @@ lacks_pattern s i old one f a b = record {
       b.none r.after_pattern u.pattern (core_pattern s i k f.end u r p.0) (core_meets s i k u r stops);
 }
 
-pub lacks_core_object : (s : List ℕ) (i : ℕ) (old one two : List Node) (f : Found) (g : Read (Option ExprId)) → Found_outcome s Element (Stops s 7) i old one (Some f) →
+pub lacks_core_object : (s : List ℕ) (i : ℕ) (old one two : List Node) (f : Found) (g : Read (Option ExprId))
+    → Found_outcome s Element (Stops s 7) i old one (Some f) →
     Gives (Option Tree) (Option ExprId) (HasExpression s f.end) (MeetsEquals s) StandsExpression option_ids option_fits (length s) f.end one two g →
     Lacks (Bool × Option Tree) (HasObjectPair s g.end) (MeetsColon s) → Lacks CoreTree (IsCore s i) (MeetsColon s)
 lacks_core_object s i old one two f g a b c = record {
@@ -225,7 +248,8 @@ no_core_only s i k None n r = (r, refl)
 no_core_only s i k (Some t) n (m, b, r) = absurd (n m b (reads_start r.subject))
 
 pub gives_no_core : (s : List ℕ) (i at : ℕ) (old : List Node) → IsWholeRun Blank s i at → (at ≡ i) ⊎ (can_start (byte s at) ≡ false) → i ≤ length s →
-    Gives (Option CoreTree) (Option Core) (HasCore s i) (MeetsColon s) StandsCores core_option_ids core_option_fits (length s) i old old (record { what = None; end = i; fits = true })
+    Gives (Option CoreTree) (Option Core) (HasCore s i) (MeetsColon s) StandsCores core_option_ids core_option_fits (length s) i old old
+    (record { what = None; end = i; fits = true })
 gives_no_core s i at old g h w = record {
   tree = None;
   reads = refl;
@@ -248,7 +272,8 @@ body_only s i at k e (Some v) t g h only (m, b, r) stops = let q = only k v (cor
 
 pub gives_body : (s : List ℕ) (i at : ℕ) (old new : List Node) (f : Read Core) → at ≢ i → IsWholeRun Blank s i at → can_start (byte s at) ≡ true →
     Gives CoreTree Core (IsCore s at) (MeetsColon s) StandsCore core_ids core_fits (length s) at old new f →
-    Gives (Option CoreTree) (Option Core) (HasCore s i) (MeetsColon s) StandsCores core_option_ids core_option_fits (length s) i old new (record { what = Some f.what; end = f.end; fits = f.fits })
+    Gives (Option CoreTree) (Option Core) (HasCore s i) (MeetsColon s) StandsCores core_option_ids core_option_fits (length s) i old new
+    (record { what = Some f.what; end = f.end; fits = f.fits })
 gives_body s i at old new f n g h a = record {
   tree = Some a.tree;
   reads = (at, blanks_at s i at n g, a.reads);
@@ -261,11 +286,13 @@ gives_body s i at old new f n g h a = record {
   used = a.used;
 }
 
-body_none : (s : List ℕ) (i at k : ℕ) (u : Option CoreTree) → IsWholeRun Blank s i at → can_start (byte s at) ≡ true → Lacks CoreTree (IsCore s at) (MeetsColon s) → HasCore s i k u → MeetsColon s k → ⊥
+body_none : (s : List ℕ) (i at k : ℕ) (u : Option CoreTree) → IsWholeRun Blank s i at → can_start (byte s at) ≡ true
+    → Lacks CoreTree (IsCore s at) (MeetsColon s) → HasCore s i k u → MeetsColon s k → ⊥
 body_none s i at k None g h f r stops = start_meets_none s i at g h (colon_meets_equals (subst (MeetsColon s) r stops))
 body_none s i at k (Some v) g h f (m, b, r) stops = f.none k v (core_at s i at k m v g b r) stops
 
-pub lacks_body : (s : List ℕ) (i at : ℕ) → IsWholeRun Blank s i at → can_start (byte s at) ≡ true → Lacks CoreTree (IsCore s at) (MeetsColon s) → Lacks (Option CoreTree) (HasCore s i) (MeetsColon s)
+pub lacks_body : (s : List ℕ) (i at : ℕ) → IsWholeRun Blank s i at → can_start (byte s at) ≡ true → Lacks CoreTree (IsCore s at) (MeetsColon s)
+    → Lacks (Option CoreTree) (HasCore s i) (MeetsColon s)
 lacks_body s i at g h f = record { none = λ k u r stops. body_none s i at k u g h f r stops }
 
 pub ruleset optional_facts = (gives_no_expression, gives_expression, lacks_expression, extends_same)

@@ -1,5 +1,6 @@
 -- The index of labels grows with the statements.
-use Rattle.std.proofs.Common.{◌≡◌, ◌≢◌, ℕ, zero, suc, ◌+◌, ◌<◌, ◌⊎◌, inl, inr, true, false, List, [], ◌∷◌, ◌++◌, length, arith, refl, sym, ◌∙◌, ap, Some, None, slice_get}
+use Rattle.std.proofs.Common.{◌≡◌, ◌≢◌, ℕ, zero, suc, ◌+◌, ◌<◌, ◌⊎◌, inl, inr, true, false, List, [], ◌∷◌, ◌++◌, length, arith, refl, sym, ◌∙◌, ap, Some, None}
+use Rattle.std.proofs.Common.{slice_get}
 use Rattle.std.proofs.lemmas.Bool.{cases_lt, cases_Bool}
 use Rattle.std.proofs.lemmas.Option.{slice_get_within}
 use Rattle.std.proofs.lemmas.Map.Lookups.{exact_bytes}
@@ -55,18 +56,22 @@ insert_by : (o : Ordering) (es : Entries) (e : Vec ℕ Global × ℕ) (key : Vec
 insert_by o es e key v h = rw h refl
 
 -- the key that was inserted
-same_step : (o : Ordering) (x : Vec ℕ Global × ℕ) (es : Entries) (key : Vec ℕ Global) (v : ℕ) (name : List ℕ) → name ≡ key.items → number_of (x ∷ es) name ≡ None → number_of (insert_entry by_bytes es key v) name ≡ Some v →
+same_step : (o : Ordering) (x : Vec ℕ Global × ℕ) (es : Entries) (key : Vec ℕ Global) (v : ℕ) (name : List ℕ) → name ≡ key.items → number_of (x ∷ es) name
+    ≡ None → number_of (insert_entry by_bytes es key v) name ≡ Some v →
     by_bytes key x.0 ≡ o → number_of (insert_entry by_bytes (x ∷ es) key v) name ≡ Some v
 same_step Less x es key v name e h rest f = ap (λ y. number_of y name) (insert_by Less es x key v f) ∙ found_head (x ∷ es) (key, v) name e
 same_step Equal x es key v name e h rest f = absurd ((not_head es x name h).0 (e ∙ exact_bytes key.items x.0.items f))
-same_step Greater x es key v name e h rest f = ap (λ y. number_of y name) (insert_by Greater es x key v f) ∙ past_head (insert_entry by_bytes es key v) x name (not_head es x name h).0 ∙ rest
+same_step Greater x es key v name e h rest f = ap (λ y. number_of y name) (insert_by Greater es x key v f) ∙ past_head (insert_entry by_bytes es key v) x name
+    (not_head es x name h).0 ∙ rest
 
-insert_same : (es : Entries) (key : Vec ℕ Global) (v : ℕ) (name : List ℕ) → name ≡ key.items → number_of es name ≡ None → number_of (insert_entry by_bytes es key v) name ≡ Some v
+insert_same : (es : Entries) (key : Vec ℕ Global) (v : ℕ) (name : List ℕ) → name ≡ key.items → number_of es name ≡ None
+    → number_of (insert_entry by_bytes es key v) name ≡ Some v
 insert_same [] key v name e h = found_head [] (key, v) name e
 insert_same (x ∷ es) key v name e h = same_step (by_bytes key x.0) x es key v name e h (insert_same es key v name e (not_head es x name h).1) refl
 
 -- the others
-other_step : (o : Ordering) (x : Vec ℕ Global × ℕ) (es : Entries) (key : Vec ℕ Global) (v : ℕ) (name : List ℕ) → name ≢ key.items → number_of (insert_entry by_bytes es key v) name ≡ number_of es name →
+other_step : (o : Ordering) (x : Vec ℕ Global × ℕ) (es : Entries) (key : Vec ℕ Global) (v : ℕ) (name : List ℕ) → name ≢ key.items
+    → number_of (insert_entry by_bytes es key v) name ≡ number_of es name →
     by_bytes key x.0 ≡ o → number_of (insert_entry by_bytes (x ∷ es) key v) name ≡ number_of (x ∷ es) name
 other_step Less x es key v name n rest f = ap (λ y. number_of y name) (insert_by Less es x key v f) ∙ past_head (x ∷ es) (key, v) name n
 other_step Equal x es key v name n rest f =
@@ -74,10 +79,12 @@ other_step Equal x es key v name n rest f =
     ap (λ y. number_of y name) (insert_by Equal es x key v f) ∙ past_head es (x.0, v) name apart ∙ sym (past_head es x name apart)
 other_step Greater x es key v name n rest f = elim (cases_bytes name x.0.items) [
   | inl e ↦ ap (λ y. number_of y name) (insert_by Greater es x key v f) ∙ found_head (insert_entry by_bytes es key v) x name e ∙ sym (found_head es x name e)
-  | inr a ↦ ap (λ y. number_of y name) (insert_by Greater es x key v f) ∙ past_head (insert_entry by_bytes es key v) x name a ∙ rest ∙ sym (past_head es x name a)
+  | inr a ↦ ap (λ y. number_of y name) (insert_by Greater es x key v f) ∙ past_head (insert_entry by_bytes es key v) x name a ∙ rest
+      ∙ sym (past_head es x name a)
 ]
 
-insert_other : (es : Entries) (key : Vec ℕ Global) (v : ℕ) (name : List ℕ) → name ≢ key.items → number_of (insert_entry by_bytes es key v) name ≡ number_of es name
+insert_other : (es : Entries) (key : Vec ℕ Global) (v : ℕ) (name : List ℕ) → name ≢ key.items
+    → number_of (insert_entry by_bytes es key v) name ≡ number_of es name
 insert_other [] key v name n = past_head [] (key, v) name n
 insert_other (x ∷ es) key v name n = other_step (by_bytes key x.0) x es key v name n (insert_other es key v name n) refl
 
@@ -96,7 +103,8 @@ length_one [] x = omega arith
 length_one (z ∷ xs) x = omega (arith, length_one xs x)
 
 -- a place in a list with one more is an earlier one or the last
-pub place_cases : {X : Type 0} (xs : List X) (x y : X) (i : ℕ) → slice_get (xs ++ x ∷ []) i ≡ Some y → ((i < length xs) × (slice_get xs i ≡ Some y)) ⊎ ((i ≡ length xs) × (x ≡ y))
+pub place_cases : {X : Type 0} (xs : List X) (x y : X) (i : ℕ) → slice_get (xs ++ x ∷ []) i ≡ Some y → ((i < length xs) × (slice_get xs i ≡ Some y))
+    ⊎ ((i ≡ length xs) × (x ≡ y))
 place_cases xs x y i h = elim (cases_lt i (length xs)) [
   | inl lt ↦ inl (lt, sym (get_early xs (x ∷ []) i lt) ∙ h)
   | inr ge ↦
@@ -119,7 +127,8 @@ length_more xs x = length_one xs x
 labelled_more : (s : List ℕ) (sts : List Statement) (st : Statement) (name : List ℕ) (n : ℕ) → IsLabelled s sts name n → IsLabelled s (sts ++ st ∷ []) name n
 labelled_more s sts st name n (k, x, span, a, b, c, d) = (k, x, span, a, place_kept sts st x k b, c, d)
 
-unlabelled_complete : (s : List ℕ) (sts : List Statement) (st : Statement) (es : Entries) (name : List ℕ) (n : ℕ) → st.label ≡ None → IsIndex s sts es → IsLabelled s (sts ++ st ∷ []) name n → number_of es name ≡ Some n
+unlabelled_complete : (s : List ℕ) (sts : List Statement) (st : Statement) (es : Entries) (name : List ℕ) (n : ℕ) → st.label ≡ None → IsIndex s sts es
+    → IsLabelled s (sts ++ st ∷ []) name n → number_of es name ≡ Some n
 unlabelled_complete s sts st es name n h x (k, y, span, a, b, c, d) = elim (place_cases sts st y k b) [
   | inl e ↦ x.complete name n (k, y, span, a, e.1, c, d)
   | inr e ↦ absurd (let f : None ≡ Some span = sym h ∙ ap (λ z. z.label) e.1 ∙ c in cc)
@@ -131,7 +140,8 @@ index_unlabelled s sts st es h x = record {
   complete = λ name n l. unlabelled_complete s sts st es name n h x l;
 }
 
-labelled_complete : (s : List ℕ) (sts : List Statement) (st : Statement) (es : Entries) (span : Span) (key : Vec ℕ Global) (v : ℕ) (name : List ℕ) (n : ℕ) → st.label ≡ Some span → key.items ≡ part s span → v ≡ length sts + 1 →
+labelled_complete : (s : List ℕ) (sts : List Statement) (st : Statement) (es : Entries) (span : Span) (key : Vec ℕ Global) (v : ℕ) (name : List ℕ) (n : ℕ)
+    → st.label ≡ Some span → key.items ≡ part s span → v ≡ length sts + 1 →
     number_of es (part s span) ≡ None → IsIndex s sts es → IsLabelled s (sts ++ st ∷ []) name n → number_of (insert_entry by_bytes es key v) name ≡ Some n
 labelled_complete s sts st es span key v name n h e f fresh x (k, y, other, a, b, c, d) = elim (place_cases sts st y k b) [
   | inl g ↦
@@ -145,7 +155,8 @@ labelled_complete s sts st es span key v name n h e f fresh x (k, y, other, a, b
       insert_same es key v name name' (ap (number_of es) (name' ∙ e) ∙ fresh) ∙ ap Some number
 ]
 
-pub index_labelled : (s : List ℕ) (sts : List Statement) (st : Statement) (es : Entries) (span : Span) (key : Vec ℕ Global) (v : ℕ) → st.label ≡ Some span → key.items ≡ part s span → v ≡ length sts + 1 →
+pub index_labelled : (s : List ℕ) (sts : List Statement) (st : Statement) (es : Entries) (span : Span) (key : Vec ℕ Global) (v : ℕ) → st.label ≡ Some span
+    → key.items ≡ part s span → v ≡ length sts + 1 →
     number_of es (part s span) ≡ None → IsIndex s sts es → IsIndex s (sts ++ st ∷ []) (insert_entry by_bytes es key v)
 index_labelled s sts st es span key v h e f fresh x = record {
   sound = λ name n g. elim (cases_bytes name key.items) [

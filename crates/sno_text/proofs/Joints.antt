@@ -127,7 +127,12 @@ sign_between s o k e =
           record { no_concatenation = facts.0; sign = rw w facts.2; blank = rw w h; not_blank = sign_not_blank _ o one }
       | inr h ↦
           let facts = power_is (byte s k) (byte s (k + 1)) (byte s (k + 2)) o h e in
-          rw facts.3 (record { no_concatenation = power_no_concatenation; sign = (facts.0, facts.1, refl); blank = facts.2; not_blank = star_not_blank _ facts.0 })
+          rw facts.3 (record {
+            no_concatenation = power_no_concatenation;
+            sign = (facts.0, facts.1, refl);
+            blank = facts.2;
+            not_blank = star_not_blank _ facts.0;
+          })
     ]
 
 blanks_up_to : (s : List ℕ) (i j : ℕ) → IsRun Blank s i j → is_blank (byte s i) ≡ true → is_blank (byte s j) ≡ false → IsBlanks s i j
@@ -151,7 +156,8 @@ joins_signed s Immediate i k l j h a b c = (k, l, a, b, c)
 concatenates : (s : List ℕ) (o : Operator) (i j : ℕ) → o ≡ Concatenate → IsBlanks s i j → Joins s o i j
 concatenates s o i j e a = rw e a
 
-lands_joins : (s : List ℕ) (sign : Option Operator) (o : Operator) (i k l : ℕ) → sign_at s k ≡ sign → i < k → IsWholeRun Blank s i k → Lands s k sign o l → Joins s o i l
+lands_joins : (s : List ℕ) (sign : Option Operator) (o : Operator) (i k l : ℕ) → sign_at s k ≡ sign → i < k → IsWholeRun Blank s i k
+    → Lands s k sign o l → Joins s o i l
 lands_joins s None o i k l e h r a = concatenates s o i l a.0 (rw a.1 (record { some = h; run = r.run }))
 lands_joins s (Some p) o i k l e h r a =
     let facts = sign_between s p k e in
@@ -169,7 +175,8 @@ no_link_unmoved s i j r e = record {
 pub sign_within : (s : List ℕ) (o : Operator) (k : ℕ) → sign_at s k ≡ Some o → k + width o < length s
 sign_within s o k e = in_text Blank s (k + width o) (sign_between s o k e).blank
 
-pub link_sign : (s : List ℕ) (o : Operator) (i k l : ℕ) → IsWholeRun Blank s i k → k ≢ i → sign_at s k ≡ Some o → IsWholeRun Blank s (k + width o) l → Links s o i l
+pub link_sign : (s : List ℕ) (o : Operator) (i k l : ℕ) → IsWholeRun Blank s i k → k ≢ i → sign_at s k ≡ Some o
+    → IsWholeRun Blank s (k + width o) l → Links s o i l
 link_sign s o i k l r h e t = let order = r.run.order in record { at = k; some = omega arith; blanks = r; lands = rw e (refl, t) }
 
 pub link_start : (s : List ℕ) (i k : ℕ) → IsWholeRun Blank s i k → k ≢ i → sign_at s k ≡ None → can_start (byte s k) ≡ true → Links s Concatenate i k

@@ -11,9 +11,11 @@ use Rattle.sno_text.specs.declared.goto.Targets.{Targets}
 use Rattle.sno_text.specs.Bytes.{byte, is_blank, IsWholeRun}
 use Rattle.sno_text.specs.Grammar.{IsGap, IsBlanks}
 use Rattle.sno_text.specs.Outcome.{Extends}
-use Rattle.sno_text.specs.Statements.{TargetTree, JumpTree, Fall, Always, Either, IsTarget, HasOther, HasTargets, IsBranch, always, success, failure, HasJump, target_fits, target_option_fits, jump_fits}
+use Rattle.sno_text.specs.Statements.{TargetTree, JumpTree, Fall, Always, Either, IsTarget, HasOther, HasTargets, IsBranch, always, success, failure, HasJump}
+use Rattle.sno_text.specs.Statements.{target_fits, target_option_fits, jump_fits}
 use Rattle.sno_text.specs.Source.{target_ids, target_option_ids, jump_ids}
-use Rattle.sno_text.specs.Pieces.{pair_ids, MeetsEnd, Anywhere, Gives, Lacks, StandsTarget, StandsTargets, StandsJump, HasTargetPair, StandsTargetPair, pair_fits}
+use Rattle.sno_text.specs.Pieces.{pair_ids, MeetsEnd, Anywhere, Gives, Lacks, StandsTarget, StandsTargets, StandsJump, HasTargetPair, StandsTargetPair}
+use Rattle.sno_text.specs.Pieces.{pair_fits}
 use Rattle.sno_text.proofs.Runs.{run_end_unique}
 use Rattle.sno_text.proofs.Standing.{stands_target_more}
 use Rattle.sno_text.proofs.Tables.{extends_same, grown_of, uses_none, uses_both, uses_swapped}
@@ -24,7 +26,8 @@ fits_both a b x y e f = rw (e, f) refl
 
 -- two targets
 pair_only : (s : List ℕ) (letter i m k e : ℕ) (t : TargetTree) (o : Option TargetTree) (v : TargetTree) (u : Option TargetTree) →
-    ((k : ℕ) (u : TargetTree) → IsTarget s i k u → Anywhere k → (k ≡ m) × (u ≡ t)) → ((k : ℕ) (u : Option TargetTree) → HasOther s letter m k u → MeetsEnd s k → (k ≡ e) × (u ≡ o)) →
+    ((k : ℕ) (u : TargetTree) → IsTarget s i k u → Anywhere k → (k ≡ m) × (u ≡ t))
+    → ((k : ℕ) (u : Option TargetTree) → HasOther s letter m k u → MeetsEnd s k → (k ≡ e) × (u ≡ o)) →
     HasTargets s letter i k v u → MeetsEnd s k → (k ≡ e) × (v ≡ t) × (u ≡ o)
 pair_only s letter i m k e t o v u first second (n, a, b) stops =
     let p = first n v a tt in
@@ -33,13 +36,15 @@ pair_only s letter i m k e t o v u first second (n, a, b) stops =
 
 pub gives_targets : {n : ℕ} (s : List ℕ) (letter i : ℕ) (old mid new : List Node) (f : Read Target) (g : Read (Option Target)) →
     Gives TargetTree Target (IsTarget s i) Anywhere StandsTarget target_ids target_fits (length s) i old mid f →
-    Gives (Option TargetTree) (Option Target) (HasOther s letter f.end) (MeetsEnd s) StandsTargets target_option_ids target_option_fits (length s) f.end mid new g → Extends n mid new →
+    Gives (Option TargetTree) (Option Target) (HasOther s letter f.end) (MeetsEnd s) StandsTargets target_option_ids target_option_fits
+    (length s) f.end mid new g → Extends n mid new →
     Gives (TargetTree × Option TargetTree) Targets (HasTargetPair s letter i) (MeetsEnd s) StandsTargetPair pair_ids pair_fits (length s) i old new
     (record { what = record { first = f.what; second = g.what }; end = g.end; fits = f.fits && g.fits })
 gives_targets s letter i old mid new f g a b x = record {
   tree = (a.tree, b.tree);
   reads = (f.end, a.reads, b.reads);
-  only = λ k u r stops. let q = pair_only s letter i f.end k g.end a.tree b.tree u.0 u.1 a.only b.only r stops in (q.0, ap (λ y. (y, u.1)) q.1 ∙ ap (λ y. (a.tree, y)) q.2);
+  only = λ k u r stops. let q = pair_only s letter i f.end k g.end a.tree b.tree u.0 u.1 a.only b.only r stops in
+      (q.0, ap (λ y. (y, u.1)) q.1 ∙ ap (λ y. (a.tree, y)) q.2);
   stands = (stands_target_more f.what a.tree x a.stands, b.stands);
   fits = fits_both f.fits g.fits (target_fits a.tree) (target_option_fits b.tree) a.fits b.fits;
   order = let v = a.order in let w = b.order in omega arith;
@@ -48,15 +53,19 @@ gives_targets s letter i old mid new f g a b x = record {
   used = uses_both (length old) mid new (target_ids f.what) (target_option_ids g.what) a.used b.used (grown_of x);
 }
 
-pub lacks_first : (s : List ℕ) (letter i : ℕ) → Lacks TargetTree (IsTarget s i) Anywhere → Lacks (TargetTree × Option TargetTree) (HasTargetPair s letter i) (MeetsEnd s)
+pub lacks_first : (s : List ℕ) (letter i : ℕ) → Lacks TargetTree (IsTarget s i) Anywhere
+    → Lacks (TargetTree × Option TargetTree) (HasTargetPair s letter i) (MeetsEnd s)
 lacks_first s letter i f = record { none = λ k u r stops. f.none r.0 u.0 r.1 tt }
 
-pub lacks_second : (s : List ℕ) (letter i : ℕ) (old mid : List Node) (f : Read Target) → Gives TargetTree Target (IsTarget s i) Anywhere StandsTarget target_ids target_fits (length s) i old mid f →
+pub lacks_second : (s : List ℕ) (letter i : ℕ) (old mid : List Node) (f : Read Target)
+    → Gives TargetTree Target (IsTarget s i) Anywhere StandsTarget target_ids target_fits (length s) i old mid f →
     Lacks (Option TargetTree) (HasOther s letter f.end) (MeetsEnd s) → Lacks (TargetTree × Option TargetTree) (HasTargetPair s letter i) (MeetsEnd s)
-lacks_second s letter i old mid f a b = record { none = λ k u r stops. let p = a.only r.0 u.0 r.1 tt in b.none k u.1 (subst (λ x. HasOther s letter x k u.1) p.0 r.2) stops }
+lacks_second s letter i old mid f a b =
+    record { none = λ k u r stops. let p = a.only r.0 u.0 r.1 tt in b.none k u.1 (subst (λ x. HasOther s letter x k u.1) p.0 r.2) stops }
 
 -- a branch
-always_only : (s : List ℕ) (i k e : ℕ) (g : JumpTree) (t : TargetTree) → byte s i ≢ 83 → byte s i ≢ 70 → ((k : ℕ) (u : TargetTree) → IsTarget s i k u → Anywhere k → (k ≡ e) × (u ≡ t)) →
+always_only : (s : List ℕ) (i k e : ℕ) (g : JumpTree) (t : TargetTree) → byte s i ≢ 83 → byte s i ≢ 70
+    → ((k : ℕ) (u : TargetTree) → IsTarget s i k u → Anywhere k → (k ≡ e) × (u ≡ t)) →
     IsBranch s i k g → (k ≡ e) × (g ≡ Always t)
 always_only s i k e g t h n only (always {t = u} r f) = let q = only k u r tt in (q.0, f ∙ ap Always q.1)
 always_only s i k e g t h n only (success b r f) = absurd (h b)
@@ -64,7 +73,8 @@ always_only s i k e g t h n only (failure b r f) = absurd (n b)
 
 pub gives_always : (s : List ℕ) (i : ℕ) (old new : List Node) (f : Read Target) → byte s i ≢ 83 → byte s i ≢ 70 →
     Gives TargetTree Target (IsTarget s i) Anywhere StandsTarget target_ids target_fits (length s) i old new f →
-    Gives JumpTree Jump (IsBranch s i) (MeetsEnd s) StandsJump jump_ids jump_fits (length s) i old new (record { what = jumps.Always f.what; end = f.end; fits = f.fits })
+    Gives JumpTree Jump (IsBranch s i) (MeetsEnd s) StandsJump jump_ids jump_fits (length s) i old new
+    (record { what = jumps.Always f.what; end = f.end; fits = f.fits })
 gives_always s i old new f h n a = record {
   tree = Always a.tree;
   reads = always a.reads refl;
@@ -93,13 +103,15 @@ opening_letter b e (inl f) = omega arith
 opening_letter b e (inr f) = omega arith
 
 success_only : (s : List ℕ) (i k e : ℕ) (g : JumpTree) (t : TargetTree) (o : Option TargetTree) → byte s i ≡ 83 →
-    ((k : ℕ) (u : TargetTree × Option TargetTree) → HasTargetPair s 70 (i + 1) k u → MeetsEnd s k → (k ≡ e) × (u ≡ (t, o))) → IsBranch s i k g → MeetsEnd s k → (k ≡ e) × (g ≡ Either (Some t) o)
+    ((k : ℕ) (u : TargetTree × Option TargetTree) → HasTargetPair s 70 (i + 1) k u → MeetsEnd s k → (k ≡ e) × (u ≡ (t, o))) → IsBranch s i k g → MeetsEnd s k
+    → (k ≡ e) × (g ≡ Either (Some t) o)
 success_only s i k e g t o h only (always r f) stops = absurd (opening_letter _ r.opening (inl h))
 success_only s i k e g t o h only (success {t = u} {u = v} b r f) stops = let q = only k (u, v) r stops in (q.0, f ∙ ap (λ y. Either (Some y.0) y.1) q.1)
 success_only s i k e g t o h only (failure b r f) stops = absurd (apart_letters _ h b)
 
 failure_only : (s : List ℕ) (i k e : ℕ) (g : JumpTree) (t : TargetTree) (o : Option TargetTree) → byte s i ≡ 70 →
-    ((k : ℕ) (u : TargetTree × Option TargetTree) → HasTargetPair s 83 (i + 1) k u → MeetsEnd s k → (k ≡ e) × (u ≡ (t, o))) → IsBranch s i k g → MeetsEnd s k → (k ≡ e) × (g ≡ Either o (Some t))
+    ((k : ℕ) (u : TargetTree × Option TargetTree) → HasTargetPair s 83 (i + 1) k u → MeetsEnd s k → (k ≡ e) × (u ≡ (t, o))) → IsBranch s i k g → MeetsEnd s k
+    → (k ≡ e) × (g ≡ Either o (Some t))
 failure_only s i k e g t o h only (always r f) stops = absurd (opening_letter _ r.opening (inr h))
 failure_only s i k e g t o h only (success b r f) stops = absurd (apart_letters _ b h)
 failure_only s i k e g t o h only (failure {t = u} {u = v} b r f) stops = let q = only k (u, v) r stops in (q.0, f ∙ ap (λ y. Either y.1 (Some y.0)) q.1)
@@ -112,7 +124,8 @@ and_swap false false = refl
 
 pub gives_success : (s : List ℕ) (i : ℕ) (old new : List Node) (f : Read Targets) → byte s i ≡ 83 →
     Gives (TargetTree × Option TargetTree) Targets (HasTargetPair s 70 (i + 1)) (MeetsEnd s) StandsTargetPair pair_ids pair_fits (length s) (i + 1) old new f →
-    Gives JumpTree Jump (IsBranch s i) (MeetsEnd s) StandsJump jump_ids jump_fits (length s) i old new (record { what = jumps.Either (Some f.what.first) f.what.second; end = f.end; fits = f.fits })
+    Gives JumpTree Jump (IsBranch s i) (MeetsEnd s) StandsJump jump_ids jump_fits (length s) i old new
+    (record { what = jumps.Either (Some f.what.first) f.what.second; end = f.end; fits = f.fits })
 gives_success s i old new f h a = record {
   tree = Either (Some a.tree.0) a.tree.1;
   reads = success h a.reads refl;
@@ -127,7 +140,8 @@ gives_success s i old new f h a = record {
 
 pub gives_failure : (s : List ℕ) (i : ℕ) (old new : List Node) (f : Read Targets) → byte s i ≡ 70 →
     Gives (TargetTree × Option TargetTree) Targets (HasTargetPair s 83 (i + 1)) (MeetsEnd s) StandsTargetPair pair_ids pair_fits (length s) (i + 1) old new f →
-    Gives JumpTree Jump (IsBranch s i) (MeetsEnd s) StandsJump jump_ids jump_fits (length s) i old new (record { what = jumps.Either f.what.second (Some f.what.first); end = f.end; fits = f.fits })
+    Gives JumpTree Jump (IsBranch s i) (MeetsEnd s) StandsJump jump_ids jump_fits (length s) i old new
+    (record { what = jumps.Either f.what.second (Some f.what.first); end = f.end; fits = f.fits })
 gives_failure s i old new f h a = record {
   tree = Either a.tree.1 (Some a.tree.0);
   reads = failure h a.reads refl;
@@ -140,20 +154,24 @@ gives_failure s i old new f h a = record {
   used = uses_swapped (length old) new (target_ids f.what.first) (target_option_ids f.what.second) a.used;
 }
 
-success_none : (s : List ℕ) (i k : ℕ) (g : JumpTree) → byte s i ≡ 83 → Lacks (TargetTree × Option TargetTree) (HasTargetPair s 70 (i + 1)) (MeetsEnd s) → IsBranch s i k g → MeetsEnd s k → ⊥
+success_none : (s : List ℕ) (i k : ℕ) (g : JumpTree) → byte s i ≡ 83 → Lacks (TargetTree × Option TargetTree) (HasTargetPair s 70 (i + 1)) (MeetsEnd s)
+    → IsBranch s i k g → MeetsEnd s k → ⊥
 success_none s i k g h f (always r e) stops = opening_letter _ r.opening (inl h)
 success_none s i k g h f (success {t = u} {u = v} b r e) stops = f.none k (u, v) r stops
 success_none s i k g h f (failure b r e) stops = apart_letters _ h b
 
-pub lacks_success : (s : List ℕ) (i : ℕ) → byte s i ≡ 83 → Lacks (TargetTree × Option TargetTree) (HasTargetPair s 70 (i + 1)) (MeetsEnd s) → Lacks JumpTree (IsBranch s i) (MeetsEnd s)
+pub lacks_success : (s : List ℕ) (i : ℕ) → byte s i ≡ 83 → Lacks (TargetTree × Option TargetTree) (HasTargetPair s 70 (i + 1)) (MeetsEnd s)
+    → Lacks JumpTree (IsBranch s i) (MeetsEnd s)
 lacks_success s i h f = record { none = λ k u r stops. success_none s i k u h f r stops }
 
-failure_none : (s : List ℕ) (i k : ℕ) (g : JumpTree) → byte s i ≡ 70 → Lacks (TargetTree × Option TargetTree) (HasTargetPair s 83 (i + 1)) (MeetsEnd s) → IsBranch s i k g → MeetsEnd s k → ⊥
+failure_none : (s : List ℕ) (i k : ℕ) (g : JumpTree) → byte s i ≡ 70 → Lacks (TargetTree × Option TargetTree) (HasTargetPair s 83 (i + 1)) (MeetsEnd s)
+    → IsBranch s i k g → MeetsEnd s k → ⊥
 failure_none s i k g h f (always r e) stops = opening_letter _ r.opening (inr h)
 failure_none s i k g h f (success b r e) stops = apart_letters _ b h
 failure_none s i k g h f (failure {t = u} {u = v} b r e) stops = f.none k (u, v) r stops
 
-pub lacks_failure : (s : List ℕ) (i : ℕ) → byte s i ≡ 70 → Lacks (TargetTree × Option TargetTree) (HasTargetPair s 83 (i + 1)) (MeetsEnd s) → Lacks JumpTree (IsBranch s i) (MeetsEnd s)
+pub lacks_failure : (s : List ℕ) (i : ℕ) → byte s i ≡ 70 → Lacks (TargetTree × Option TargetTree) (HasTargetPair s 83 (i + 1)) (MeetsEnd s)
+    → Lacks JumpTree (IsBranch s i) (MeetsEnd s)
 lacks_failure s i h f = record { none = λ k u r stops. failure_none s i k u h f r stops }
 
 -- a goto
@@ -206,7 +224,8 @@ has_jump s i at start j Fall b h c (failure d r e) = absurd (cc)
 has_jump s i at start j (Always t) b h c r = (at, start, b, h, c, r)
 has_jump s i at start j (Either t u) b h c r = (at, start, b, h, c, r)
 
-branch_at : (s : List ℕ) (i at start k m l : ℕ) (u : JumpTree) → IsWholeRun Blank s i at → IsWholeRun Blank s (at + 1) start → IsBlanks s i m → byte s m ≡ 58 → IsGap s (m + 1) l → IsBranch s l k u → IsBranch s start k u
+branch_at : (s : List ℕ) (i at start k m l : ℕ) (u : JumpTree) → IsWholeRun Blank s i at → IsWholeRun Blank s (at + 1) start → IsBlanks s i m → byte s m ≡ 58
+    → IsGap s (m + 1) l → IsBranch s l k u → IsBranch s start k u
 branch_at s i at start k m l u g h b e c r =
     let f = colon_at s i at m g b e in
     let c' : IsGap s (at + 1) l = subst (λ x. IsGap s (x + 1) l) f c in
@@ -217,9 +236,11 @@ jump_only : (s : List ℕ) (i at start k e : ℕ) (u t : JumpTree) → IsWholeRu
     ((k : ℕ) (u : JumpTree) → IsBranch s start k u → MeetsEnd s k → (k ≡ e) × (u ≡ t)) → HasJump s i k u → MeetsEnd s k → (k ≡ e) × (u ≡ t)
 jump_only s i at start k e Fall t g h c only r stops = absurd (colon_not_end s i at g h (subst (MeetsEnd s) r stops))
 jump_only s i at start k e (Always v) t g h c only (m, l, b, d, f, r) stops = only k (Always v) (branch_at s i at start k m l (Always v) g c b d f r) stops
-jump_only s i at start k e (Either v w) t g h c only (m, l, b, d, f, r) stops = only k (Either v w) (branch_at s i at start k m l (Either v w) g c b d f r) stops
+jump_only s i at start k e (Either v w) t g h c only (m, l, b, d, f, r) stops =
+    only k (Either v w) (branch_at s i at start k m l (Either v w) g c b d f r) stops
 
-pub gives_jump : (s : List ℕ) (i at start : ℕ) (old new : List Node) (f : Read Jump) → at ≢ i → IsWholeRun Blank s i at → byte s at ≡ 58 → IsWholeRun Blank s (at + 1) start →
+pub gives_jump : (s : List ℕ) (i at start : ℕ) (old new : List Node) (f : Read Jump) → at ≢ i → IsWholeRun Blank s i at → byte s at ≡ 58
+    → IsWholeRun Blank s (at + 1) start →
     Gives JumpTree Jump (IsBranch s start) (MeetsEnd s) StandsJump jump_ids jump_fits (length s) start old new f →
     Gives JumpTree Jump (HasJump s i) (MeetsEnd s) StandsJump jump_ids jump_fits (length s) i old new (record { what = f.what; end = f.end; fits = f.fits })
 gives_jump s i at start old new f n g h c a = record {

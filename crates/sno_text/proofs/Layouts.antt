@@ -1,5 +1,6 @@
 -- The lines joined, and cut.
-use Rattle.std.proofs.Common.{◌≡◌, ◌≢◌, ℕ, zero, suc, ◌+◌, ◌-◌, ◌<◌, ◌≤◌, ◌==◌, inl, inr, Bool, true, false, ◌&&◌, List, [], ◌∷◌, ◌++◌, length, map, drop, take, get_or, slice_range, arith, refl, sym, ◌∙◌, ap, append_assoc, append-nil, length-append, drop-cons, add-one}
+use Rattle.std.proofs.Common.{◌≡◌, ◌≢◌, ℕ, zero, suc, ◌+◌, ◌-◌, ◌<◌, ◌≤◌, ◌==◌, inl, inr, Bool, true, false, ◌&&◌, List, [], ◌∷◌, ◌++◌, length, map, drop, take}
+use Rattle.std.proofs.Common.{get_or, slice_range, arith, refl, sym, ◌∙◌, ap, append_assoc, append-nil, length-append, drop-cons, add-one}
 use Rattle.std.proofs.lemmas.Bool.{cases_Bool}
 use Rattle.std.proofs.lemmas.Grind.{common_steps}
 use Rattle.std.proofs.lemmas.List.{take_all, length-drop}
@@ -10,7 +11,8 @@ use Rattle.sno_text.specs.declared.layout.LineKind.{LineKind}
 use Rattle.sno_text.specs.declared.layout.LineKind.TheVariants.{Skipped, Continuation, Card}
 use Rattle.sno_text.specs.Bytes.{is_blank}
 use Rattle.sno_text.specs.Refusals.{quote_step}
-use Rattle.sno_text.specs.Lines.{is_skipped, is_continuation, line_feeds, own, continued, prepend, cards_from, joined, cut, statements_of, moved, extents_from, extents}
+use Rattle.sno_text.specs.Lines.{is_skipped, is_continuation, line_feeds, own, continued, prepend, cards_from, joined, cut, statements_of, moved, extents_from}
+use Rattle.sno_text.specs.Lines.{extents}
 use Rattle.sno_text.specs.Layouts.{kind_of, read_line, part_from, kept}
 
 dropped : (i : ℕ) (s : List ℕ) → i < length s → drop i s ≡ get_or s i 0 ∷ drop (i + 1) s
@@ -27,7 +29,8 @@ simp_one : (n : ℕ) → suc n ≡ n + 1
 simp_one n = omega arith
 
 pub feeds_more : (new old start : List ℕ) (n : ℕ) → old ≡ start ++ line_feeds n → new ≡ old ++ 10 ∷ [] → new ≡ start ++ line_feeds (n + 1)
-feeds_more new old start n e f = f ∙ ap (λ x. x ++ 10 ∷ []) e ∙ append_assoc start (line_feeds n) (10 ∷ []) ∙ ap (λ x. start ++ x) (feeds_snoc n ∙ ap line_feeds (simp_one n))
+feeds_more new old start n e f = f ∙ ap (λ x. x ++ 10 ∷ []) e ∙ append_assoc start (line_feeds n) (10 ∷ [])
+    ∙ ap (λ x. start ++ x) (feeds_snoc n ∙ ap line_feeds (simp_one n))
 
 -- one more part of a card
 part_kept : (at : ℕ) (card : List ℕ) (start end : ℕ) (rest : List Span) →
@@ -40,7 +43,8 @@ part_kept at card start end rest = elim (cases_Bool (list_all is_blank (slice_ra
 pub part_added : (at : ℕ) (card : List ℕ) (start end : ℕ) (old new : List Span) (rest : List Span) → new ≡ old ++ part_from at card start end →
     new ++ map (moved at) (kept card rest) ≡ old ++ map (moved at) (kept card (record { start = start; end = end } ∷ rest))
 part_added at card start end old new rest e =
-    ap (λ x. x ++ map (moved at) (kept card rest)) e ∙ append_assoc old (part_from at card start end) (map (moved at) (kept card rest)) ∙ ap (λ x. old ++ x) (part_kept at card start end rest)
+    ap (λ x. x ++ map (moved at) (kept card rest)) e ∙ append_assoc old (part_from at card start end) (map (moved at) (kept card rest))
+    ∙ ap (λ x. old ++ x) (part_kept at card start end rest)
 
 pub cut_here : (quote start i : ℕ) (card : List ℕ) → i < length card → get_or card i 0 ≡ 59 → quote ≡ 0 →
     cut quote start i (drop i card) ≡ record { start = start; end = i } ∷ cut 0 (i + 1) (i + 1) (drop (i + 1) card)
@@ -135,13 +139,15 @@ pub laid_first : (s : List ℕ) → Laid s false 0 [] [] (lines_of s)
 laid_first s = record { joined = refl; extents = ap (extents_from 0) (cards_nil false (lines_of s)); order = omega arith }
 
 pub laid_line : (s : List ℕ) (begun : Bool) (start : ℕ) (text new : List ℕ) (spans : List Span) (line : List ℕ) (rest : List (List ℕ)) (kind : LineKind) →
-    kind ≡ kind_of begun (without_terminator line) → kind ≢ Card → new ≡ text ++ read_line kind line → Laid s begun start text spans (line ∷ rest) → Laid s begun start new spans rest
+    kind ≡ kind_of begun (without_terminator line) → kind ≢ Card → new ≡ text ++ read_line kind line → Laid s begun start text spans (line ∷ rest)
+    → Laid s begun start new spans rest
 laid_line s begun start text new spans line rest kind e h f l =
     let is = cards_joined begun line rest kind e h in
     let cs = cards_from begun rest in
     let o = l.order in
     record {
-      joined = ap (λ x. x ++ concat cs) f ∙ append_assoc text (read_line kind line) (concat cs) ∙ ap (λ x. text ++ x) (sym (concat_prepend (read_line kind line) cs)) ∙ ap (λ x. text ++ concat x) (sym is) ∙ l.joined;
+      joined = ap (λ x. x ++ concat cs) f ∙ append_assoc text (read_line kind line) (concat cs)
+          ∙ ap (λ x. text ++ x) (sym (concat_prepend (read_line kind line) cs)) ∙ ap (λ x. text ++ concat x) (sym is) ∙ l.joined;
       extents =
           ap (λ x. spans ++ extents_from start (prepend (drop start x) cs)) f
           ∙ ap (λ x. spans ++ extents_from start (prepend x cs)) (drop_append start text (read_line kind line) o)
@@ -155,7 +161,8 @@ drop_whole : (n : ℕ) (xs : List ℕ) → take (length xs - n) (drop n xs) ≡ 
 drop_whole n xs = take_all (length xs - n) (drop n xs) (omega (arith, length-drop n xs))
 
 pub laid_card : (s : List ℕ) (begun : Bool) (start : ℕ) (text new : List ℕ) (spans more : List Span) (line : List ℕ) (rest : List (List ℕ)) (kind : LineKind) →
-    kind ≡ kind_of begun (without_terminator line) → kind ≡ Card → new ≡ text ++ read_line kind line → more ≡ spans ++ map (moved start) (statements_of (take (length text - start) (drop start text))) →
+    kind ≡ kind_of begun (without_terminator line) → kind ≡ Card → new ≡ text ++ read_line kind line
+    → more ≡ spans ++ map (moved start) (statements_of (take (length text - start) (drop start text))) →
     Laid s begun start text spans (line ∷ rest) → Laid s true (length text) new more rest
 laid_card s begun start text new spans more line rest kind e h f g l =
     let is = cards_begun begun line rest kind e h in
@@ -163,11 +170,13 @@ laid_card s begun start text new spans more line rest kind e h f g l =
     let d = drop start text in
     let added : new ≡ text ++ own line = f ∙ ap (λ x. text ++ read_line x line) h in
     record {
-      joined = ap (λ x. x ++ concat cs) added ∙ append_assoc text (own line) (concat cs) ∙ ap (λ x. text ++ x) (sym (concat_prepend (own line) cs)) ∙ ap (λ x. text ++ concat x) (sym is) ∙ l.joined;
+      joined = ap (λ x. x ++ concat cs) added ∙ append_assoc text (own line) (concat cs) ∙ ap (λ x. text ++ x) (sym (concat_prepend (own line) cs))
+          ∙ ap (λ x. text ++ concat x) (sym is) ∙ l.joined;
       extents =
           ap (λ x. more ++ extents_from (length text) (prepend (drop (length text) x) cs)) added
           ∙ ap (λ x. more ++ extents_from (length text) (prepend x cs)) (drop_length text (own line))
-          ∙ ap (λ x. x ++ extents_from (length text) (prepend (own line) cs)) (g ∙ ap (λ x. spans ++ map (moved start) (statements_of x)) (drop_whole start text))
+          ∙ ap (λ x. x ++ extents_from (length text) (prepend (own line) cs))
+          (g ∙ ap (λ x. spans ++ map (moved start) (statements_of x)) (drop_whole start text))
           ∙ append_assoc spans (map (moved start) (statements_of d)) (extents_from (length text) (prepend (own line) cs))
           ∙ ap (λ x. spans ++ (map (moved start) (statements_of d) ++ extents_from x (prepend (own line) cs))) (sym (length_dropped start text l.order))
           ∙ ap (λ x. spans ++ (map (moved start) (statements_of x) ++ extents_from (start + length x) (prepend (own line) cs))) (sym (append-nil d))
@@ -176,14 +185,17 @@ laid_card s begun start text new spans more line rest kind e h f g l =
       order = let n : length new ≡ length text + length (own line) = ap length added ∙ length_added text (own line) in omega arith;
     }
 
-pub laid_joined : (s : List ℕ) (begun : Bool) (start : ℕ) (text : List ℕ) (spans : List Span) (rest : List (List ℕ)) → rest ≡ [] → Laid s begun start text spans rest → text ≡ joined s
+pub laid_joined : (s : List ℕ) (begun : Bool) (start : ℕ) (text : List ℕ) (spans : List Span) (rest : List (List ℕ)) → rest ≡ []
+    → Laid s begun start text spans rest → text ≡ joined s
 laid_joined s begun start text spans rest e l = sym (append-nil text) ∙ ap (λ x. text ++ concat (cards_from begun x)) (sym e) ∙ l.joined
 
-pub laid_extents : (s : List ℕ) (begun : Bool) (start : ℕ) (text : List ℕ) (spans more : List Span) (rest : List (List ℕ)) → rest ≡ [] → more ≡ spans ++ map (moved start) (statements_of (take (length text - start) (drop start text))) →
+pub laid_extents : (s : List ℕ) (begun : Bool) (start : ℕ) (text : List ℕ) (spans more : List Span) (rest : List (List ℕ)) → rest ≡ []
+    → more ≡ spans ++ map (moved start) (statements_of (take (length text - start) (drop start text))) →
     Laid s begun start text spans rest → more ≡ extents s
 laid_extents s begun start text spans more rest e g l =
     let d = drop start text in
-    g ∙ ap (λ x. spans ++ map (moved start) (statements_of x)) (drop_whole start text) ∙ ap (λ x. spans ++ x) (sym (append-nil (map (moved start) (statements_of d))))
+    g ∙ ap (λ x. spans ++ map (moved start) (statements_of x)) (drop_whole start text)
+    ∙ ap (λ x. spans ++ x) (sym (append-nil (map (moved start) (statements_of d))))
     ∙ ap (λ x. spans ++ (map (moved start) (statements_of x) ++ [])) (sym (append-nil d))
     ∙ ap (λ x. spans ++ extents_from start (prepend d (cards_from begun x))) (sym e)
     ∙ l.extents

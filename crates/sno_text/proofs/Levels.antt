@@ -40,7 +40,8 @@ level_apart : (level : ℕ) → level < 7 → level ≡ 7 → ⊥
 level_apart level h e = omega arith
 
 -- the first operand
-first_only : {s : List ℕ} {level i m : ℕ} {u : Tree} (k : ℕ) (t : Tree) → level < 7 → Finds s (Level (level + 1)) (Stops s (level + 1)) i m u → Reads s (Level level) i k t → Stops s level k → Reads s (Rest level u) m k t
+first_only : {s : List ℕ} {level i m : ℕ} {u : Tree} (k : ℕ) (t : Tree) → level < 7 → Finds s (Level (level + 1)) (Stops s (level + 1)) i m u
+    → Reads s (Level level) i k t → Stops s level k → Reads s (Rest level u) m k t
 first_only {s} {level} {i} {m} {u} k t h f (chain {m = n} {u = v} g a b) stops =
     let e = f.only n v a (rest_stops b stops) in moved s level n m k v u t e.0 e.1 b
 first_only {s} {level} {i} {m} {u} k t h f (operand e a) stops = absurd (level_apart level h e)
@@ -51,7 +52,8 @@ grows_first s level i m u h f = record {
   only = λ k t r stops. first_only k t h f r stops;
 }
 
-refuses_inner : {s : List ℕ} {level i : ℕ} (k : ℕ) (t : Tree) → level < 7 → Refuses s (Level (level + 1)) (Stops s (level + 1)) i → Reads s (Level level) i k t → Stops s level k → ⊥
+refuses_inner : {s : List ℕ} {level i : ℕ} (k : ℕ) (t : Tree) → level < 7 → Refuses s (Level (level + 1)) (Stops s (level + 1)) i
+    → Reads s (Level level) i k t → Stops s level k → ⊥
 refuses_inner k t h f (chain {m = n} {u = v} g a b) stops = f.none n v a (rest_stops b stops)
 refuses_inner {s} {level} k t h f (operand e a) stops = level_apart level h e
 

@@ -28,16 +28,19 @@ empty_only {s} {i} {k} j t g h (given {k = k'} a r b) stops =
 pub finds_empty : (s : List ℕ) (i k : ℕ) → IsWholeRun Blank s i k → Closes s k → Finds s Argument (Closes s) i k (Literal k k)
 finds_empty s i k g h = record { reads = empty g.run refl; only = λ j t r stops. empty_only j t g h r stops }
 
-given_only : {s : List ℕ} {i k m l : ℕ} {u : Tree} (j : ℕ) (t : Tree) → IsWholeRun Blank s i k → (Closes s k → ⊥) → Finds s (Level 0) (Stops s 0) k m u → IsWholeRun Blank s m l →
+given_only : {s : List ℕ} {i k m l : ℕ} {u : Tree} (j : ℕ) (t : Tree) → IsWholeRun Blank s i k → (Closes s k → ⊥) → Finds s (Level 0) (Stops s 0) k m u
+    → IsWholeRun Blank s m l →
     Reads s Argument i j t → Closes s j → (j ≡ l) × (t ≡ u)
 given_only {s} {i} {k} j t g h f b (empty a e) stops =
     let q : j ≡ k = run_end_unique Blank s i j k (whole_at s i j a stops) g in absurd (h (subst (λ x. Closes s x) q stops))
 given_only {s} {i} {k} {m} {l} {u} j t g h f b (given {k = k'} {m = m'} a r c) stops = inner_only s i k m l u g f b k' m' j t a r c (end_byte_closes s j stops)
 
-pub finds_given : (s : List ℕ) (i k m l : ℕ) (u : Tree) → IsWholeRun Blank s i k → (Closes s k → ⊥) → Finds s (Level 0) (Stops s 0) k m u → IsWholeRun Blank s m l → Finds s Argument (Closes s) i l u
+pub finds_given : (s : List ℕ) (i k m l : ℕ) (u : Tree) → IsWholeRun Blank s i k → (Closes s k → ⊥) → Finds s (Level 0) (Stops s 0) k m u
+    → IsWholeRun Blank s m l → Finds s Argument (Closes s) i l u
 finds_given s i k m l u g h f b = record { reads = given g.run f.reads b.run; only = λ j t r stops. given_only j t g h f b r stops }
 
-given_none : {s : List ℕ} {i k : ℕ} (j : ℕ) (t : Tree) → IsWholeRun Blank s i k → (Closes s k → ⊥) → Refuses s (Level 0) (Stops s 0) k → Reads s Argument i j t → Closes s j → ⊥
+given_none : {s : List ℕ} {i k : ℕ} (j : ℕ) (t : Tree) → IsWholeRun Blank s i k → (Closes s k → ⊥) → Refuses s (Level 0) (Stops s 0) k
+    → Reads s Argument i j t → Closes s j → ⊥
 given_none {s} {i} {k} j t g h f (empty a e) stops =
     let q : j ≡ k = run_end_unique Blank s i j k (whole_at s i j a stops) g in h (subst (λ x. Closes s x) q stops)
 given_none {s} {i} {k} j t g h f (given {k = k'} {m = m'} a r c) stops = inner_none s i k g f k' m' j t a r c (end_byte_closes s j stops)
@@ -53,7 +56,8 @@ more_closes (next a b c) h = inl a
 moved : (s : List ℕ) (m m' j : ℕ) (u u' t : Tree) → m ≡ m' → u ≡ u' → Reads s (More u) m j t → Reads s (More u') m' j t
 moved s m m' j u u' t e f r = subst (λ k. Reads s (More u') k j t) e (subst (λ v. Reads s (More v) m j t) f r)
 
-first_only : {s : List ℕ} {i m : ℕ} {u : Tree} (k : ℕ) (t : Tree) → Finds s Argument (Closes s) i m u → Reads s Arguments i k t → Shuts s k → Reads s (More (One u)) m k t
+first_only : {s : List ℕ} {i m : ℕ} {u : Tree} (k : ℕ) (t : Tree) → Finds s Argument (Closes s) i m u → Reads s Arguments i k t → Shuts s k
+    → Reads s (More (One u)) m k t
 first_only {s} {i} {m} {u} k t f (arguments {m = n} {u = v} a b) stops =
     let e = f.only n v a (more_closes b stops) in moved s n m k (One v) (One u) t e.0 (ap One e.1) b
 
@@ -70,7 +74,8 @@ pub comma_no_shut : (s : List ℕ) (i : ℕ) → byte s i ≡ 44 → Shuts s i �
 unfolding is_closing
 comma_no_shut s i e h = let g : is_closing 44 ≡ true = rw e at h in cc
 
-next_only : {s : List ℕ} {i n : ℕ} {u v : Tree} (k : ℕ) (t : Tree) → byte s i ≡ 44 → Finds s Argument (Closes s) (i + 1) n v → Reads s (More u) i k t → Shuts s k → Reads s (More (And u v)) n k t
+next_only : {s : List ℕ} {i n : ℕ} {u v : Tree} (k : ℕ) (t : Tree) → byte s i ≡ 44 → Finds s Argument (Closes s) (i + 1) n v → Reads s (More u) i k t
+    → Shuts s k → Reads s (More (And u v)) n k t
 next_only {s} {i} k t e f (last a b) stops = absurd (comma_no_shut s i e (subst (λ x. Shuts s x) a stops))
 next_only {s} {i} {n} {u} {v} k t e f (next {m = m} {v = v'} a b c) stops =
     let q = f.only m v' b (more_closes c stops) in moved s m n k (And u v') (And u v) t q.0 (ap (λ x. And u x) q.1) c

@@ -1,5 +1,6 @@
 -- The statements of a text follow one another in it.
-use Rattle.std.proofs.Common.{◌≡◌, ℕ, zero, suc, ◌+◌, ◌-◌, ◌≤◌, ◌==◌, ◌&&◌, inl, inr, Bool, true, false, cond, List, [], ◌∷◌, ◌++◌, length, map, drop, take, arith, refl, sym, ◌∙◌, ap, subst}
+use Rattle.std.proofs.Common.{◌≡◌, ℕ, zero, suc, ◌+◌, ◌-◌, ◌≤◌, ◌==◌, ◌&&◌, inl, inr, Bool, true, false, cond, List, [], ◌∷◌, ◌++◌, length, map, drop, take}
+use Rattle.std.proofs.Common.{arith, refl, sym, ◌∙◌, ap, subst}
 use Rattle.std.proofs.lemmas.Bool.{cases_Bool}
 use Rattle.std.proofs.lemmas.List.{length-drop}
 use Rattle.std.specs.List.{concat, filter}
@@ -7,7 +8,8 @@ use Rattle.bstr.specs.Text.{lines_of, without_terminator, no_cr}
 use Rattle.bstr.proofs.lemmas.RestLemmas.{concat-lines_of}
 use Rattle.sno_text.specs.declared.node.Span.{Span}
 use Rattle.sno_text.specs.Refusals.{quote_step}
-use Rattle.sno_text.specs.Lines.{is_skipped, is_continuation, line_feeds, end_feeds, own, continued, prepend, cards_from, cards, joined, cut, statements_of, moved, extents_from, extents}
+use Rattle.sno_text.specs.Lines.{is_skipped, is_continuation, line_feeds, end_feeds, own, continued, prepend, cards_from, cards, joined, cut, statements_of}
+use Rattle.sno_text.specs.Lines.{moved, extents_from, extents}
 use Rattle.sno_text.specs.Layouts.{InOrder}
 use Rattle.sno_text.proofs.Layouts.{concat_prepend, length_added, continuation_some}
 
@@ -45,13 +47,16 @@ order_card : (at : ℕ) (card : List ℕ) → InOrder at (at + length card) (map
 order_card at card =
     let e : at + 0 ≡ at = omega arith in
     subst (λ x. InOrder x (at + length card) (map (moved at) (statements_of card))) e
-    (order_moved at 0 (length card) (statements_of card) (order_filter _ 0 (length card) (cut 0 0 0 card) (order_cut 0 0 0 (length card) card (omega arith) (omega arith))))
+    (order_moved at 0 (length card) (statements_of card)
+    (order_filter _ 0 (length card) (cut 0 0 0 card) (order_cut 0 0 0 (length card) card (omega arith) (omega arith))))
 
 order_cards : (at : ℕ) (cs : List (List ℕ)) → InOrder at (at + length (concat cs)) (extents_from at cs)
 order_cards at [] = omega arith
 order_cards at (c ∷ cs) =
     let e : at + length c + length (concat cs) ≡ at + length (c ++ concat cs) = omega (arith, length_added c (concat cs)) in
-    subst (λ x. InOrder at x (extents_from at (c ∷ cs))) e (order_append at (at + length c) (at + length c + length (concat cs)) (map (moved at) (statements_of c)) (extents_from (at + length c) cs) (order_card at c) (order_cards (at + length c) cs))
+    subst (λ x. InOrder at x (extents_from at (c ∷ cs))) e
+    (order_append at (at + length c) (at + length c + length (concat cs)) (map (moved at) (statements_of c)) (extents_from (at + length c) cs)
+    (order_card at c) (order_cards (at + length c) cs))
 
 length_feeds : (n : ℕ) → length (line_feeds n) ≡ n
 length_feeds zero = refl
@@ -70,7 +75,8 @@ length_no_cr : (bs : List ℕ) (n : ℕ) → length bs ≤ n → length (no_cr b
 length_no_cr bs n h = length_cond _ (take (length bs - 1) bs) bs n (let f = length_taken (length bs - 1) bs in omega arith) h
 
 length_content : (line : List ℕ) → length (without_terminator line) ≤ length line
-length_content line = length_cond _ (no_cr (take (length line - 1) line)) line (length line) (length_no_cr (take (length line - 1) line) (length line) (length_taken (length line - 1) line)) (omega arith)
+length_content line = length_cond _ (no_cr (take (length line - 1) line)) line (length line)
+    (length_no_cr (take (length line - 1) line) (length line) (length_taken (length line - 1) line)) (omega arith)
 
 length_own : (line : List ℕ) → length (own line) ≡ length line
 length_own line =
@@ -86,8 +92,10 @@ length_continued line h =
     let d = length-drop 1 (without_terminator line) in
     let e = continuation_some (without_terminator line) h in omega arith
 
-length_prepended : (x line : List ℕ) (cs : List (List ℕ)) (n : ℕ) → length x ≡ length line → length (concat cs) ≡ n → length (concat (prepend x cs)) ≡ length line + n
-length_prepended x line cs n e f = ap length (concat_prepend x cs) ∙ length_added x (concat cs) ∙ ap (λ y. y + length (concat cs)) e ∙ ap (λ y. length line + y) f
+length_prepended : (x line : List ℕ) (cs : List (List ℕ)) (n : ℕ) → length x ≡ length line → length (concat cs) ≡ n
+    → length (concat (prepend x cs)) ≡ length line + n
+length_prepended x line cs n e f = ap length (concat_prepend x cs) ∙ length_added x (concat cs) ∙ ap (λ y. y + length (concat cs)) e
+    ∙ ap (λ y. length line + y) f
 
 both_true : (a b : Bool) → (a && b) ≡ true → b ≡ true
 both_true true b h = h
@@ -96,10 +104,13 @@ both_true false b h = absurd (cc)
 length_cards : (begun : Bool) (lines : List (List ℕ)) → length (concat (cards_from begun lines)) ≡ length (concat lines)
 length_cards begun [] = refl
 length_cards begun (line ∷ lines) = elim (cases_Bool (is_skipped (without_terminator line))) [
-  | inl a ↦ rw a (length_prepended (line_feeds (length line)) line (cards_from begun lines) _ (length_feeds (length line)) (length_cards begun lines) ∙ sym (length_added line (concat lines)))
+  | inl a ↦ rw a (length_prepended (line_feeds (length line)) line (cards_from begun lines) _ (length_feeds (length line)) (length_cards begun lines)
+      ∙ sym (length_added line (concat lines)))
   | inr a ↦ elim (cases_Bool (begun && is_continuation (without_terminator line))) [
-    | inl b ↦ rw (a, b) (length_prepended (continued line) line (cards_from true lines) _ (length_continued line (both_true begun _ b)) (length_cards true lines) ∙ sym (length_added line (concat lines)))
-    | inr b ↦ rw (a, b) (length_prepended (own line) line (cards_from true lines) _ (length_own line) (length_cards true lines) ∙ sym (length_added line (concat lines)))
+    | inl b ↦ rw (a, b) (length_prepended (continued line) line (cards_from true lines) _ (length_continued line (both_true begun _ b))
+        (length_cards true lines) ∙ sym (length_added line (concat lines)))
+    | inr b ↦ rw (a, b) (length_prepended (own line) line (cards_from true lines) _ (length_own line) (length_cards true lines)
+        ∙ sym (length_added line (concat lines)))
   ]
 ]
 

@@ -1,5 +1,6 @@
 -- Whole statements are found exactly.
-use Rattle.std.proofs.Common.{◌≡◌, ◌≢◌, ℕ, ◌<◌, ◌≤◌, ◌⊎◌, ◌&&◌, inl, inr, ◌||◌, true, false, List, [], length, arith, refl, sym, ◌∙◌, ap, subst, Some, None, Option, codes}
+use Rattle.std.proofs.Common.{◌≡◌, ◌≢◌, ℕ, ◌<◌, ◌≤◌, ◌⊎◌, ◌&&◌, inl, inr, ◌||◌, true, false, List, [], length, arith, refl, sym, ◌∙◌, ap, subst, Some, None}
+use Rattle.std.proofs.Common.{Option, codes}
 use Rattle.std.proofs.lemmas.List.{get_or_past}
 use Rattle.sno_text.specs.declared.bytes.Class.TheVariants.{Blank, NameByte}
 use Rattle.sno_text.specs.declared.node.Node.{Node}
@@ -13,7 +14,8 @@ use Rattle.sno_text.specs.Bytes.{byte, is_blank, is_letter, is_digit, IsWholeRun
 use Rattle.sno_text.specs.Grammar.{IsGap, IsBlanks}
 use Rattle.sno_text.specs.Outcome.{Extends}
 use Rattle.sno_text.specs.Lines.{part}
-use Rattle.sno_text.specs.Statements.{IsLabel, JumpTree, Fall, Always, Either, HasJump, CoreTree, HasCore, HasLabel, HasEntry, StatementTree, IsPlain, IsEnd, IsStatement, core_option_fits, jump_fits}
+use Rattle.sno_text.specs.Statements.{IsLabel, JumpTree, Fall, Always, Either, HasJump, CoreTree, HasCore, HasLabel, HasEntry, StatementTree, IsPlain, IsEnd}
+use Rattle.sno_text.specs.Statements.{IsStatement, core_option_fits, jump_fits}
 use Rattle.sno_text.specs.Source.{core_option_ids, jump_ids}
 use Rattle.sno_text.proofs.Tables.{grown_of, uses_none, uses_both}
 use Rattle.sno_text.specs.Pieces.{MeetsEnd, MeetsColon, Gives, Lacks, StandsCores, StandsJump}
@@ -73,12 +75,14 @@ fall_stands table (jumps.Either a b) Fall h e = absurd h
 fall_stands table c (Always u) h e = absurd (cc)
 fall_stands table c (Either u v) h e = absurd (cc)
 
-some_read : (one two : List Node) (c : Option Core) (t : Option CoreTree) (g : Jump) (u : JumpTree) → StandsCores one c t → StandsJump two g u → (c ≡ None → g ≢ jumps.Fall) → t ≡ None → u ≢ Fall
+some_read : (one two : List Node) (c : Option Core) (t : Option CoreTree) (g : Jump) (u : JumpTree) → StandsCores one c t → StandsJump two g u
+    → (c ≡ None → g ≢ jumps.Fall) → t ≡ None → u ≢ Fall
 some_read one two c t g u a b some e f = some (none_stands one c t a e) (fall_stands two g u b f)
 
 pub gives_rest : {n : ℕ} (s : List ℕ) (label : Option Span) (i at : ℕ) (old mid new : List Node) (f : Read (Option Core)) (g : Read Jump) →
     (a : Gives (Option CoreTree) (Option Core) (HasCore s i) (MeetsColon s) StandsCores core_option_ids core_option_fits (length s) i old mid f) →
-    (b : Gives JumpTree Jump (HasJump s f.end) (MeetsEnd s) StandsJump jump_ids jump_fits (length s) f.end mid new g) → Extends n mid new → IsWholeRun Blank s g.end at → at ≡ length s →
+    (b : Gives JumpTree Jump (HasJump s f.end) (MeetsEnd s) StandsJump jump_ids jump_fits (length s) f.end mid new g) → Extends n mid new
+    → IsWholeRun Blank s g.end at → at ≡ length s →
     (label ≡ None → f.what ≡ None → g.what ≢ jumps.Fall) →
     GivesPhrase (IsRest s label i) (length s) i old new (record { label = label; core = f.what; jump = g.what; entry = None; fits = f.fits && g.fits })
 gives_rest s label i at old mid new f g a b x h e some = record {
@@ -103,7 +107,8 @@ gives_rest s label i at old mid new f g a b x h e some = record {
   used = uses_both (length old) mid new (core_option_ids f.what) (jump_ids g.what) a.used b.used (grown_of x);
 }
 
-pub lacks_rest_core : (s : List ℕ) (label : Option Span) (i : ℕ) → Lacks (Option CoreTree) (HasCore s i) (MeetsColon s) → (u : StatementTree) → IsRest s label i u → ⊥
+pub lacks_rest_core : (s : List ℕ) (label : Option Span) (i : ℕ) → Lacks (Option CoreTree) (HasCore s i) (MeetsColon s)
+    → (u : StatementTree) → IsRest s label i u → ⊥
 lacks_rest_core s label i f u r = f.none r.after_core u.core r.core (rest_core s label i u r)
 
 pub lacks_rest_jump : (s : List ℕ) (label : Option Span) (i : ℕ) (old mid : List Node) (f : Read (Option Core)) →
@@ -115,7 +120,8 @@ lacks_rest_jump s label i old mid f a b u r =
 
 pub lacks_rest_end : (s : List ℕ) (label : Option Span) (i at : ℕ) (old mid new : List Node) (f : Read (Option Core)) (g : Read Jump) →
     Gives (Option CoreTree) (Option Core) (HasCore s i) (MeetsColon s) StandsCores core_option_ids core_option_fits (length s) i old mid f →
-    Gives JumpTree Jump (HasJump s f.end) (MeetsEnd s) StandsJump jump_ids jump_fits (length s) f.end mid new g → IsWholeRun Blank s g.end at → at ≢ length s → (u : StatementTree) → IsRest s label i u → ⊥
+    Gives JumpTree Jump (HasJump s f.end) (MeetsEnd s) StandsJump jump_ids jump_fits (length s) f.end mid new g → IsWholeRun Blank s g.end at → at ≢ length s
+    → (u : StatementTree) → IsRest s label i u → ⊥
 lacks_rest_end s label i at old mid new f g a b h never u r =
     let p = a.only r.after_core u.core r.core (rest_core s label i u r) in
     let m = rest_meets s label i u r in
@@ -125,7 +131,8 @@ lacks_rest_end s label i at old mid new f g a b h never u r =
 
 pub lacks_rest_some : (s : List ℕ) (label : Option Span) (i : ℕ) (old mid new : List Node) (f : Read (Option Core)) (g : Read Jump) →
     Gives (Option CoreTree) (Option Core) (HasCore s i) (MeetsColon s) StandsCores core_option_ids core_option_fits (length s) i old mid f →
-    Gives JumpTree Jump (HasJump s f.end) (MeetsEnd s) StandsJump jump_ids jump_fits (length s) f.end mid new g → label ≡ None → f.what ≡ None → g.what ≡ jumps.Fall → (u : StatementTree) → IsRest s label i u → ⊥
+    Gives JumpTree Jump (HasJump s f.end) (MeetsEnd s) StandsJump jump_ids jump_fits (length s) f.end mid new g → label ≡ None → f.what ≡ None
+    → g.what ≡ jumps.Fall → (u : StatementTree) → IsRest s label i u → ⊥
 lacks_rest_some s label i old mid new f g a b l c j u r =
     let p = a.only r.after_core u.core r.core (rest_core s label i u r) in
     let q = b.only r.after_jump u.jump (rest_jump s label i f.end u r p.0) (rest_meets s label i u r) in
@@ -135,7 +142,8 @@ lacks_rest_some s label i old mid new f g a b l c j u r =
 label_at : (s : List ℕ) (i at k e : ℕ) → IsWholeRun Blank s i at → IsBlanks s i k → IsLabel s k e → k ≡ at
 label_at s i at k e g b l = run_end_unique Blank s i k at (blanks_whole s i k b (label_not_blank _ l.first)) g
 
-no_entry_only : (s : List ℕ) (i at k : ℕ) (u : Option Span) → IsWholeRun Blank s i at → (at ≡ i) ⊎ ((j : ℕ) → IsLabel s at j → ⊥) → HasEntry s i k u → (k ≡ i) × (u ≡ None)
+no_entry_only : (s : List ℕ) (i at k : ℕ) (u : Option Span) → IsWholeRun Blank s i at → (at ≡ i) ⊎ ((j : ℕ) → IsLabel s at j → ⊥)
+    → HasEntry s i k u → (k ≡ i) × (u ≡ None)
 no_entry_only s i at k None g h r = (r, refl)
 no_entry_only s i at k (Some span) g (inl e) (m, b, (l, f)) = let q = label_at s i at m k g b l in let some = b.some in absurd (omega arith)
 no_entry_only s i at k (Some span) g (inr n) (m, b, (l, f)) = absurd (n k (subst (λ x. IsLabel s x k) (label_at s i at m k g b l) l))
@@ -156,7 +164,8 @@ label_not_end s i at e g l m =
 span_is : (i e k : ℕ) (span : Span) → span.start ≡ i → span.end ≡ e → k ≡ e → span ≡ record { start = i; end = k }
 span_is i e k span f g h = ap (λ x. record { start = x; end = span.end }) f ∙ ap (λ x. record { start = i; end = x }) (g ∙ sym h)
 
-entry_only : (s : List ℕ) (i at e k : ℕ) (span : Span) (u : Option Span) → IsWholeRun Blank s i at → IsLabel s at e → span.start ≡ at → span.end ≡ e → HasEntry s i k u → MeetsEnd s k → (k ≡ e) × (u ≡ Some span)
+entry_only : (s : List ℕ) (i at e k : ℕ) (span : Span) (u : Option Span) → IsWholeRun Blank s i at → IsLabel s at e → span.start ≡ at → span.end ≡ e
+    → HasEntry s i k u → MeetsEnd s k → (k ≡ e) × (u ≡ Some span)
 entry_only s i at e k span None g l from to r stops = absurd (label_not_end s i at e g l (subst (MeetsEnd s) r stops))
 entry_only s i at e k span (Some other) g l from to (m, b, (d, f)) stops =
     let p = label_at s i at m k g b d in
@@ -164,7 +173,8 @@ entry_only s i at e k span (Some other) g l from to (m, b, (d, f)) stops =
     let q : k ≡ e = run_end_unique NameByte s at k e d'.rest l.rest in
     (q, ap Some (f ∙ ap (λ x. record { start = x; end = k }) p ∙ sym (span_is at e k span from to q)))
 
-pub finds_entry : (s : List ℕ) (i at : ℕ) (span : Span) → at ≢ i → IsWholeRun Blank s i at → span.start ≡ at → IsLabel s at span.end → at < span.end → span.end ≤ length s →
+pub finds_entry : (s : List ℕ) (i at : ℕ) (span : Span) → at ≢ i → IsWholeRun Blank s i at → span.start ≡ at → IsLabel s at span.end
+    → at < span.end → span.end ≤ length s →
     FindsEntry s i (record { what = Some span; end = span.end; fits = true })
 finds_entry s i at span n g from l some w = record {
   reads = (at, record { some = let o = g.run.order in omega arith; run = g.run }, (l, span_is at span.end span.end span from refl refl));
@@ -173,8 +183,10 @@ finds_entry s i at span n g from l some w = record {
   within = w;
 }
 
-pub gives_end : (s : List ℕ) (label : Span) (at : ℕ) (table : List Node) (f : Read (Option Span)) → FindsEntry s label.end f → IsWholeRun Blank s f.end at → at ≡ length s →
-    GivesPhrase (IsEndRest s label) (length s) label.end table table (record { label = Some label; core = None; jump = jumps.Fall; entry = f.what; fits = true })
+pub gives_end : (s : List ℕ) (label : Span) (at : ℕ) (table : List Node) (f : Read (Option Span)) → FindsEntry s label.end f
+    → IsWholeRun Blank s f.end at → at ≡ length s →
+    GivesPhrase (IsEndRest s label) (length s) label.end table table
+    (record { label = Some label; core = None; jump = jumps.Fall; entry = f.what; fits = true })
 gives_end s label at table f a g e = record {
   tree = record { label = Some label; core = None; jump = Fall; entry = f.what };
   reads = record { after_entry = f.end; label = refl; entry = a.reads; rest = subst (λ y. IsGap s f.end y) e g.run; core = refl; jump = refl };
@@ -186,7 +198,8 @@ gives_end s label at table f a g e = record {
   used = uses_none table [];
 }
 
-pub lacks_end : (s : List ℕ) (label : Span) (at : ℕ) (f : Read (Option Span)) → FindsEntry s label.end f → IsWholeRun Blank s f.end at → at ≢ length s → (u : StatementTree) → IsEndRest s label u → ⊥
+pub lacks_end : (s : List ℕ) (label : Span) (at : ℕ) (f : Read (Option Span)) → FindsEntry s label.end f → IsWholeRun Blank s f.end at → at ≢ length s
+    → (u : StatementTree) → IsEndRest s label u → ⊥
 lacks_end s label at f a g never u r =
     let m = meets_end s r.after_entry r.rest in
     let q = a.only r.after_entry u.entry r.entry m in
@@ -207,7 +220,8 @@ jump_from s i j (Either t u) h (k, l, b, d, c, r) = let blank = b.run.each i (om
 
 label_is : (s : List ℕ) (i j e : ℕ) (x : Option Span) → IsLabel s i e → HasLabel s i j x → x ≢ None → (j ≡ e) × (x ≡ Some (record { start = i; end = e }))
 label_is s i j e None l r n = absurd (n refl)
-label_is s i j e (Some span) l (m, f) n = let q : j ≡ e = run_end_unique NameByte s i j e m.rest l.rest in (q, ap Some (f ∙ ap (λ x. record { start = i; end = x }) q))
+label_is s i j e (Some span) l (m, f) n = let q : j ≡ e = run_end_unique NameByte s i j e m.rest l.rest in
+    (q, ap Some (f ∙ ap (λ x. record { start = i; end = x }) q))
 
 label_none_is : (s : List ℕ) (i j : ℕ) (x : Option Span) → ((e : ℕ) → IsLabel s i e → ⊥) → HasLabel s i j x → (j ≡ i) × (x ≡ None)
 label_none_is s i j None n r = (r, refl)
@@ -219,7 +233,8 @@ unlabelled s i u r h at e =
     let g = jump_from s i r.after_jump u.jump h (subst (λ x. HasJump s x r.after_jump u.jump) c.0 r.jump) in
     r.some e c.1 g.1
 
-labelled : (s : List ℕ) (i e : ℕ) (u : StatementTree) (r : IsPlain s i u) → IsLabel s i e → (r.after_label ≡ e) × (u.label ≡ Some (record { start = i; end = e }))
+labelled : (s : List ℕ) (i e : ℕ) (u : StatementTree) (r : IsPlain s i u) → IsLabel s i e → (r.after_label ≡ e)
+    × (u.label ≡ Some (record { start = i; end = e }))
 labelled s i e u r l = label_is s i r.after_label e u.label l r.label
     (λ n. unlabelled s i u r (label_not_blank _ l.first) (subst (λ x. HasLabel s i r.after_label x) n r.label) n)
 
@@ -235,7 +250,8 @@ rest_of s i e given u r f g = record {
   some = r.some;
 }
 
-end_of : (s : List ℕ) (i e : ℕ) (u : StatementTree) (r : IsEnd s i u) → IsLabel s i e → IsEndRest s (record { start = i; end = e }) u × (part s (record { start = i; end = e }) ≡ codes "END")
+end_of : (s : List ℕ) (i e : ℕ) (u : StatementTree) (r : IsEnd s i u) → IsLabel s i e → IsEndRest s (record { start = i; end = e }) u
+    × (part s (record { start = i; end = e }) ≡ codes "END")
 end_of s i e u r l =
     let q = label_is s i r.after_label e (Some r.span) l r.has_label (λ n. cc) in
     let same : r.span ≡ record { start = i; end = e } = some_equal q.1 in (
@@ -250,32 +266,39 @@ end_of s i e u r l =
       ap (part s) (sym same) ∙ r.is_end,
     )
 
-unlabelled_only : (s : List ℕ) (i : ℕ) (u t : StatementTree) → ((e : ℕ) → IsLabel s i e → ⊥) → ((u : StatementTree) → IsRest s None i u → u ≡ t) → IsStatement s i u → u ≡ t
+unlabelled_only : (s : List ℕ) (i : ℕ) (u t : StatementTree) → ((e : ℕ) → IsLabel s i e → ⊥) → ((u : StatementTree) → IsRest s None i u → u ≡ t)
+    → IsStatement s i u → u ≡ t
 unlabelled_only s i u t n only (inl r) = let q = label_none_is s i r.after_label u.label n r.label in only u (rest_of s i i None u r q.0 q.1)
 unlabelled_only s i u t n only (inr r) = absurd (n r.after_label r.has_label.0)
 
-labelled_only : (s : List ℕ) (i e : ℕ) (u t : StatementTree) → IsLabel s i e → part s (record { start = i; end = e }) ≢ codes "END" → ((u : StatementTree) → IsRest s (Some (record { start = i; end = e })) e u → u ≡ t) → IsStatement s i u → u ≡ t
+labelled_only : (s : List ℕ) (i e : ℕ) (u t : StatementTree) → IsLabel s i e → part s (record { start = i; end = e }) ≢ codes "END"
+    → ((u : StatementTree) → IsRest s (Some (record { start = i; end = e })) e u → u ≡ t) → IsStatement s i u → u ≡ t
 labelled_only s i e u t l x only (inl r) = let q = labelled s i e u r l in only u (rest_of s i e (Some (record { start = i; end = e })) u r q.0 q.1)
 labelled_only s i e u t l x only (inr r) = absurd (x (end_of s i e u r l).1)
 
-end_only : (s : List ℕ) (i e : ℕ) (u t : StatementTree) → IsLabel s i e → part s (record { start = i; end = e }) ≡ codes "END" → ((u : StatementTree) → IsEndRest s (record { start = i; end = e }) u → u ≡ t) → IsStatement s i u → u ≡ t
+end_only : (s : List ℕ) (i e : ℕ) (u t : StatementTree) → IsLabel s i e → part s (record { start = i; end = e }) ≡ codes "END"
+    → ((u : StatementTree) → IsEndRest s (record { start = i; end = e }) u → u ≡ t) → IsStatement s i u → u ≡ t
 end_only s i e u t l x only (inl r) = let q = labelled s i e u r l in absurd (r.no_end _ q.1 x)
 end_only s i e u t l x only (inr r) = only u (end_of s i e u r l).0
 
-unlabelled_none : (s : List ℕ) (i : ℕ) (u : StatementTree) → ((e : ℕ) → IsLabel s i e → ⊥) → ((u : StatementTree) → IsRest s None i u → ⊥) → IsStatement s i u → ⊥
+unlabelled_none : (s : List ℕ) (i : ℕ) (u : StatementTree) → ((e : ℕ) → IsLabel s i e → ⊥)
+    → ((u : StatementTree) → IsRest s None i u → ⊥) → IsStatement s i u → ⊥
 unlabelled_none s i u n f (inl r) = let q = label_none_is s i r.after_label u.label n r.label in f u (rest_of s i i None u r q.0 q.1)
 unlabelled_none s i u n f (inr r) = n r.after_label r.has_label.0
 
-labelled_none : (s : List ℕ) (i e : ℕ) (u : StatementTree) → IsLabel s i e → part s (record { start = i; end = e }) ≢ codes "END" → ((u : StatementTree) → IsRest s (Some (record { start = i; end = e })) e u → ⊥) → IsStatement s i u → ⊥
+labelled_none : (s : List ℕ) (i e : ℕ) (u : StatementTree) → IsLabel s i e → part s (record { start = i; end = e }) ≢ codes "END"
+    → ((u : StatementTree) → IsRest s (Some (record { start = i; end = e })) e u → ⊥) → IsStatement s i u → ⊥
 labelled_none s i e u l x f (inl r) = let q = labelled s i e u r l in f u (rest_of s i e (Some (record { start = i; end = e })) u r q.0 q.1)
 labelled_none s i e u l x f (inr r) = x (end_of s i e u r l).1
 
-end_none : (s : List ℕ) (i e : ℕ) (u : StatementTree) → IsLabel s i e → part s (record { start = i; end = e }) ≡ codes "END" → ((u : StatementTree) → IsEndRest s (record { start = i; end = e }) u → ⊥) → IsStatement s i u → ⊥
+end_none : (s : List ℕ) (i e : ℕ) (u : StatementTree) → IsLabel s i e → part s (record { start = i; end = e }) ≡ codes "END"
+    → ((u : StatementTree) → IsEndRest s (record { start = i; end = e }) u → ⊥) → IsStatement s i u → ⊥
 end_none s i e u l x f (inl r) = let q = labelled s i e u r l in r.no_end _ q.1 x
 end_none s i e u l x f (inr r) = f u (end_of s i e u r l).0
 
 -- no label
-pub statement_unlabelled : (s : List ℕ) (i : ℕ) (old new : List Node) (p : Option Phrase) → ((e : ℕ) → IsLabel s i e → ⊥) → PhraseOutcome (IsRest s None i) (length s) i old new p → PhraseOutcome (IsStatement s i) (length s) i old new p
+pub statement_unlabelled : (s : List ℕ) (i : ℕ) (old new : List Node) (p : Option Phrase) → ((e : ℕ) → IsLabel s i e → ⊥)
+    → PhraseOutcome (IsRest s None i) (length s) i old new p → PhraseOutcome (IsStatement s i) (length s) i old new p
 statement_unlabelled s i old new None n f = λ u r. unlabelled_none s i u n f r
 statement_unlabelled s i old new (Some p) n a = record {
   tree = a.tree;
@@ -301,8 +324,10 @@ statement_unlabelled s i old new (Some p) n a = record {
 }
 
 -- any other label
-pub statement_labelled : (s : List ℕ) (i e : ℕ) (old new : List Node) (p : Option Phrase) → IsLabel s i e → i < e → part s (record { start = i; end = e }) ≢ codes "END" → part s (record { start = i; end = e }) ≢ codes "RETURN" →
-    part s (record { start = i; end = e }) ≢ codes "FRETURN" → PhraseOutcome (IsRest s (Some (record { start = i; end = e })) e) (length s) e old new p → PhraseOutcome (IsStatement s i) (length s) i old new p
+pub statement_labelled : (s : List ℕ) (i e : ℕ) (old new : List Node) (p : Option Phrase) → IsLabel s i e → i < e
+    → part s (record { start = i; end = e }) ≢ codes "END" → part s (record { start = i; end = e }) ≢ codes "RETURN" →
+    part s (record { start = i; end = e }) ≢ codes "FRETURN" → PhraseOutcome (IsRest s (Some (record { start = i; end = e })) e) (length s) e old new p
+    → PhraseOutcome (IsStatement s i) (length s) i old new p
 statement_labelled s i e old new None l lt x y z f = λ u r. labelled_none s i e u l x f r
 statement_labelled s i e old new (Some p) l lt x y z a = record {
   tree = a.tree;
@@ -328,7 +353,8 @@ statement_labelled s i e old new (Some p) l lt x y z a = record {
 }
 
 -- END
-pub statement_end : (s : List ℕ) (i e : ℕ) (table : List Node) (p : Option Phrase) → IsLabel s i e → i < e → part s (record { start = i; end = e }) ≡ codes "END" →
+pub statement_end : (s : List ℕ) (i e : ℕ) (table : List Node) (p : Option Phrase) → IsLabel s i e → i < e
+    → part s (record { start = i; end = e }) ≡ codes "END" →
     PhraseOutcome (IsEndRest s (record { start = i; end = e })) (length s) e table table p → PhraseOutcome (IsStatement s i) (length s) i table table p
 statement_end s i e table None l lt x f = λ u r. end_none s i e u l x f r
 statement_end s i e table (Some p) l lt x a = record {
@@ -353,11 +379,13 @@ statement_end s i e table (Some p) l lt x a = record {
 }
 
 -- RETURN or FRETURN
-pub statement_return : (s : List ℕ) (i e : ℕ) → IsLabel s i e → part s (record { start = i; end = e }) ≡ codes "RETURN" → (u : StatementTree) → IsStatement s i u → ⊥
+pub statement_return : (s : List ℕ) (i e : ℕ) → IsLabel s i e → part s (record { start = i; end = e }) ≡ codes "RETURN"
+    → (u : StatementTree) → IsStatement s i u → ⊥
 statement_return s i e l x u (inl r) = let q = labelled s i e u r l in r.no_return _ q.1 x
 statement_return s i e l x u (inr r) = let y = sym (end_of s i e u r l).1 ∙ x in absurd (cc)
 
-pub statement_freturn : (s : List ℕ) (i e : ℕ) → IsLabel s i e → part s (record { start = i; end = e }) ≡ codes "FRETURN" → (u : StatementTree) → IsStatement s i u → ⊥
+pub statement_freturn : (s : List ℕ) (i e : ℕ) → IsLabel s i e → part s (record { start = i; end = e }) ≡ codes "FRETURN"
+    → (u : StatementTree) → IsStatement s i u → ⊥
 statement_freturn s i e l x u (inl r) = let q = labelled s i e u r l in r.no_freturn _ q.1 x
 statement_freturn s i e l x u (inr r) = let y = sym (end_of s i e u r l).1 ∙ x in absurd (cc)
 

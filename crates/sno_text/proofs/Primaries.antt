@@ -1,12 +1,14 @@
 -- Each kind of primary is found exactly.
-use Rattle.std.proofs.Common.{◌≡◌, ◌≢◌, ℕ, ◌+◌, ◌-◌, ◌<◌, ◌⊎◌, inl, inr, true, false, List, take, drop, arith, refl, sym, ◌∙◌, ap, subst, Some, None, Option, if◌then◌else◌, ◌||◌, ◌==◌}
+use Rattle.std.proofs.Common.{◌≡◌, ◌≢◌, ℕ, ◌+◌, ◌-◌, ◌<◌, ◌⊎◌, inl, inr, true, false, List, take, drop, arith, refl, sym, ◌∙◌, ap, subst, Some, None, Option}
+use Rattle.std.proofs.Common.{if◌then◌else◌, ◌||◌, ◌==◌}
 use Rattle.std.proofs.lemmas.Bool.{cases_lt, cases_order, false_from_ne_true}
 use Rattle.std.proofs.lemmas.Bool.Decides.{nat_tests}
 use Rattle.sno_text.specs.declared.bytes.Class.TheVariants.{Blank, NameByte, Digit}
 use Rattle.sno_text.specs.declared.node.Operator.{Operator}
 use Rattle.sno_text.specs.Bytes.{byte, is_blank, is_unary, is_first, is_letter, is_digit, is_opening, is_closing, can_start, IsWholeRun}
 use Rattle.sno_text.specs.Trees.{Tree, Variable, Integer, Literal, Keyword}
-use Rattle.sno_text.specs.Grammar.{decimal, applied, IsPair, IsGap, IsName, IsDigits, IsLiteral, Level, Primary, Arguments, Reads, variable, integer, literal, keyword, group, apply}
+use Rattle.sno_text.specs.Grammar.{decimal, applied, IsPair, IsGap, IsName, IsDigits, IsLiteral, Level, Primary, Arguments, Reads, variable, integer, literal}
+use Rattle.sno_text.specs.Grammar.{keyword, group, apply}
 use Rattle.sno_text.specs.Links.{Starts, Stops, Finds, Refuses, Shuts, Closes, sign_of, sign_at, single, Lands}
 use Rattle.sno_text.proofs.Runs.{run_end_unique}
 use Rattle.sno_text.proofs.Starts.{reads_start, start_not_blank, start_can_start}
@@ -42,7 +44,8 @@ apart b m n e f h = h (sym e ∙ f)
 -- the kind that a primary has
 reads_kind : {s : List ℕ} {i j : ℕ} {t : Tree} → Reads s Primary i j t →
     ((kind (byte s i) ≡ 1) × IsName s i j × (t ≡ Variable i j))
-    ⊎ (((kind (byte s i) ≡ 1) × (k m : ℕ) × (u : Tree) × IsName s i k × IsPair (byte s k) (byte s m) × Reads s Arguments (k + 1) m u × (j ≡ m + 1) × (t ≡ applied (byte s k) i k u))
+    ⊎ (((kind (byte s i) ≡ 1) × (k m : ℕ) × (u : Tree) × IsName s i k × IsPair (byte s k) (byte s m) × Reads s Arguments (k + 1) m u × (j ≡ m + 1)
+    × (t ≡ applied (byte s k) i k u))
     ⊎ (((kind (byte s i) ≡ 2) × IsDigits s i j × (t ≡ Integer (decimal 0 (take (j - i) (drop i s)))))
     ⊎ (((kind (byte s i) ≡ 3) × IsLiteral s i j × (t ≡ Literal (i + 1) (j - 1)))
     ⊎ (((kind (byte s i) ≡ 4) × IsName s (i + 1) j × (t ≡ Keyword (i + 1) j))
@@ -68,7 +71,8 @@ finds_variable s i e n h = record {
       let mine = kind_letter _ n.letter in
       elim (reads_kind r) [
         | inl (k, m, f) ↦ let g : j ≡ e = run_end_unique NameByte s i j e m.rest n.rest in (g, f ∙ ap (λ x. Variable i x) g)
-        | inr (inl (k, l, m, u, o, p, a, b, f)) ↦ let g : l ≡ e = run_end_unique NameByte s i l e o.rest n.rest in let opens = rw g at (pair_opening _ _ p) in absurd (cc)
+        | inr (inl (k, l, m, u, o, p, a, b, f)) ↦ let g : l ≡ e = run_end_unique NameByte s i l e o.rest n.rest in let opens =
+            rw g at (pair_opening _ _ p) in absurd (cc)
         | inr (inr (inl q)) ↦ absurd (apart _ 1 2 mine q.0 (λ x. cc))
         | inr (inr (inr (inl q))) ↦ absurd (apart _ 1 3 mine q.0 (λ x. cc))
         | inr (inr (inr (inr (inl q)))) ↦ absurd (apart _ 1 4 mine q.0 (λ x. cc))
@@ -85,7 +89,8 @@ finds_integer s i e n = record {
       elim (reads_kind r) [
         | inl q ↦ absurd (apart _ 2 1 mine q.0 (λ x. cc))
         | inr (inl q) ↦ absurd (apart _ 2 1 mine q.0 (λ x. cc))
-        | inr (inr (inl (k, m, f))) ↦ let g : j ≡ e = run_end_unique Digit s i j e m.digits n.digits in (g, f ∙ ap (λ x. Integer (decimal 0 (take (x - i) (drop i s)))) g)
+        | inr (inr (inl (k, m, f))) ↦ let g : j ≡ e = run_end_unique Digit s i j e m.digits n.digits in
+            (g, f ∙ ap (λ x. Integer (decimal 0 (take (x - i) (drop i s)))) g)
         | inr (inr (inr (inl q))) ↦ absurd (apart _ 2 3 mine q.0 (λ x. cc))
         | inr (inr (inr (inr (inl q)))) ↦ absurd (apart _ 2 4 mine q.0 (λ x. cc))
         | inr (inr (inr (inr (inr q)))) ↦ absurd (apart _ 2 5 mine q.0 (λ x. cc))
@@ -169,7 +174,8 @@ unfolding kind
 kind_other b a d e f g h = rw (a, d) (grind (arith, nat_tests))
 
 -- no primary begins so
-pub refuses_other : (s : List ℕ) (i : ℕ) → is_letter (byte s i) ≡ false → is_digit (byte s i) ≡ false → byte s i ≢ 39 → byte s i ≢ 34 → byte s i ≢ 38 → byte s i ≢ 40 → Refuses s Primary (Stops s 7) i
+pub refuses_other : (s : List ℕ) (i : ℕ) → is_letter (byte s i) ≡ false → is_digit (byte s i) ≡ false → byte s i ≢ 39 → byte s i ≢ 34 → byte s i ≢ 38
+    → byte s i ≢ 40 → Refuses s Primary (Stops s 7) i
 refuses_other s i a b c d e f = record {
   none = λ j t r stops.
       let mine = kind_other (byte s i) a b c d e f in
@@ -303,7 +309,8 @@ pub end_byte_bracket : (b : ℕ) → b ≡ 41 → IsEndByte b
 end_byte_bracket b e = end_byte_shut b (inl e)
 
 -- a group
-pub finds_group : (s : List ℕ) (i k m l : ℕ) (t : Tree) → byte s i ≡ 40 → IsWholeRun Blank s (i + 1) k → Finds s (Level 0) (Stops s 0) k m t → IsWholeRun Blank s m l → byte s l ≡ 41 →
+pub finds_group : (s : List ℕ) (i k m l : ℕ) (t : Tree) → byte s i ≡ 40 → IsWholeRun Blank s (i + 1) k → Finds s (Level 0) (Stops s 0) k m t
+    → IsWholeRun Blank s m l → byte s l ≡ 41 →
     Finds s Primary (Stops s 7) i (l + 1) t
 finds_group s i k m l t opened g f h shut = record {
   reads = group opened g.run f.reads h.run shut refl;
@@ -315,7 +322,8 @@ finds_group s i k m l t opened g f h shut = record {
         | inr (inr (inl q)) ↦ absurd (apart _ 5 2 mine q.0 (λ x. cc))
         | inr (inr (inr (inl q))) ↦ absurd (apart _ 5 3 mine q.0 (λ x. cc))
         | inr (inr (inr (inr (inl q)))) ↦ absurd (apart _ 5 4 mine q.0 (λ x. cc))
-        | inr (inr (inr (inr (inr (q, k', m', l', g', a, h', c, d))))) ↦ let e = inner_only s (i + 1) k m l t g f h k' m' l' t' g' a h' (end_byte_bracket _ c) in (d ∙ ap (λ x. x + 1) e.0, e.1)
+        | inr (inr (inr (inr (inr (q, k', m', l', g', a, h', c, d))))) ↦ let e =
+            inner_only s (i + 1) k m l t g f h k' m' l' t' g' a h' (end_byte_bracket _ c) in (d ∙ ap (λ x. x + 1) e.0, e.1)
       ];
 }
 
@@ -333,7 +341,8 @@ refuses_group s i k opened g f = record {
       ];
 }
 
-pub refuses_unclosed : (s : List ℕ) (i k m l : ℕ) (t : Tree) → byte s i ≡ 40 → IsWholeRun Blank s (i + 1) k → Finds s (Level 0) (Stops s 0) k m t → IsWholeRun Blank s m l → byte s l ≢ 41 →
+pub refuses_unclosed : (s : List ℕ) (i k m l : ℕ) (t : Tree) → byte s i ≡ 40 → IsWholeRun Blank s (i + 1) k → Finds s (Level 0) (Stops s 0) k m t
+    → IsWholeRun Blank s m l → byte s l ≢ 41 →
     Refuses s Primary (Stops s 7) i
 refuses_unclosed s i k m l t opened g f h never = record {
   none = λ j t' r stops.
@@ -344,7 +353,8 @@ refuses_unclosed s i k m l t opened g f h never = record {
         | inr (inr (inl q)) ↦ absurd (apart _ 5 2 mine q.0 (λ x. cc))
         | inr (inr (inr (inl q))) ↦ absurd (apart _ 5 3 mine q.0 (λ x. cc))
         | inr (inr (inr (inr (inl q)))) ↦ absurd (apart _ 5 4 mine q.0 (λ x. cc))
-        | inr (inr (inr (inr (inr (q, k', m', l', g', a, h', c, d))))) ↦ let e = inner_only s (i + 1) k m l t g f h k' m' l' t' g' a h' (end_byte_bracket _ c) in let shut = rw e.0 at c in never shut
+        | inr (inr (inr (inr (inr (q, k', m', l', g', a, h', c, d))))) ↦ let e =
+            inner_only s (i + 1) k m l t g f h k' m' l' t' g' a h' (end_byte_bracket _ c) in let shut = rw e.0 at c in never shut
       ];
 }
 
@@ -362,8 +372,11 @@ finds_apply s i k m u n p f = record {
   only = λ j t r stops.
       let mine = kind_letter _ n.letter in
       elim (reads_kind r) [
-        | inl (q, o, e) ↦ let g : j ≡ k = run_end_unique NameByte s i j k o.rest n.rest in let closed = rw g at stops.no_bracket in let opens = pair_opening _ _ p in absurd (cc)
-        | inr (inl (q, k', m', u', o, p', a, d, e)) ↦ let g : k' ≡ k = run_end_unique NameByte s i k' k o.rest n.rest in let a' : Reads s Arguments (k + 1) m' u' = subst (λ x. Reads s Arguments (x + 1) m' u') g a in let f' = f.only m' u' a' (pair_shut _ _ p') in (d ∙ ap (λ x. x + 1) f'.0, e ∙ ap (λ x. applied (byte s x) i x u') g ∙ ap (λ x. applied (byte s k) i k x) f'.1)
+        | inl (q, o, e) ↦ let g : j ≡ k = run_end_unique NameByte s i j k o.rest n.rest in let closed = rw g at stops.no_bracket in let opens =
+            pair_opening _ _ p in absurd (cc)
+        | inr (inl (q, k', m', u', o, p', a, d, e)) ↦ let g : k' ≡ k = run_end_unique NameByte s i k' k o.rest n.rest in
+            let a' : Reads s Arguments (k + 1) m' u' = subst (λ x. Reads s Arguments (x + 1) m' u') g a in let f' = f.only m' u' a' (pair_shut _ _ p') in
+            (d ∙ ap (λ x. x + 1) f'.0, e ∙ ap (λ x. applied (byte s x) i x u') g ∙ ap (λ x. applied (byte s k) i k x) f'.1)
         | inr (inr (inl q)) ↦ absurd (apart _ 1 2 mine q.0 (λ x. cc))
         | inr (inr (inr (inl q))) ↦ absurd (apart _ 1 3 mine q.0 (λ x. cc))
         | inr (inr (inr (inr (inl q)))) ↦ absurd (apart _ 1 4 mine q.0 (λ x. cc))
@@ -371,13 +384,15 @@ finds_apply s i k m u n p f = record {
       ];
 }
 
-pub refuses_apply : (s : List ℕ) (i k : ℕ) → IsName s i k → is_opening (byte s k) ≡ true → Refuses s Arguments (Shuts s) (k + 1) → Refuses s Primary (Stops s 7) i
+pub refuses_apply : (s : List ℕ) (i k : ℕ) → IsName s i k → is_opening (byte s k) ≡ true → Refuses s Arguments (Shuts s) (k + 1)
+    → Refuses s Primary (Stops s 7) i
 refuses_apply s i k n opens f = record {
   none = λ j t r stops.
       let mine = kind_letter _ n.letter in
       elim (reads_kind r) [
         | inl (q, o, e) ↦ let g : j ≡ k = run_end_unique NameByte s i j k o.rest n.rest in let closed = rw g at stops.no_bracket in absurd (cc)
-        | inr (inl (q, k', m', u', o, p', a, d, e)) ↦ let g : k' ≡ k = run_end_unique NameByte s i k' k o.rest n.rest in f.none m' u' (subst (λ x. Reads s Arguments (x + 1) m' u') g a) (pair_shut _ _ p')
+        | inr (inl (q, k', m', u', o, p', a, d, e)) ↦ let g : k' ≡ k = run_end_unique NameByte s i k' k o.rest n.rest in
+            f.none m' u' (subst (λ x. Reads s Arguments (x + 1) m' u') g a) (pair_shut _ _ p')
         | inr (inr (inl q)) ↦ absurd (apart _ 1 2 mine q.0 (λ x. cc))
         | inr (inr (inr (inl q))) ↦ absurd (apart _ 1 3 mine q.0 (λ x. cc))
         | inr (inr (inr (inr (inl q)))) ↦ absurd (apart _ 1 4 mine q.0 (λ x. cc))
@@ -385,14 +400,17 @@ refuses_apply s i k n opens f = record {
       ];
 }
 
-pub refuses_unpaired : (s : List ℕ) (i k m : ℕ) (u : Tree) → IsName s i k → is_opening (byte s k) ≡ true → (IsPair (byte s k) (byte s m) → ⊥) → Finds s Arguments (Shuts s) (k + 1) m u →
+pub refuses_unpaired : (s : List ℕ) (i k m : ℕ) (u : Tree) → IsName s i k → is_opening (byte s k) ≡ true → (IsPair (byte s k) (byte s m) → ⊥)
+    → Finds s Arguments (Shuts s) (k + 1) m u →
     Refuses s Primary (Stops s 7) i
 refuses_unpaired s i k m u n opens never f = record {
   none = λ j t r stops.
       let mine = kind_letter _ n.letter in
       elim (reads_kind r) [
         | inl (q, o, e) ↦ let g : j ≡ k = run_end_unique NameByte s i j k o.rest n.rest in let closed = rw g at stops.no_bracket in absurd (cc)
-        | inr (inl (q, k', m', u', o, p', a, d, e)) ↦ let g : k' ≡ k = run_end_unique NameByte s i k' k o.rest n.rest in let f' = f.only m' u' (subst (λ x. Reads s Arguments (x + 1) m' u') g a) (pair_shut _ _ p') in never (subst (λ x. IsPair (byte s x) (byte s m)) g (subst (λ x. IsPair (byte s k') (byte s x)) f'.0 p'))
+        | inr (inl (q, k', m', u', o, p', a, d, e)) ↦ let g : k' ≡ k = run_end_unique NameByte s i k' k o.rest n.rest in let f' =
+            f.only m' u' (subst (λ x. Reads s Arguments (x + 1) m' u') g a) (pair_shut _ _ p') in
+            never (subst (λ x. IsPair (byte s x) (byte s m)) g (subst (λ x. IsPair (byte s k') (byte s x)) f'.0 p'))
         | inr (inr (inl q)) ↦ absurd (apart _ 1 2 mine q.0 (λ x. cc))
         | inr (inr (inr (inl q))) ↦ absurd (apart _ 1 3 mine q.0 (λ x. cc))
         | inr (inr (inr (inr (inl q)))) ↦ absurd (apart _ 1 4 mine q.0 (λ x. cc))

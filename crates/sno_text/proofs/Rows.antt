@@ -50,7 +50,8 @@ unfolding is_blank line_len lines_from
 row_5 = refl
 
 -- A statement that begins behind ';' with a continuation line begins in that line; a blank behind the ';' is its first byte.
-row_6 : map (line_of (codes " X = 1;" ++ 10 ∷ codes "* note" ++ 10 ∷ codes "+ )")) (extents (codes " X = 1;" ++ 10 ∷ codes "* note" ++ 10 ∷ codes "+ )")) ≡ 1 ∷ 3 ∷ []
+row_6 : map (line_of (codes " X = 1;" ++ 10 ∷ codes "* note" ++ 10 ∷ codes "+ )")) (extents (codes " X = 1;" ++ 10 ∷ codes "* note" ++ 10 ∷ codes "+ )"))
+    ≡ 1 ∷ 3 ∷ []
 unfolding is_blank line_len lines_from
 row_6 = refl
 

@@ -4,7 +4,8 @@ use Rattle.std.proofs.lemmas.Bool.{cases_lt, cases_order}
 use Rattle.std.proofs.lemmas.List.{get_or_past}
 use Rattle.sno_text.specs.declared.bytes.Class.{Class}
 use Rattle.sno_text.specs.declared.bytes.Class.TheVariants.{Blank, NameByte, Digit, Letter, UnarySign, Opening, Start, Closing}
-use Rattle.sno_text.specs.Bytes.{byte, in_class, is_blank, is_letter, is_digit, is_name_byte, is_unary, is_first, is_opening, is_closing, can_start, IsRun, IsWholeRun}
+use Rattle.sno_text.specs.Bytes.{byte, in_class, is_blank, is_letter, is_digit, is_name_byte, is_unary, is_first, is_opening, is_closing, can_start, IsRun}
+use Rattle.sno_text.specs.Bytes.{IsWholeRun}
 
 -- 0 is of no class
 pub zero_in_no_class : (c : Class) → in_class c 0 ≡ false

@@ -13,7 +13,8 @@ use Rattle.sno_text.specs.declared.statement.Target.{Target}
 use Rattle.sno_text.specs.declared.statement.Target.TheVariants as targets
 use Rattle.sno_text.specs.Trees.{Tree}
 use Rattle.sno_text.specs.Source.{IsOptionWithin, IsOptionBelow, IsTargetOf, IsTargetOptionOf, IsJumpOf, IsCoreOf, IsStatementOf}
-use Rattle.sno_text.specs.Statements.{TargetTree, Label, Computed, JumpTree, Fall, Always, Either, CoreTree, IsLabel, IsPlace, label, computed, IsTarget, HasOther, IsBranch, always, success, failure, HasJump, HasLabel, HasEntry, StatementTree, IsStatement}
+use Rattle.sno_text.specs.Statements.{TargetTree, Label, Computed, JumpTree, Fall, Always, Either, CoreTree, IsLabel, IsPlace, label, computed, IsTarget}
+use Rattle.sno_text.specs.Statements.{HasOther, IsBranch, always, success, failure, HasJump, HasLabel, HasEntry, StatementTree, IsStatement}
 use Rattle.sno_text.specs.Pieces.{StandsTarget, StandsTargets, StandsJump, StandsExpression, StandsCores}
 use Rattle.sno_text.specs.Phrases.{StandsPhrase}
 use Rattle.sno_text.specs.Judging.{statement_of}
@@ -51,7 +52,8 @@ pub option_wider : (x : Option Span) (n m : ℕ) → n ≤ m → IsOptionWithin 
 option_wider None n m h w = tt
 option_wider (Some span) n m h (a, b) = (a, omega arith)
 
-place_of : (s : List ℕ) (table : List Node) (i j : ℕ) (c : Target) (t : TargetTree) → StandsTarget table c t → IsPlace s i j t → IsTargetOf (length s) (length table) c
+place_of : (s : List ℕ) (table : List Node) (i j : ℕ) (c : Target) (t : TargetTree) → StandsTarget table c t → IsPlace s i j t
+    → IsTargetOf (length s) (length table) c
 place_of s table i j (targets.Label span) (Label place) e (label l f) =
     let same : place ≡ record { start = i; end = j } = cc in
     let w = label_within s i j l in
@@ -61,23 +63,28 @@ place_of s table i j (targets.Label span) (Computed u) e p = absurd e
 place_of s table i j (targets.Computed id) (Label place) e p = absurd e
 place_of s table i j (targets.Computed id) (Computed u) e p = stands_id_below table u id e
 
-target_of : (s : List ℕ) (table : List Node) (i j : ℕ) (c : Target) (t : TargetTree) → StandsTarget table c t → IsTarget s i j t → IsTargetOf (length s) (length table) c
+target_of : (s : List ℕ) (table : List Node) (i j : ℕ) (c : Target) (t : TargetTree) → StandsTarget table c t → IsTarget s i j t
+    → IsTargetOf (length s) (length table) c
 target_of s table i j c t h r = place_of s table r.from r.to c t h r.place
 
-other_of : (s : List ℕ) (table : List Node) (letter i j : ℕ) (c : Option Target) (t : Option TargetTree) → StandsTargets table c t → HasOther s letter i j t → IsTargetOptionOf (length s) (length table) c
+other_of : (s : List ℕ) (table : List Node) (letter i j : ℕ) (c : Option Target) (t : Option TargetTree) → StandsTargets table c t → HasOther s letter i j t
+    → IsTargetOptionOf (length s) (length table) c
 other_of s table letter i j None t h r = tt
 other_of s table letter i j (Some c) None h r = absurd h
 other_of s table letter i j (Some c) (Some t) h (k, b, e, r) = target_of s table (k + 1) j c t h r
 
-one_of : (s : List ℕ) (table : List Node) (i j : ℕ) (c : Option Target) (t : TargetTree) → StandsTargets table c (Some t) → IsTarget s i j t → IsTargetOptionOf (length s) (length table) c
+one_of : (s : List ℕ) (table : List Node) (i j : ℕ) (c : Option Target) (t : TargetTree) → StandsTargets table c (Some t) → IsTarget s i j t
+    → IsTargetOptionOf (length s) (length table) c
 one_of s table i j None t h r = tt
 one_of s table i j (Some c) t h r = target_of s table i j c t h r
 
-branch_of : (s : List ℕ) (table : List Node) (i j : ℕ) (c : Jump) (g : JumpTree) → StandsJump table c g → IsBranch s i j g → IsJumpOf (length s) (length table) c
+branch_of : (s : List ℕ) (table : List Node) (i j : ℕ) (c : Jump) (g : JumpTree) → StandsJump table c g → IsBranch s i j g
+    → IsJumpOf (length s) (length table) c
 branch_of s table i j jumps.Fall g h r = tt
 branch_of s table i j (jumps.Always a) Fall h r = absurd h
 branch_of s table i j (jumps.Always a) (Either d e) h r = absurd h
-branch_of s table i j (jumps.Always a) (Always b) h (always {t = t} r f) = let same : b ≡ t = cc in target_of s table i j a t (subst (StandsTarget table a) same h) r
+branch_of s table i j (jumps.Always a) (Always b) h (always {t = t} r f) = let same : b ≡ t =
+    cc in target_of s table i j a t (subst (StandsTarget table a) same h) r
 branch_of s table i j (jumps.Always a) (Always b) h (success d r f) = absurd (cc)
 branch_of s table i j (jumps.Always a) (Always b) h (failure d r f) = absurd (cc)
 branch_of s table i j (jumps.Either a b) Fall h r = absurd h
@@ -109,14 +116,16 @@ expression_of table (Some id) (Some t) h = stands_id_below table t id h
 core_of : (table : List Node) (c : Option Core) (t : Option CoreTree) → StandsCores table c t → IsCoreOf (length table) c
 core_of table None t h = tt
 core_of table (Some c) None h = absurd h
-core_of table (Some c) (Some t) h = (stands_id_below table t.subject c.subject h.0, expression_of table c.pattern t.pattern h.1, expression_of table c.object t.object h.3)
+core_of table (Some c) (Some t) h =
+    (stands_id_below table t.subject c.subject h.0, expression_of table c.pattern t.pattern h.1, expression_of table c.object t.object h.3)
 
 no_jump : (n : ℕ) (table : List Node) (c : Jump) → StandsJump table c Fall → IsJumpOf n (length table) c
 no_jump n table jumps.Fall h = tt
 no_jump n table (jumps.Always a) h = absurd h
 no_jump n table (jumps.Either a b) h = absurd h
 
-jump_statement : (s : List ℕ) (table : List Node) (i : ℕ) (t : StatementTree) (c : Jump) → StandsJump table c t.jump → IsStatement s i t → IsJumpOf (length s) (length table) c
+jump_statement : (s : List ℕ) (table : List Node) (i : ℕ) (t : StatementTree) (c : Jump) → StandsJump table c t.jump → IsStatement s i t
+    → IsJumpOf (length s) (length table) c
 jump_statement s table i t c h (inl r) = jump_of s table r.after_core r.after_jump c t.jump h r.jump
 jump_statement s table i t c h (inr r) = no_jump (length s) table c (subst (StandsJump table c) r.jump h)
 
@@ -142,7 +151,8 @@ core_wider k l None g a = tt
 core_wider k l (Some c) g a = (let b = a.0 in omega arith, below_wider k l c.pattern g a.1, below_wider k l c.object g a.2)
 
 -- a statement that was read
-pub sound_statement : (s : List ℕ) (n i : ℕ) (table : List Node) (t : StatementTree) (p : Phrase) (line : ℕ) → length s ≤ n → IsStatement s i t → StandsPhrase table p t → IsStatementOf n (length table) (statement_of p line)
+pub sound_statement : (s : List ℕ) (n i : ℕ) (table : List Node) (t : StatementTree) (p : Phrase) (line : ℕ) → length s ≤ n → IsStatement s i t
+    → StandsPhrase table p t → IsStatementOf n (length table) (statement_of p line)
 sound_statement s n i table t p line h r a = record {
   label = rw a.0 (option_wider t.label (length s) n h (label_of s i t r));
   core = core_of table p.core t.core a.1;

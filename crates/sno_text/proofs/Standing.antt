@@ -22,13 +22,15 @@ stands_target_more (targets.Computed id) (Computed u) x h = stands_kept id u x h
 stands_target_more (targets.Label span) (Computed u) x h = absurd h
 stands_target_more (targets.Computed id) (Label place) x h = absurd h
 
-pub stands_targets_more : {n : ℕ} {old new : List Node} (c : Option Target) (t : Option TargetTree) → Extends n old new → StandsTargets old c t → StandsTargets new c t
+pub stands_targets_more : {n : ℕ} {old new : List Node} (c : Option Target) (t : Option TargetTree) → Extends n old new
+    → StandsTargets old c t → StandsTargets new c t
 stands_targets_more None None x h = h
 stands_targets_more (Some a) (Some b) x h = stands_target_more a b x h
 stands_targets_more None (Some b) x h = absurd h
 stands_targets_more (Some a) None x h = absurd h
 
-pub stands_expression_more : {n : ℕ} {old new : List Node} (c : Option ExprId) (t : Option Tree) → Extends n old new → StandsExpression old c t → StandsExpression new c t
+pub stands_expression_more : {n : ℕ} {old new : List Node} (c : Option ExprId) (t : Option Tree) → Extends n old new → StandsExpression old c t
+    → StandsExpression new c t
 stands_expression_more None None x h = h
 stands_expression_more (Some a) (Some b) x h = stands_kept a b x h
 stands_expression_more None (Some b) x h = absurd h
@@ -46,7 +48,8 @@ stands_jump_more (jumps.Either a b) Fall x h = absurd h
 stands_jump_more (jumps.Either a b) (Always d) x h = absurd h
 
 pub stands_core_more : {n : ℕ} {old new : List Node} (c : Core) (t : CoreTree) → Extends n old new → StandsCore old c t → StandsCore new c t
-stands_core_more c t x h = (stands_kept c.subject t.subject x h.0, stands_expression_more c.pattern t.pattern x h.1, h.2, stands_expression_more c.object t.object x h.3)
+stands_core_more c t x h =
+    (stands_kept c.subject t.subject x h.0, stands_expression_more c.pattern t.pattern x h.1, h.2, stands_expression_more c.object t.object x h.3)
 
 pub stands_cores_more : {n : ℕ} {old new : List Node} (c : Option Core) (t : Option CoreTree) → Extends n old new → StandsCores old c t → StandsCores new c t
 stands_cores_more None None x h = h

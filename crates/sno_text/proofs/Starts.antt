@@ -6,7 +6,8 @@ use Rattle.sno_text.specs.declared.bytes.Class.TheVariants.{UnarySign}
 use Rattle.sno_text.specs.declared.node.Operator.TheVariants.{Power}
 use Rattle.sno_text.specs.Bytes.{byte, is_blank, is_letter, is_digit, is_unary, is_first, can_start}
 use Rattle.sno_text.specs.Trees.{Tree}
-use Rattle.sno_text.specs.Grammar.{Part, Level, Rest, Element, Primary, Reads, chain, operand, done, left, right, signed, plain, variable, integer, literal, keyword, group, apply, arguments, last, next, empty, given, Arguments, More, Argument}
+use Rattle.sno_text.specs.Grammar.{Part, Level, Rest, Element, Primary, Reads, chain, operand, done, left, right, signed, plain, variable, integer, literal}
+use Rattle.sno_text.specs.Grammar.{keyword, group, apply, arguments, last, next, empty, given, Arguments, More, Argument}
 use Rattle.sno_text.specs.Links.{Starts, single, sign_of, sign_at}
 use Rattle.sno_text.proofs.Runs.{run_none}
 

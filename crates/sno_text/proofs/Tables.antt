@@ -1,5 +1,6 @@
 -- The table of nodes grows, and what stands in it stays.
-use Rattle.std.proofs.Common.{◌≡◌, ◌≢◌, ℕ, zero, suc, take, drop, min, nat_lt, append-nil, ◌+◌, ◌-◌, ◌^◌, ◌<◌, ◌≤◌, ◌⊎◌, inl, inr, Bool, true, false, List, [], ◌∷◌, ◌++◌, length, arith, refl, sym, ◌∙◌, ap, subst, Some, append_assoc, slice_get, length-append, pos}
+use Rattle.std.proofs.Common.{◌≡◌, ◌≢◌, ℕ, zero, suc, take, drop, min, nat_lt, append-nil, ◌+◌, ◌-◌, ◌^◌, ◌<◌, ◌≤◌, ◌⊎◌, inl, inr, Bool, true, false, List, []}
+use Rattle.std.proofs.Common.{◌∷◌, ◌++◌, length, arith, refl, sym, ◌∙◌, ap, subst, Some, append_assoc, slice_get, length-append, pos}
 use Rattle.std.proofs.lemmas.Bool.{cases_lt}
 use Rattle.std.proofs.lemmas.List.{get_or_past}
 use Rattle.std.proofs.lemmas.Option.{slice_get_within}
@@ -11,11 +12,13 @@ use Rattle.sno_text.specs.declared.node.Node.TheVariants as nodes
 use Rattle.sno_value.specs.declared.ids.ExprId.{ExprId}
 use Rattle.sno_text.specs.declared.table.Found.{Found}
 use Rattle.sno_text.specs.Bytes.{byte, in_class, is_letter, is_digit, is_name_byte, is_opening, IsWholeRun, IsLiteralEnd, NoLiteralEnd}
-use Rattle.sno_text.specs.Trees.{Tree, Variable, Integer, Literal, Keyword, Unary, Binary, Call, Item, One, And, fits, Holds, StandsFor, operands, IsOneOf, IsPart, whole, operand, Uses}
+use Rattle.sno_text.specs.Trees.{Tree, Variable, Integer, Literal, Keyword, Unary, Binary, Call, Item, One, And, fits, Holds, StandsFor, operands, IsOneOf}
+use Rattle.sno_text.specs.Trees.{IsPart, whole, operand, Uses}
 use Rattle.sno_text.specs.Grammar.{decimal, IsLiteral, Level, Primary}
 use Rattle.sno_text.specs.Links.{Stops, Finds, Refuses}
 use Rattle.sno_text.specs.Outcome.{IsSound, Grown, Extends, extended, Outcome}
-use Rattle.sno_text.proofs.Primaries.{finds_keyword, refuses_keyword, finds_variable, finds_literal, refuses_literal, finds_integer, finds_group, refuses_group, refuses_unclosed}
+use Rattle.sno_text.proofs.Primaries.{finds_keyword, refuses_keyword, finds_variable, finds_literal, refuses_literal, finds_integer, finds_group, refuses_group}
+use Rattle.sno_text.proofs.Primaries.{refuses_unclosed}
 
 pub grown_none : (old new : List Node) → new ≡ old → Grown old new
 grown_none old new e = record { more = []; is = e ∙ sym (append-nil old) }
@@ -108,7 +111,8 @@ Below table id = id.0 < length table
 one_below : (table : List Node) (ids : List ExprId) (id : ExprId) → ids ≡ id ∷ [] → id.0 < length table → AllByRecursion (λ a. a.0 < length table) ids
 one_below table ids id e h = rw e (h, tt)
 
-append_below : (table : List Node) (xs : List ExprId) (id : ExprId) → AllByRecursion (λ a. a.0 < length table) xs → AllByRecursion (λ a. a.0 < length table) (id ∷ []) → AllByRecursion (λ a. a.0 < length table) (xs ++ id ∷ [])
+append_below : (table : List Node) (xs : List ExprId) (id : ExprId) → AllByRecursion (λ a. a.0 < length table) xs
+    → AllByRecursion (λ a. a.0 < length table) (id ∷ []) → AllByRecursion (λ a. a.0 < length table) (xs ++ id ∷ [])
 append_below table [] id a b = b
 append_below table (x ∷ xs) id a b = (a.0, append_below table xs id a.1 b)
 
@@ -173,16 +177,19 @@ pub uses_swapped : (n : ℕ) (table : List Node) (xs ys : List ExprId) → Uses 
 uses_swapped n table xs ys a = record { each = λ k low high. part_of table k (xs ++ ys) (ys ++ xs) (λ id i. one_swapped id xs ys i) (a.each k low high) }
 
 -- the node of operands whose nodes were used
-pub uses_pushed : (n : ℕ) (last new : List Node) (node : Node) (id : ExprId) → Uses last n (operands node) → new ≡ last ++ node ∷ [] → id.0 ≡ length last → Uses new n (id ∷ [])
+pub uses_pushed : (n : ℕ) (last new : List Node) (node : Node) (id : ExprId) → Uses last n (operands node) → new ≡ last ++ node ∷ []
+    → id.0 ≡ length last → Uses new n (id ∷ [])
 uses_pushed n last new node id a p q = record {
   each = λ k low high. elim (cases_lt k (length last)) [
-    | inl lt ↦ operand id node (inl refl) (holds_pushed last new node id p q) (part_more last new k (operands node) (grown_push last new node p) (a.each k low lt))
+    | inl lt ↦ operand id node (inl refl) (holds_pushed last new node id p q)
+        (part_more last new k (operands node) (grown_push last new node p) (a.each k low lt))
     | inr ge ↦ whole id (inl refl) (let l = length_pushed last new node p in omega arith)
   ];
 }
 
 -- a token
-gives_token : (s : List ℕ) (i e : ℕ) (old new : List Node) (id : ExprId) (node : Node) (t : Tree) (f : Bool) → Finds s Primary (Stops s 7) i e t → StandsFor new t (id ∷ []) → f ≡ fits t →
+gives_token : (s : List ℕ) (i e : ℕ) (old new : List Node) (id : ExprId) (node : Node) (t : Tree) (f : Bool) → Finds s Primary (Stops s 7) i e t
+    → StandsFor new t (id ∷ []) → f ≡ fits t →
     i < e → e ≤ length s → new ≡ old ++ node ∷ [] → id.0 ≡ length old → Outcome s Primary (Stops s 7) i old new (Some (record { id = id; end = e; fits = f }))
 gives_token s i e old new id node t f d st g o w p q = record {
   tree = t;
@@ -195,10 +202,13 @@ gives_token s i e old new id node t f d st g o w p q = record {
   used = uses_pushed (length old) old new node id (uses_none old (operands node)) p q;
 }
 
-pub gives_keyword : (s : List ℕ) (i e : ℕ) (old new : List Node) (id : ExprId) → byte s i ≡ 38 → is_letter (byte s (i + 1)) ≡ true → IsWholeRun NameByte s (i + 1) e → e ≤ length s →
-    new ≡ old ++ nodes.Keyword (record { start = i + 1; end = e }) ∷ [] → id.0 ≡ length old → Outcome s Primary (Stops s 7) i old new (Some (record { id = id; end = e; fits = true }))
+pub gives_keyword : (s : List ℕ) (i e : ℕ) (old new : List Node) (id : ExprId) → byte s i ≡ 38 → is_letter (byte s (i + 1)) ≡ true
+    → IsWholeRun NameByte s (i + 1) e → e ≤ length s →
+    new ≡ old ++ nodes.Keyword (record { start = i + 1; end = e }) ∷ [] → id.0 ≡ length old
+    → Outcome s Primary (Stops s 7) i old new (Some (record { id = id; end = e; fits = true }))
 gives_keyword s i e old new id h l r w p q =
-    gives_token s i e old new id _ (Keyword (i + 1) e) true (finds_keyword s i e h (record { letter = l; rest = r })) (id, refl, holds_pushed old new _ id p q) refl
+    gives_token s i e old new id _ (Keyword (i + 1) e) true (finds_keyword s i e h (record { letter = l; rest = r }))
+    (id, refl, holds_pushed old new _ id p q) refl
     (let o = r.run.order in omega arith) w p q
 
 pub letter_is_name_byte : (b : ℕ) → is_letter b ≡ true → is_name_byte b ≡ true
@@ -212,8 +222,10 @@ run_some c s i e r h = elim (cases_lt i e) [
   | inr ge ↦ let o = r.run.order in let q : e ≡ i = omega arith in let f = rw q at r.stop in absurd (cc)
 ]
 
-pub gives_variable : (s : List ℕ) (i e : ℕ) (old new : List Node) (id : ExprId) → is_letter (byte s i) ≡ true → IsWholeRun NameByte s i e → is_opening (byte s e) ≡ false → e ≤ length s →
-    new ≡ old ++ nodes.Variable (record { start = i; end = e }) ∷ [] → id.0 ≡ length old → Outcome s Primary (Stops s 7) i old new (Some (record { id = id; end = e; fits = true }))
+pub gives_variable : (s : List ℕ) (i e : ℕ) (old new : List Node) (id : ExprId) → is_letter (byte s i) ≡ true → IsWholeRun NameByte s i e
+    → is_opening (byte s e) ≡ false → e ≤ length s →
+    new ≡ old ++ nodes.Variable (record { start = i; end = e }) ∷ [] → id.0 ≡ length old
+    → Outcome s Primary (Stops s 7) i old new (Some (record { id = id; end = e; fits = true }))
 gives_variable s i e old new id l r h w p q =
     gives_token s i e old new id _ (Variable i e) true (finds_variable s i e (record { letter = l; rest = r }) h) (id, refl, holds_pushed old new _ id p q) refl
     (run_some NameByte s i e r (letter_is_name_byte _ l)) w p q
@@ -231,12 +243,15 @@ next_literal s i at e b q f n g = let o = n.order in record {
   closed = let h : e - 1 ≡ at = omega arith in rw h (n.here ∙ f);
 }
 
-pub gives_literal : (s : List ℕ) (i at b : ℕ) (old new : List Node) (id : ExprId) → (byte s i ≡ 39) ⊎ (byte s i ≡ 34) → b ≡ byte s i → IsLiteralEnd s b (i + 1) at →
-    new ≡ old ++ nodes.Literal (record { start = i + 1; end = at }) ∷ [] → id.0 ≡ length old → Outcome s Primary (Stops s 7) i old new (Some (record { id = id; end = at + 1; fits = true }))
+pub gives_literal : (s : List ℕ) (i at b : ℕ) (old new : List Node) (id : ExprId) → (byte s i ≡ 39) ⊎ (byte s i ≡ 34) → b ≡ byte s i
+    → IsLiteralEnd s b (i + 1) at →
+    new ≡ old ++ nodes.Literal (record { start = i + 1; end = at }) ∷ [] → id.0 ≡ length old
+    → Outcome s Primary (Stops s 7) i old new (Some (record { id = id; end = at + 1; fits = true }))
 gives_literal s i at b old new id h f n p q =
     let e : (at + 1) - 1 ≡ at = omega arith in
     let l = next_literal s i at (at + 1) b h f n refl in
-    let d : Finds s Primary (Stops s 7) i (at + 1) (Literal (i + 1) at) = subst (λ x. Finds s Primary (Stops s 7) i (at + 1) (Literal (i + 1) x)) e (finds_literal s i (at + 1) l) in
+    let d : Finds s Primary (Stops s 7) i (at + 1) (Literal (i + 1) at) =
+    subst (λ x. Finds s Primary (Stops s 7) i (at + 1) (Literal (i + 1) x)) e (finds_literal s i (at + 1) l) in
     gives_token s i (at + 1) old new id _ (Literal (i + 1) at) true d (id, refl, holds_pushed old new _ id p q) refl
     (let o = l.room in omega arith) (let w = n.within in omega arith) p q
 
@@ -256,16 +271,20 @@ refused_literal s i b h f never = refuses_literal s i h (λ e l.
       | inr ge ↦ let z : byte s (e - 1) ≡ 0 = get_or_past s (e - 1) 0 ge in quote_not_zero _ h (sym l.closed ∙ z)
     ])
 
-pub gives_integer : (s : List ℕ) (i e n : ℕ) (f : Bool) (old new : List Node) (id : ExprId) → is_digit (byte s i) ≡ true → IsWholeRun Digit s i e → e ≤ length s →
+pub gives_integer : (s : List ℕ) (i e n : ℕ) (f : Bool) (old new : List Node) (id : ExprId) → is_digit (byte s i) ≡ true
+    → IsWholeRun Digit s i e → e ≤ length s →
     n ≡ decimal 0 (take (e - i) (drop i s)) → f ≡ nat_lt n (2 ^ 63) →
-    new ≡ old ++ nodes.Integer (pos (min n (2 ^ 63 - 1))) ∷ [] → id.0 ≡ length old → Outcome s Primary (Stops s 7) i old new (Some (record { id = id; end = e; fits = f }))
+    new ≡ old ++ nodes.Integer (pos (min n (2 ^ 63 - 1))) ∷ [] → id.0 ≡ length old
+    → Outcome s Primary (Stops s 7) i old new (Some (record { id = id; end = e; fits = f }))
 gives_integer s i e n f old new id h r w d g p q =
     let some = run_some Digit s i e r h in
     gives_token s i e old new id _ (Integer n) f (rw d (finds_integer s i e (record { some = some; digits = r }))) (id, refl, holds_pushed old new _ id p q) g
     some w p q
 
-pub gives_group : (s : List ℕ) (i k l : ℕ) (old new : List Node) (f : Found) → byte s i ≡ 40 → IsWholeRun Blank s (i + 1) k → Outcome s (Level 0) (Stops s 0) k old new (Some f) →
-    IsWholeRun Blank s f.end l → byte s l ≡ 41 → l < length s → Outcome s Primary (Stops s 7) i old new (Some (record { id = f.id; end = l + 1; fits = f.fits }))
+pub gives_group : (s : List ℕ) (i k l : ℕ) (old new : List Node) (f : Found) → byte s i ≡ 40 → IsWholeRun Blank s (i + 1) k
+    → Outcome s (Level 0) (Stops s 0) k old new (Some f) →
+    IsWholeRun Blank s f.end l → byte s l ≡ 41 → l < length s
+    → Outcome s Primary (Stops s 7) i old new (Some (record { id = f.id; end = l + 1; fits = f.fits }))
 gives_group s i k l old new f h g d r c w = record {
   tree = d.tree;
   finds = finds_group s i k f.end l d.tree h g d.finds r c;
@@ -277,8 +296,10 @@ gives_group s i k l old new f h g d r c w = record {
   used = d.used;
 }
 
-pub refused_unclosed : (s : List ℕ) (i k l : ℕ) (old new : List Node) (f : Found) → byte s i ≡ 40 → IsWholeRun Blank s (i + 1) k → Outcome s (Level 0) (Stops s 0) k old new (Some f) →
+pub refused_unclosed : (s : List ℕ) (i k l : ℕ) (old new : List Node) (f : Found) → byte s i ≡ 40 → IsWholeRun Blank s (i + 1) k
+    → Outcome s (Level 0) (Stops s 0) k old new (Some f) →
     IsWholeRun Blank s f.end l → byte s l ≢ 41 → Refuses s Primary (Stops s 7) i
 refused_unclosed s i k l old new f h g d r c = refuses_unclosed s i k f.end l d.tree h g d.finds r c
 
-pub ruleset table_facts = (extends_none, refuses_keyword, gives_keyword, gives_variable, gives_literal, gives_integer, gives_group, refuses_group, refused_unclosed, refused_literal)
+pub ruleset table_facts =
+    (extends_none, refuses_keyword, gives_keyword, gives_variable, gives_literal, gives_integer, gives_group, refuses_group, refused_unclosed, refused_literal)

@@ -1,5 +1,6 @@
 -- Gotos and their targets are found exactly.
-use Rattle.std.proofs.Common.{◌≡◌, ◌≢◌, ℕ, ◌+◌, ◌<◌, ◌≤◌, ◌⊎◌, ◌||◌, inl, inr, true, false, List, [], length, arith, refl, sym, ◌∙◌, ap, subst, Some, None, Option}
+use Rattle.std.proofs.Common.{◌≡◌, ◌≢◌, ℕ, ◌+◌, ◌<◌, ◌≤◌, ◌⊎◌, ◌||◌, inl, inr, true, false, List, [], length, arith, refl, sym, ◌∙◌, ap, subst, Some, None}
+use Rattle.std.proofs.Common.{Option}
 use Rattle.std.proofs.lemmas.Bool.Decides.{nat_tests}
 use Rattle.std.proofs.lemmas.List.{get_or_past}
 use Rattle.sno_text.specs.declared.bytes.Class.TheVariants.{Blank, NameByte}
@@ -40,7 +41,8 @@ label_only s i e k u l (label m f) = let g : k ≡ e = run_end_unique NameByte s
 label_only s i e k u l (computed h r f) = absurd (label_dollar _ l.first h)
 
 pub gives_label : (s : List ℕ) (i e : ℕ) (old : List Node) (span : Span) → IsLabel s i e → span.start ≡ i → span.end ≡ e → i < e → e ≤ length s →
-    Gives TargetTree Target (IsPlace s i) (Stops s 7) StandsTarget target_ids target_fits (length s) i old old (record { what = targets.Label span; end = e; fits = true })
+    Gives TargetTree Target (IsPlace s i) (Stops s 7) StandsTarget target_ids target_fits (length s) i old old
+    (record { what = targets.Label span; end = e; fits = true })
 gives_label s i e old span l from to some within = record {
   tree = Label (record { start = i; end = e });
   reads = label l refl;
@@ -53,12 +55,14 @@ gives_label s i e old span l from to some within = record {
   used = uses_none old [];
 }
 
-place_computed : (s : List ℕ) (i k e : ℕ) (u : TargetTree) (t : Tree) → byte s i ≡ 36 → ((k : ℕ) (u : Tree) → Reads s Element (i + 1) k u → Stops s 7 k → (k ≡ e) × (u ≡ t)) → IsPlace s i k u → Stops s 7 k → (k ≡ e) × (u ≡ Computed t)
+place_computed : (s : List ℕ) (i k e : ℕ) (u : TargetTree) (t : Tree) → byte s i ≡ 36
+    → ((k : ℕ) (u : Tree) → Reads s Element (i + 1) k u → Stops s 7 k → (k ≡ e) × (u ≡ t)) → IsPlace s i k u → Stops s 7 k → (k ≡ e) × (u ≡ Computed t)
 place_computed s i k e u t h only (label l f) stops = absurd (label_dollar _ l.first h)
 place_computed s i k e u t h only (computed {u = v} g r f) stops = let q = only k v r stops in (q.0, f ∙ ap Computed q.1)
 
 pub gives_computed : (s : List ℕ) (i : ℕ) (old new : List Node) (f : Found) → byte s i ≡ 36 → Found_outcome s Element (Stops s 7) (i + 1) old new (Some f) →
-    Gives TargetTree Target (IsPlace s i) (Stops s 7) StandsTarget target_ids target_fits (length s) i old new (record { what = targets.Computed f.id; end = f.end; fits = f.fits })
+    Gives TargetTree Target (IsPlace s i) (Stops s 7) StandsTarget target_ids target_fits (length s) i old new
+    (record { what = targets.Computed f.id; end = f.end; fits = f.fits })
 gives_computed s i old new f h a = record {
   tree = Computed a.tree;
   reads = computed h a.finds.reads refl;
@@ -100,17 +104,21 @@ target_place : (s : List ℕ) (i j k : ℕ) (u : TargetTree) (t : IsTarget s i j
 target_place s i j k u t g = subst (λ x. IsPlace s x t.to u) (target_from s i j k u t g) t.place
 
 target_last : (s : List ℕ) (i j m l : ℕ) (u : TargetTree) (t : IsTarget s i j u) → t.to ≡ m → IsWholeRun Blank s m l → t.last ≡ l
-target_last s i j m l u t e g = run_end_unique Blank s m t.last l (subst (λ x. IsWholeRun Blank s x t.last) e (gap_whole s t.to t.last t.after (end_byte_bracket _ t.closing).no_blank)) g
+target_last s i j m l u t e g =
+    run_end_unique Blank s m t.last l (subst (λ x. IsWholeRun Blank s x t.last) e (gap_whole s t.to t.last t.after (end_byte_bracket _ t.closing).no_blank)) g
 
 target_only : (s : List ℕ) (i k l : ℕ) (old new : List Node) (f : Read Target) → IsWholeRun Blank s (i + 1) k →
-    (a : Gives TargetTree Target (IsPlace s k) (Stops s 7) StandsTarget target_ids target_fits (length s) k old new f) → IsWholeRun Blank s f.end l → (j : ℕ) (u : TargetTree) → IsTarget s i j u → (j ≡ l + 1) × (u ≡ a.tree)
+    (a : Gives TargetTree Target (IsPlace s k) (Stops s 7) StandsTarget target_ids target_fits (length s) k old new f) → IsWholeRun Blank s f.end l
+    → (j : ℕ) (u : TargetTree) → IsTarget s i j u → (j ≡ l + 1) × (u ≡ a.tree)
 target_only s i k l old new f g a h j u t =
     let q = a.only t.to u (target_place s i j k u t g) (target_stops t) in
     (t.end ∙ ap (λ x. x + 1) (target_last s i j f.end l u t q.0 h), q.1)
 
 pub gives_target : (s : List ℕ) (i k l : ℕ) (old new : List Node) (f : Read Target) → byte s i ≡ 40 → IsWholeRun Blank s (i + 1) k →
-    Gives TargetTree Target (IsPlace s k) (Stops s 7) StandsTarget target_ids target_fits (length s) k old new f → IsWholeRun Blank s f.end l → byte s l ≡ 41 → l < length s →
-    Gives TargetTree Target (IsTarget s i) Anywhere StandsTarget target_ids target_fits (length s) i old new (record { what = f.what; end = l + 1; fits = f.fits })
+    Gives TargetTree Target (IsPlace s k) (Stops s 7) StandsTarget target_ids target_fits (length s) k old new f → IsWholeRun Blank s f.end l
+    → byte s l ≡ 41 → l < length s →
+    Gives TargetTree Target (IsTarget s i) Anywhere StandsTarget target_ids target_fits (length s) i old new
+    (record { what = f.what; end = l + 1; fits = f.fits })
 gives_target s i k l old new f o g a h c w = record {
   tree = a.tree;
   reads = record { from = k; to = f.end; last = l; opening = o; before = g.run; place = a.reads; after = h.run; closing = c; end = refl };
@@ -130,7 +138,8 @@ pub lacks_place : (s : List ℕ) (i k : ℕ) → IsWholeRun Blank s (i + 1) k �
 lacks_place s i k g f = record { none = λ j u t stops. f.none t.to u (target_place s i j k u t g) (target_stops t) }
 
 pub lacks_closing : (s : List ℕ) (i k l : ℕ) (old new : List Node) (f : Read Target) → IsWholeRun Blank s (i + 1) k →
-    Gives TargetTree Target (IsPlace s k) (Stops s 7) StandsTarget target_ids target_fits (length s) k old new f → IsWholeRun Blank s f.end l → byte s l ≢ 41 → Lacks TargetTree (IsTarget s i) Anywhere
+    Gives TargetTree Target (IsPlace s k) (Stops s 7) StandsTarget target_ids target_fits (length s) k old new f → IsWholeRun Blank s f.end l → byte s l ≢ 41
+    → Lacks TargetTree (IsTarget s i) Anywhere
 lacks_closing s i k l old new f g a h never = record {
   none = λ j u t stops.
       let q = a.only t.to u (target_place s i j k u t g) (target_stops t) in
@@ -151,12 +160,15 @@ letter_not_zero letter (inr e) f = omega arith
 other_at : (s : List ℕ) (letter i at k : ℕ) → (letter ≡ 70) ⊎ (letter ≡ 83) → IsWholeRun Blank s i at → IsGap s i k → byte s k ≡ letter → k ≡ at
 other_at s letter i at k h g b e = run_end_unique Blank s i k at (gap_whole s i k b (letter_not_blank _ letter h e)) g
 
-no_other : (s : List ℕ) (letter i at k : ℕ) (u : Option TargetTree) → (letter ≡ 70) ⊎ (letter ≡ 83) → IsWholeRun Blank s i at → byte s at ≢ letter → HasOther s letter i k u → (k ≡ i) × (u ≡ None)
+no_other : (s : List ℕ) (letter i at k : ℕ) (u : Option TargetTree) → (letter ≡ 70) ⊎ (letter ≡ 83) → IsWholeRun Blank s i at → byte s at ≢ letter
+    → HasOther s letter i k u → (k ≡ i) × (u ≡ None)
 no_other s letter i at k None h g n e = (e, refl)
 no_other s letter i at k (Some t) h g n (m, b, e, r) = absurd (n (subst (λ x. byte s x ≡ letter) (other_at s letter i at m h g b e) e))
 
-pub gives_no_other : (s : List ℕ) (letter i at : ℕ) (old : List Node) → (letter ≡ 70) ⊎ (letter ≡ 83) → IsWholeRun Blank s i at → byte s at ≢ letter → i ≤ length s →
-    Gives (Option TargetTree) (Option Target) (HasOther s letter i) (MeetsEnd s) StandsTargets target_option_ids target_option_fits (length s) i old old (record { what = None; end = i; fits = true })
+pub gives_no_other : (s : List ℕ) (letter i at : ℕ) (old : List Node) → (letter ≡ 70) ⊎ (letter ≡ 83)
+    → IsWholeRun Blank s i at → byte s at ≢ letter → i ≤ length s →
+    Gives (Option TargetTree) (Option Target) (HasOther s letter i) (MeetsEnd s) StandsTargets target_option_ids target_option_fits (length s) i old old
+    (record { what = None; end = i; fits = true })
 gives_no_other s letter i at old h g n w = record {
   tree = None;
   reads = refl;
@@ -175,15 +187,18 @@ end_not_letter s letter i at h g e m =
     let zero : byte s at ≡ 0 = get_or_past s at 0 (omega arith) in
     letter_not_zero letter h (sym e ∙ zero)
 
-some_other : (s : List ℕ) (letter i at k e : ℕ) (u : Option TargetTree) (t : TargetTree) → (letter ≡ 70) ⊎ (letter ≡ 83) → IsWholeRun Blank s i at → byte s at ≡ letter →
+some_other : (s : List ℕ) (letter i at k e : ℕ) (u : Option TargetTree) (t : TargetTree) → (letter ≡ 70) ⊎ (letter ≡ 83)
+    → IsWholeRun Blank s i at → byte s at ≡ letter →
     ((k : ℕ) (u : TargetTree) → IsTarget s (at + 1) k u → (k ≡ e) × (u ≡ t)) → HasOther s letter i k u → MeetsEnd s k → (k ≡ e) × (u ≡ Some t)
 some_other s letter i at k e None t h g b only r stops = absurd (end_not_letter s letter i at h g b (subst (MeetsEnd s) r stops))
 some_other s letter i at k e (Some v) t h g b only (m, d, c, r) stops =
     let q = only k v (subst (λ x. IsTarget s (x + 1) k v) (other_at s letter i at m h g d c) r) in (q.0, ap Some q.1)
 
-pub gives_other : (s : List ℕ) (letter i at : ℕ) (old new : List Node) (f : Read Target) → (letter ≡ 70) ⊎ (letter ≡ 83) → IsWholeRun Blank s i at → byte s at ≡ letter →
+pub gives_other : (s : List ℕ) (letter i at : ℕ) (old new : List Node) (f : Read Target) → (letter ≡ 70) ⊎ (letter ≡ 83)
+    → IsWholeRun Blank s i at → byte s at ≡ letter →
     Gives TargetTree Target (IsTarget s (at + 1)) Anywhere StandsTarget target_ids target_fits (length s) (at + 1) old new f →
-    Gives (Option TargetTree) (Option Target) (HasOther s letter i) (MeetsEnd s) StandsTargets target_option_ids target_option_fits (length s) i old new (record { what = Some f.what; end = f.end; fits = f.fits })
+    Gives (Option TargetTree) (Option Target) (HasOther s letter i) (MeetsEnd s) StandsTargets target_option_ids target_option_fits (length s) i old new
+    (record { what = Some f.what; end = f.end; fits = f.fits })
 gives_other s letter i at old new f h g b a = record {
   tree = Some a.tree;
   reads = (at, g.run, b, a.reads);

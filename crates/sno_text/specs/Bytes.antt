@@ -1,7 +1,9 @@
 -- The bytes of a program text by class, runs of them, and the tokens that are runs.
-use Rattle.std.specs.Prelude.{◌≡◌, ℕ, ◌≤◌, ◌<◌, ◌≢◌, List, Bool, true, false, ◌||◌, ◌&&◌, ◌==◌, nat_le, length, slice_index}
+use Rattle.std.specs.Prelude.{◌≡◌, ℕ, ◌≤◌, ◌<◌, ◌≢◌, List, Bool, true, false, ◌||◌, ◌&&◌, ◌==◌, nat_le, length}
+use Rattle.std.specs.Prelude.{slice_index}
 use Rattle.sno_text.specs.declared.bytes.Class.{Class}
-use Rattle.sno_text.specs.declared.bytes.Class.TheVariants.{Blank, NameByte, Digit, Letter, UnarySign, Opening, Start, Closing}
+use Rattle.sno_text.specs.declared.bytes.Class.TheVariants.{Blank, NameByte, Digit, Letter, UnarySign, Opening, Start}
+use Rattle.sno_text.specs.declared.bytes.Class.TheVariants.{Closing}
 
 -- the byte at a place, 0 behind the end
 abbrev pub byte : List ℕ → ℕ → ℕ

@@ -1,10 +1,13 @@
 -- The grammar of expressions, as a relation between a part of a text, from one place to another, and a tree.
-use Rattle.std.specs.Prelude.{◌≡◌, ◌≢◌, ℕ, ◌+◌, ◌-◌, ◌*◌, ◌<◌, ◌≤◌, ◌⊎◌, List, [], ◌∷◌, true, ◌==◌, length, take, drop, if◌then◌else◌, Contains}
+use Rattle.std.specs.Prelude.{◌≡◌, ◌≢◌, ℕ, ◌+◌, ◌-◌, ◌*◌, ◌<◌, ◌≤◌, ◌⊎◌, List, [], ◌∷◌, true, ◌==◌, length, take, drop}
+use Rattle.std.specs.Prelude.{if◌then◌else◌, Contains}
 use Rattle.sno_text.specs.declared.bytes.Class.TheVariants.{Blank, NameByte, Digit}
 use Rattle.sno_text.specs.declared.node.Operator.{Operator}
-use Rattle.sno_text.specs.declared.node.Operator.TheVariants.{Alternate, Concatenate, Add, Subtract, Divide, Multiply, Power, Conditional, Immediate}
+use Rattle.sno_text.specs.declared.node.Operator.TheVariants.{Alternate, Concatenate, Add, Subtract, Divide, Multiply}
+use Rattle.sno_text.specs.declared.node.Operator.TheVariants.{Power, Conditional, Immediate}
 use Rattle.sno_text.specs.Bytes.{byte, is_letter, is_unary, IsRun, IsWholeRun}
-use Rattle.sno_text.specs.Trees.{unary_operator, Tree, Variable, Integer, Literal, Keyword, Unary, Binary, Call, Item, One, And}
+use Rattle.sno_text.specs.Trees.{unary_operator, Tree, Variable, Integer, Literal, Keyword, Unary, Binary, Call, Item}
+use Rattle.sno_text.specs.Trees.{One, And}
 
 -- The levels, loosest first: 0 expr, 1 cat, 2 sum, 3 quot, 4 prod, 5 power, 6 assign, and 7 element.
 abbrev pub level_of : Operator → ℕ
@@ -87,27 +90,35 @@ applied bracket from to t = if bracket == 40 then Call from to t else Item from 
 -- Reads s p i j t: the text s, from i to j, is a p, and t is its tree.
 pub data Reads (s : List ℕ) : Part → ℕ → ℕ → Tree → Type 0 where
   -- expr = cat .. ; cat = sum .. ; .. ; assign = element ..
-  chain : {l i m j : ℕ} {u t : Tree} → l < 7 → Reads s (Level (l + 1)) i m u → Reads s (Rest l u) m j t → Reads s (Level l) i j t
+  chain : {l i m j : ℕ} {u t : Tree} → l < 7 → Reads s (Level (l + 1)) i m u → Reads s (Rest l u) m j t
+      → Reads s (Level l) i j t
   operand : {l i j : ℕ} {t : Tree} → l ≡ 7 → Reads s Element i j t → Reads s (Level l) i j t
   -- nothing more
   done : {l i j : ℕ} {u t : Tree} → j ≡ i → t ≡ u → Reads s (Rest l u) i j t
   -- { b op b operand }, to the left
-  left : {l i k m j : ℕ} {u v t : Tree} {o : Operator} → o ≢ Power → level_of o ≡ l → Joins s o i k → Reads s (Level (l + 1)) k m v → Reads s (Rest l (Binary o u v)) m j t → Reads s (Rest l u) i j t
+  left : {l i k m j : ℕ} {u v t : Tree} {o : Operator} → o ≢ Power → level_of o ≡ l → Joins s o i k
+      → Reads s (Level (l + 1)) k m v → Reads s (Rest l (Binary o u v)) m j t → Reads s (Rest l u) i j t
   -- [ b "**" b power ], to the right
-  right : {l i k j : ℕ} {u v t : Tree} → l ≡ 5 → Joins s Power i k → Reads s (Level l) k j v → t ≡ Binary Power u v → Reads s (Rest l u) i j t
+  right : {l i k j : ℕ} {u v t : Tree} → l ≡ 5 → Joins s Power i k → Reads s (Level l) k j v → t ≡ Binary Power u v
+      → Reads s (Rest l u) i j t
   -- element = { sign } primary
-  signed : {i j : ℕ} {u t : Tree} → is_unary (byte s i) ≡ true → Reads s Element (i + 1) j u → t ≡ Unary (unary_operator (byte s i)) u → Reads s Element i j t
+  signed : {i j : ℕ} {u t : Tree} → is_unary (byte s i) ≡ true → Reads s Element (i + 1) j u
+      → t ≡ Unary (unary_operator (byte s i)) u → Reads s Element i j t
   plain : {i j : ℕ} {t : Tree} → Reads s Primary i j t → Reads s Element i j t
   variable : {i j : ℕ} {t : Tree} → IsName s i j → t ≡ Variable i j → Reads s Primary i j t
-  integer : {i j : ℕ} {t : Tree} → IsDigits s i j → t ≡ Integer (decimal 0 (take (j - i) (drop i s))) → Reads s Primary i j t
+  integer : {i j : ℕ} {t : Tree} → IsDigits s i j
+      → t ≡ Integer (decimal 0 (take (j - i) (drop i s))) → Reads s Primary i j t
   literal : {i j : ℕ} {t : Tree} → IsLiteral s i j → t ≡ Literal (i + 1) (j - 1) → Reads s Primary i j t
   keyword : {i j : ℕ} {t : Tree} → byte s i ≡ 38 → IsName s (i + 1) j → t ≡ Keyword (i + 1) j → Reads s Primary i j t
-  group : {i k m l j : ℕ} {t : Tree} → byte s i ≡ 40 → IsGap s (i + 1) k → Reads s (Level 0) k m t → IsGap s m l → byte s l ≡ 41 → j ≡ l + 1 → Reads s Primary i j t
-  apply : {i k m j : ℕ} {u t : Tree} → IsName s i k → IsPair (byte s k) (byte s m) → Reads s Arguments (k + 1) m u → j ≡ m + 1 → t ≡ applied (byte s k) i k u → Reads s Primary i j t
+  group : {i k m l j : ℕ} {t : Tree} → byte s i ≡ 40 → IsGap s (i + 1) k → Reads s (Level 0) k m t → IsGap s m l
+      → byte s l ≡ 41 → j ≡ l + 1 → Reads s Primary i j t
+  apply : {i k m j : ℕ} {u t : Tree} → IsName s i k → IsPair (byte s k) (byte s m) → Reads s Arguments (k + 1) m u
+      → j ≡ m + 1 → t ≡ applied (byte s k) i k u → Reads s Primary i j t
   -- args = arg { "," arg }
   arguments : {i m j : ℕ} {u t : Tree} → Reads s Argument i m u → Reads s (More (One u)) m j t → Reads s Arguments i j t
   last : {i j : ℕ} {u t : Tree} → j ≡ i → t ≡ u → Reads s (More u) i j t
-  next : {i m j : ℕ} {u v t : Tree} → byte s i ≡ 44 → Reads s Argument (i + 1) m v → Reads s (More (And u v)) m j t → Reads s (More u) i j t
+  next : {i m j : ℕ} {u v t : Tree} → byte s i ≡ 44 → Reads s Argument (i + 1) m v
+      → Reads s (More (And u v)) m j t → Reads s (More u) i j t
   -- arg = [b] [expr [b]], and an empty one is the null string
   empty : {i j : ℕ} {t : Tree} → IsGap s i j → t ≡ Literal j j → Reads s Argument i j t
   given : {i k m j : ℕ} {t : Tree} → IsGap s i k → Reads s (Level 0) k m t → IsGap s m j → Reads s Argument i j t

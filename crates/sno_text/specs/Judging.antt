@@ -18,7 +18,8 @@ use Rattle.sno_text.specs.Phrases.{phrase_ids, StandsPhrase, StandsStatement}
 use Rattle.sno_text.specs.Programs.{Row, HasLabelled, IsAcceptedAt, Begins, IsTooLargeBytes}
 
 -- What is known of the statements before one: how many there are, and their labels.
-pub record Knows (s : List ℕ) (before : List StatementTree) (count : ℕ) (entries : List (Vec ℕ Global × ℕ)) : Type 0 where
+pub record Knows (s : List ℕ) (before : List StatementTree) (count : ℕ)
+    (entries : List (Vec ℕ Global × ℕ)) : Type 0 where
   pub many : length before ≡ count
   pub sound : (name : List ℕ) → is_some (number_of entries name) ≡ true → HasLabelled s before name
   pub complete : (name : List ℕ) → number_of entries name ≡ None → HasLabelled s before name → ⊥
@@ -33,12 +34,15 @@ IsShapeRefused count bytes line x =
 -- It is refused by its labels.
 abbrev pub IsLabelRefused : List ℕ → List (Vec ℕ Global × ℕ) → Phrase → ℕ → ReadError → Type 0
 IsLabelRefused s entries p line x =
-    ((span : Span) × (p.label ≡ Some span) × (is_some (number_of entries (part s span)) ≡ true) × (x ≡ DuplicateLabel line))
+    ((span : Span) × (p.label ≡ Some span) × (is_some (number_of entries (part s span)) ≡ true)
+    × (x ≡ DuplicateLabel line))
     ⊎ (((span : Span) → p.label ≡ Some span → number_of entries (part s span) ≡ None)
-    × (span : Span) × (p.entry ≡ Some span) × (part s span ≢ codes "END") × (number_of entries (part s span) ≡ None) × (x ≡ Syntax line 4))
+    × (span : Span) × (p.entry ≡ Some span) × (part s span ≢ codes "END")
+    × (number_of entries (part s span) ≡ None) × (x ≡ Syntax line 4))
 
 -- It is accepted, and was read; the nodes that joined the table are parts of it.
-pub record Accepts (s : List ℕ) (before : List StatementTree) (span : Span) (old nodes : List Node) (p : Phrase) : Type 0 where
+pub record Accepts (s : List ℕ) (before : List StatementTree) (span : Span) (old nodes : List Node)
+    (p : Phrase) : Type 0 where
   pub tree : StatementTree
   pub accepted : IsAcceptedAt s before span tree
   pub stands : StandsPhrase nodes p tree
@@ -48,18 +52,22 @@ abbrev pub statement_of : Phrase → ℕ → Statement
 statement_of p line = record { line = line; label = p.label; core = p.core; jump = p.jump; entry = p.entry }
 
 -- These statements were read, and end at a place.
-pub record IsTabled (s : List ℕ) (ts : List StatementTree) (at : ℕ) (nodes : List Node) (statements : List Statement) (entries : List (Vec ℕ Global × ℕ)) : Type 0 where
+pub record IsTabled (s : List ℕ) (ts : List StatementTree) (at : ℕ) (nodes : List Node) (statements : List Statement)
+    (entries : List (Vec ℕ Global × ℕ)) : Type 0 where
   pub count : length statements ≡ length ts
   pub room : length nodes ≤ at
   pub extends : Extends (length s) [] nodes
-  pub stands : (j : ℕ) (st : Statement) (span : Span) (t : StatementTree) → slice_get statements j ≡ Some st → slice_get (extents s) j ≡ Some span → slice_get ts j ≡ Some t → StandsStatement s nodes st span t
+  pub stands : (j : ℕ) (st : Statement) (span : Span) (t : StatementTree) → slice_get statements j ≡ Some st
+      → slice_get (extents s) j ≡ Some span → slice_get ts j ≡ Some t → StandsStatement s nodes st span t
   pub sound : (j : ℕ) (st : Statement) → slice_get statements j ≡ Some st → IsStatementOf (length s) (length nodes) st
-  pub labels : (j : ℕ) (st : Statement) (t : StatementTree) → slice_get statements j ≡ Some st → slice_get ts j ≡ Some t → st.label ≡ t.label
+  pub labels : (j : ℕ) (st : Statement) (t : StatementTree) → slice_get statements j ≡ Some st
+      → slice_get ts j ≡ Some t → st.label ≡ t.label
   pub index : IsIndex s statements entries
   pub used : Uses nodes 0 (program_ids statements)
 
 -- The first k statements of the text were read, none of them END.
-pub record IsReading (s : List ℕ) (k at : ℕ) (nodes : List Node) (statements : List Statement) (entries : List (Vec ℕ Global × ℕ)) : Type 0 where
+pub record IsReading (s : List ℕ) (k at : ℕ) (nodes : List Node) (statements : List Statement)
+    (entries : List (Vec ℕ Global × ℕ)) : Type 0 where
   pub before : List StatementTree
   pub begins : Begins s before
   pub many : length before ≡ k

@@ -8,7 +8,8 @@ use Rattle.sno_text.specs.Bytes.{is_blank}
 use Rattle.sno_text.specs.Lines.{is_skipped, is_continuation, line_feeds, own, continued, part}
 
 abbrev pub kind_of : Bool → List ℕ → LineKind
-kind_of begun content = if is_skipped content then Skipped else if begun && is_continuation content then Continuation else Card
+kind_of begun content = if is_skipped content then Skipped else if begun && is_continuation content
+    then Continuation else Card
 
 -- a line as it is read
 abbrev pub read_line : LineKind → List ℕ → List ℕ
@@ -17,7 +18,8 @@ read_line Continuation line = continued line
 read_line Card line = own line
 
 abbrev pub part_from : ℕ → List ℕ → ℕ → ℕ → List Span
-part_from at card start end = if list_all is_blank (slice_range card start end) then [] else record { start = at + start; end = at + end } ∷ []
+part_from at card start end = if list_all is_blank (slice_range card start end) then []
+    else record { start = at + start; end = at + end } ∷ []
 
 -- the parts of a card that are not of blanks alone
 abbrev pub kept : List ℕ → List Span → List Span

@@ -1,5 +1,6 @@
 -- The lines of a program text, and the statements in them.
-use Rattle.std.specs.Prelude.{ℕ, ◌+◌, ◌-◌, ◌==◌, ◌&&◌, ◌||◌, not, Bool, true, false, List, [], ◌∷◌, ◌++◌, length, take, drop, map, filter, replicate, slice_range, if◌then◌else◌}
+use Rattle.std.specs.Prelude.{ℕ, ◌+◌, ◌-◌, ◌==◌, ◌&&◌, ◌||◌, not, Bool, true, false, List, [], ◌∷◌, ◌++◌, length, take}
+use Rattle.std.specs.Prelude.{drop, map, filter, replicate, slice_range, if◌then◌else◌}
 use Rattle.std.specs.List.{list_all, concat, count_by, prefix_len}
 use Rattle.bstr.specs.Text.{lines_of, without_terminator}
 use Rattle.sno_text.specs.declared.node.Span.{Span}

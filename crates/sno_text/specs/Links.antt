@@ -3,7 +3,8 @@
 use Rattle.std.specs.Prelude.{◌≡◌, ℕ, ◌+◌, ◌<◌, ◌⊎◌, List, true, false, ◌&&◌, ◌==◌, Option, Some, None, if◌then◌else◌}
 use Rattle.sno_text.specs.declared.bytes.Class.TheVariants.{Blank, UnarySign}
 use Rattle.sno_text.specs.declared.node.Operator.{Operator}
-use Rattle.sno_text.specs.declared.node.Operator.TheVariants.{Alternate, Concatenate, Add, Subtract, Divide, Multiply, Power, Conditional, Immediate}
+use Rattle.sno_text.specs.declared.node.Operator.TheVariants.{Alternate, Concatenate, Add, Subtract, Divide, Multiply}
+use Rattle.sno_text.specs.declared.node.Operator.TheVariants.{Power, Conditional, Immediate}
 use Rattle.sno_text.specs.Bytes.{byte, is_blank, is_first, is_opening, is_closing, can_start, IsRun, IsWholeRun}
 use Rattle.sno_text.specs.Trees.{Tree}
 use Rattle.sno_text.specs.Grammar.{level_of, Part, Level, Rest, Arguments, More, Reads}

@@ -1,5 +1,6 @@
 -- What a function of the reader gives: the private clauses in one word each.
-use Rattle.std.specs.Prelude.{◌≡◌, ℕ, ◌+◌, ◌<◌, ◌≤◌, ◌==◌, if◌then◌else◌, Bool, List, [], ◌∷◌, ◌++◌, length, Option, Some, None, slice_get}
+use Rattle.std.specs.Prelude.{◌≡◌, ℕ, ◌+◌, ◌<◌, ◌≤◌, ◌==◌, if◌then◌else◌, Bool, List, [], ◌∷◌, ◌++◌, length, Option}
+use Rattle.std.specs.Prelude.{Some, None, slice_get}
 use Rattle.sno_text.specs.declared.table.Found.{Found}
 use Rattle.sno_text.specs.declared.table.FoundList.{FoundList}
 use Rattle.sno_value.specs.declared.ids.ExprId.{ExprId}
@@ -30,10 +31,12 @@ pub record Grown (old new : List Node) : Type 0 where
 
 -- It has grown by sound nodes.
 pub data Extends (n : ℕ) (old new : List Node) : Type 0 where
-  extended : Grown old new → ((id : ℕ) (node : Node) → length old ≤ id → slice_get new id ≡ Some node → IsSound n id node) → Extends n old new
+  extended : Grown old new
+      → ((id : ℕ) (node : Node) → length old ≤ id → slice_get new id ≡ Some node → IsSound n id node)
+      → Extends n old new
 
--- What was found has a tree; its number stands for the tree; it lies in the text; each byte of it gave one node at most,
--- and each of these nodes is a part of the tree.
+-- What was found has a tree; its number stands for the tree; it lies in the text; each byte of it gave one node at
+-- most, and each of these nodes is a part of the tree.
 pub record Gives (s : List ℕ) (p : Part) (stops : ℕ → Type 0) (i : ℕ) (old new : List Node) (f : Found) : Type 0 where
   pub tree : Tree
   pub finds : Finds s p stops i f.end tree

@@ -26,7 +26,8 @@ pub record IsRest (s : List ℕ) (given : Option Span) (i : ℕ) (t : StatementT
 
 -- What was read stands for the statement's tree.
 abbrev pub StandsPhrase : List Node → Phrase → StatementTree → Type 0
-StandsPhrase table p t = (p.label ≡ t.label) × StandsCores table p.core t.core × StandsJump table p.jump t.jump × (p.entry ≡ t.entry)
+StandsPhrase table p t = (p.label ≡ t.label) × StandsCores table p.core t.core
+    × StandsJump table p.jump t.jump × (p.entry ≡ t.entry)
 
 -- the numbers of the expressions that were read
 abbrev pub phrase_ids : Phrase → List ExprId
@@ -69,10 +70,12 @@ pub record FindsEntry (s : List ℕ) (i : ℕ) (f : Read (Option Span)) : Type 0
   pub within : f.end ≤ length s
 
 abbrev pub EndOutcome : List ℕ → Span → Option Phrase → Type 0
-EndOutcome s label found = (table : List Node) → PhraseOutcome (IsEndRest s label) (length s) label.end table table found
+EndOutcome s label found =
+    (table : List Node) → PhraseOutcome (IsEndRest s label) (length s) label.end table table found
 
 -- A statement of a program stands for a tree, s being the program's text.
-pub record StandsStatement (s : List ℕ) (table : List Node) (st : Statement) (span : Span) (t : StatementTree) : Type 0 where
+pub record StandsStatement (s : List ℕ) (table : List Node) (st : Statement) (span : Span)
+    (t : StatementTree) : Type 0 where
   pub line : st.line ≡ line_of s span
   pub label : st.label ≡ t.label
   pub core : StandsCores table st.core t.core
@@ -82,6 +85,7 @@ pub record StandsStatement (s : List ℕ) (table : List Node) (st : Statement) (
 -- The statements of a program stand for these trees, in order, and each node of the table is a part of one.
 pub record StandsProgram (p : Source) (s : List ℕ) (ts : List StatementTree) : Type 0 where
   pub count : length p.statements ≡ length ts
-  pub each : (k : ℕ) (st : Statement) (span : Span) (t : StatementTree) → slice_get p.statements k ≡ Some st → slice_get (extents s) k ≡ Some span → slice_get ts k ≡ Some t →
+  pub each : (k : ℕ) (st : Statement) (span : Span) (t : StatementTree) → slice_get p.statements k ≡ Some st
+      → slice_get (extents s) k ≡ Some span → slice_get ts k ≡ Some t →
       StandsStatement s p.nodes st span t
   pub used : Uses p.nodes 0 (program_ids p.statements)

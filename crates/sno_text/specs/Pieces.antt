@@ -12,7 +12,8 @@ use Rattle.sno_value.specs.declared.ids.ExprId.{ExprId}
 use Rattle.sno_text.specs.Bytes.{byte, IsWholeRun}
 use Rattle.sno_text.specs.Source.{option_ids, target_ids, target_option_ids}
 use Rattle.sno_text.specs.Trees.{Tree, Stands, Uses}
-use Rattle.sno_text.specs.Statements.{TargetTree, Label, Computed, JumpTree, Fall, Always, Either, CoreTree, HasObject, HasTargets, option_fits, target_fits, target_option_fits}
+use Rattle.sno_text.specs.Statements.{TargetTree, Label, Computed, JumpTree, Fall, Always, Either, CoreTree, HasObject}
+use Rattle.sno_text.specs.Statements.{HasTargets, option_fits, target_fits, target_option_fits}
 use Rattle.sno_text.specs.declared.goto.Targets.{Targets}
 use Rattle.sno_text.specs.declared.body.Object.{Object}
 
@@ -37,7 +38,8 @@ Anywhere j = Unit {0}
 
 -- What was read stands for a tree of its kind, of which the text has no other that ends where it may. `held` tells the
 -- expressions that it holds; each node that joined the table is a part of one.
-pub record Gives (V C : Type 0) (P : ℕ → V → Type 0) (stops : ℕ → Type 0) (standing : List Node → C → V → Type 0) (held : C → List ExprId) (fitting : V → Bool) (n i : ℕ) (old new : List Node) (f : Read C) : Type 0 where
+pub record Gives (V C : Type 0) (P : ℕ → V → Type 0) (stops : ℕ → Type 0) (standing : List Node → C → V → Type 0)
+    (held : C → List ExprId) (fitting : V → Bool) (n i : ℕ) (old new : List Node) (f : Read C) : Type 0 where
   pub tree : V
   pub reads : P f.end tree
   pub only : (k : ℕ) (u : V) → P k u → stops k → (k ≡ f.end) × (u ≡ tree)
@@ -52,7 +54,8 @@ pub record Gives (V C : Type 0) (P : ℕ → V → Type 0) (stops : ℕ → Type
 pub record Lacks (V : Type 0) (P : ℕ → V → Type 0) (stops : ℕ → Type 0) : Type 0 where
   pub none : (k : ℕ) (u : V) → P k u → stops k → ⊥
 
-abbrev pub Outcome : (V C : Type 0) → (ℕ → V → Type 0) → (ℕ → Type 0) → (List Node → C → V → Type 0) → (C → List ExprId) → (V → Bool) → ℕ → ℕ → List Node → List Node → Option (Read C) → Type 0
+abbrev pub Outcome : (V C : Type 0) → (ℕ → V → Type 0) → (ℕ → Type 0) → (List Node → C → V → Type 0) → (C → List ExprId)
+    → (V → Bool) → ℕ → ℕ → List Node → List Node → Option (Read C) → Type 0
 Outcome V C P stops stands held fit n i old new None = Lacks V P stops
 Outcome V C P stops stands held fit n i old new (Some f) = Gives V C P stops stands held fit n i old new f
 
@@ -71,7 +74,8 @@ StandsOption C V stands (Some c) None = ⊥
 abbrev pub StandsJump : List Node → Jump → JumpTree → Type 0
 StandsJump table jumps.Fall Fall = Unit {0}
 StandsJump table (jumps.Always t) (Always u) = StandsTarget table t u
-StandsJump table (jumps.Either a b) (Either c d) = StandsOption Target TargetTree (StandsTarget table) a c × StandsOption Target TargetTree (StandsTarget table) b d
+StandsJump table (jumps.Either a b) (Either c d) = StandsOption Target TargetTree (StandsTarget table) a c
+    × StandsOption Target TargetTree (StandsTarget table) b d
 StandsJump table jumps.Fall (Always u) = ⊥
 StandsJump table jumps.Fall (Either c d) = ⊥
 StandsJump table (jumps.Always t) Fall = ⊥
@@ -83,7 +87,8 @@ abbrev pub StandsExpression : List Node → Option ExprId → Option Tree → Ty
 StandsExpression table = StandsOption ExprId Tree (Stands table)
 
 abbrev pub StandsCore : List Node → Core → CoreTree → Type 0
-StandsCore table c t = Stands table c.subject t.subject × StandsExpression table c.pattern t.pattern × (c.equals ≡ t.equals) × StandsExpression table c.object t.object
+StandsCore table c t = Stands table c.subject t.subject × StandsExpression table c.pattern t.pattern
+    × (c.equals ≡ t.equals) × StandsExpression table c.object t.object
 
 abbrev pub StandsTargets : List Node → Option Target → Option TargetTree → Type 0
 StandsTargets table = StandsOption Target TargetTree (StandsTarget table)

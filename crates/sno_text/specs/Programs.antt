@@ -1,5 +1,6 @@
 -- Which texts are programs, and which refusal the others get.
-use Rattle.std.specs.Prelude.{◌≡◌, ◌≢◌, ℕ, ◌<◌, ◌≤◌, ◌⊎◌, true, false, List, [], ◌∷◌, ◌++◌, length, take, Some, slice_get, codes}
+use Rattle.std.specs.Prelude.{◌≡◌, ◌≢◌, ℕ, ◌<◌, ◌≤◌, ◌⊎◌, true, false, List, [], ◌∷◌, ◌++◌, length, take, Some}
+use Rattle.std.specs.Prelude.{slice_get, codes}
 use Rattle.sno_text.specs.declared.error.ReadError.{ReadError}
 use Rattle.sno_text.specs.declared.error.ReadError.TheVariants.{Syntax, DuplicateLabel, NoEnd, TooLarge}
 use Rattle.sno_text.specs.declared.node.Span.{Span}
@@ -13,7 +14,8 @@ IsStatementAt s span t = IsStatement (take span.end (joined s)) span.start t
 
 -- One of the statements has this label.
 abbrev pub HasLabelled : List ℕ → List StatementTree → List ℕ → Type 0
-HasLabelled s before name = (m : ℕ) × (t : StatementTree) × (span : Span) × (slice_get before m ≡ Some t) × (t.label ≡ Some span) × (part s span ≡ name)
+HasLabelled s before name = (m : ℕ) × (t : StatementTree) × (span : Span) × (slice_get before m ≡ Some t)
+    × (t.label ≡ Some span) × (part s span ≡ name)
 
 -- A row of the table: the refusal x is that of this row if its condition holds, and else that of the rows below.
 abbrev pub Row : Type 0 → ReadError → ReadError → Type 0 → Type 0
@@ -25,7 +27,8 @@ HasLargeInteger s span = (t : StatementTree) × IsStatementAt s span t × (state
 
 -- an earlier statement has its label
 abbrev pub HasDuplicate : List ℕ → List StatementTree → Span → Type 0
-HasDuplicate s before span = (t : StatementTree) × (label : Span) × IsStatementAt s span t × (t.label ≡ Some label) × HasLabelled s before (part s label)
+HasDuplicate s before span = (t : StatementTree) × (label : Span) × IsStatementAt s span t × (t.label ≡ Some label)
+    × HasLabelled s before (part s label)
 
 -- it is END L, and L is no label of the program
 abbrev pub HasNoEntry : List ℕ → List StatementTree → Span → Type 0
@@ -68,7 +71,8 @@ IsEndTree s t = (span : Span) × (t.label ≡ Some span) × (part s span ≡ cod
 -- These are the first statements of the text, each accepted and none of them END.
 pub data Begins (s : List ℕ) : List StatementTree → Type 0 where
   none : {ts : List StatementTree} → ts ≡ [] → Begins s ts
-  one_more : {ts us : List StatementTree} {t : StatementTree} {span : Span} → Begins s us → slice_get (extents s) (length us) ≡ Some span → IsAcceptedAt s us span t →
+  one_more : {ts us : List StatementTree} {t : StatementTree} {span : Span} → Begins s us
+      → slice_get (extents s) (length us) ≡ Some span → IsAcceptedAt s us span t →
       (IsEndTree s t → ⊥) → ts ≡ us ++ t ∷ [] → Begins s ts
 
 -- The text is a program with these statements, END the last.
@@ -86,6 +90,8 @@ pub record IsProgram (s : List ℕ) (ts : List StatementTree) : Type 0 where
 -- The text is refused so: it is too long, or its first statement that is refused is refused so, or no END ends it.
 pub data IsRefusedProgram (s : List ℕ) (x : ReadError) : Type 0 where
   text_too_large : 4000000 < length s → x ≡ TooLarge 0 → IsRefusedProgram s x
-  statement : {before : List StatementTree} {span : Span} → length s ≤ 4000000 → Begins s before → slice_get (extents s) (length before) ≡ Some span →
+  statement : {before : List StatementTree} {span : Span} → length s ≤ 4000000 → Begins s before
+      → slice_get (extents s) (length before) ≡ Some span →
       IsRefusedAt s before span x → IsRefusedProgram s x
-  no_end : {before : List StatementTree} → length s ≤ 4000000 → Begins s before → length (extents s) ≡ length before → x ≡ NoEnd → IsRefusedProgram s x
+  no_end : {before : List StatementTree} → length s ≤ 4000000 → Begins s before → length (extents s) ≡ length before
+      → x ≡ NoEnd → IsRefusedProgram s x

@@ -1,5 +1,6 @@
 -- Which refusal a text gets.
-use Rattle.std.specs.Prelude.{◌≡◌, ℕ, ◌+◌, ◌-◌, ◌<◌, ◌⊎◌, ◌==◌, ◌||◌, ◌&&◌, not, nat_lt, Bool, true, false, List, [], ◌∷◌, length, if◌then◌else◌}
+use Rattle.std.specs.Prelude.{◌≡◌, ℕ, ◌+◌, ◌-◌, ◌<◌, ◌⊎◌, ◌==◌, ◌||◌, ◌&&◌, not, nat_lt, Bool, true, false, List, []}
+use Rattle.std.specs.Prelude.{◌∷◌, length, if◌then◌else◌}
 use Rattle.sno_text.specs.Bytes.{is_opening, is_closing}
 use Rattle.sno_text.specs.declared.error.ReadError.{ReadError}
 use Rattle.sno_text.specs.declared.error.ReadError.TheVariants.{Syntax, DuplicateLabel, NoEnd, TooLarge, NoMemory}
@@ -23,12 +24,14 @@ HasOpenLiteral s = has_open_literal 0 s ≡ true
 
 -- the running count of brackets: each outside literals raises or lowers it, not below 0
 abbrev pub depth_step : ℕ → ℕ → ℕ → ℕ
-depth_step quote depth b = if not (quote == 0) then depth else if is_opening b then depth + 1 else if is_closing b then depth - 1 else depth
+depth_step quote depth b = if not (quote == 0) then depth else if is_opening b then depth + 1 else if is_closing b
+    then depth - 1 else depth
 
 -- it passes 40
 abbrev pub is_deep : ℕ → ℕ → List ℕ → Bool
 is_deep quote depth [] = false
-is_deep quote depth (b ∷ bs) = nat_lt 40 (depth_step quote depth b) || is_deep (quote_step quote b) (depth_step quote depth b) bs
+is_deep quote depth (b ∷ bs) =
+    nat_lt 40 (depth_step quote depth b) || is_deep (quote_step quote b) (depth_step quote depth b) bs
 
 abbrev pub IsTooLarge : List ℕ → Type 0
 IsTooLarge s = (8000 < length s) ⊎ (is_deep 0 0 s ≡ true)

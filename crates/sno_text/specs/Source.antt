@@ -1,5 +1,6 @@
 -- What contracts see of a program: its text, its table of nodes and its statements.
-use Rattle.std.specs.Prelude.{◌≡◌, ◌<◌, ◌≤◌, ◌+◌, ◌^◌, ℕ, List, [], ◌∷◌, ◌++◌, length, Option, Some, None, slice_get, slice_range}
+use Rattle.std.specs.Prelude.{◌≡◌, ◌<◌, ◌≤◌, ◌+◌, ◌^◌, ℕ, List, [], ◌∷◌, ◌++◌, length, Option, Some, None, slice_get}
+use Rattle.std.specs.Prelude.{slice_range}
 use Rattle.std.specs.Map.{lookup}
 use Rattle.std.specs.Ordering.{is_eq, nat_cmp}
 use Rattle.std.specs.Cmp.Lexicographic.{slice_cmp}
@@ -14,7 +15,8 @@ use Rattle.sno_text.specs.declared.statement.Target.TheVariants as targets
 use Rattle.sno_value.specs.declared.ids.ExprId.{ExprId}
 use Rattle.std.specs.List.{AllByRecursion}
 use Rattle.sno_text.specs.declared.node.Node.{Node}
-use Rattle.sno_text.specs.declared.node.Node.TheVariants.{Variable, Integer, Literal, Keyword, Unary, Binary, Call, Item}
+use Rattle.sno_text.specs.declared.node.Node.TheVariants.{Variable, Integer, Literal, Keyword, Unary, Binary, Call}
+use Rattle.sno_text.specs.declared.node.Node.TheVariants.{Item}
 use Rattle.sno_text.specs.declared.node.Span.{Span}
 
 pub record Source : Type 0 where
@@ -59,8 +61,8 @@ IsNamed (Binary o a b) = Unit {0}
 IsNamed (Call span arguments) = span.start < span.end
 IsNamed (Item span arguments) = span.start < span.end
 
--- Each node of the table has operands with smaller numbers than its own, spans in a text of length n, and a name that is
--- not null where it has one.
+-- Each node of the table has operands with smaller numbers than its own, spans in a text of length n, and a name that
+-- is not null where it has one.
 pub record IsTable (n : ℕ) (nodes : List Node) : Type 0 where
   pub operands : (id : ℕ) (node : Node) → slice_get nodes id ≡ Some node → OperandsBelow node id
   pub spans : (id : ℕ) (node : Node) → slice_get nodes id ≡ Some node → SpansWithin node n
@@ -136,7 +138,8 @@ program_ids (st ∷ sts) = statement_ids st ++ program_ids sts
 -- Statement n, counted from 1, has this label.
 abbrev pub IsLabelled : List ℕ → List Statement → List ℕ → ℕ → Type 0
 IsLabelled text statements name n =
-    (k : ℕ) × (st : Statement) × (span : Span) × (n ≡ k + 1) × (slice_get statements k ≡ Some st) × (st.label ≡ Some span)
+    (k : ℕ) × (st : Statement) × (span : Span) × (n ≡ k + 1)
+    × (slice_get statements k ≡ Some st) × (st.label ≡ Some span)
     × (slice_range text span.start span.end ≡ name)
 
 -- the number at a label among the entries of an index
@@ -149,9 +152,11 @@ pub record IsIndex (text : List ℕ) (statements : List Statement) (entries : Li
   pub complete : (name : List ℕ) (n : ℕ) → IsLabelled text statements name n → number_of entries name ≡ Some n
 
 -- What is true of the parts of every program.
-pub record IsWhole (text : List ℕ) (nodes : List Node) (statements : List Statement) (entries : List (Vec ℕ Global × ℕ)) : Type 0 where
+pub record IsWhole (text : List ℕ) (nodes : List Node) (statements : List Statement)
+    (entries : List (Vec ℕ Global × ℕ)) : Type 0 where
   pub count : length nodes < 2 ^ 32
   pub few : length statements ≤ 100000
   pub table : IsTable (length text) nodes
-  pub sound : (k : ℕ) (st : Statement) → slice_get statements k ≡ Some st → IsStatementOf (length text) (length nodes) st
+  pub sound : (k : ℕ) (st : Statement) → slice_get statements k ≡ Some st
+      → IsStatementOf (length text) (length nodes) st
   pub index : IsIndex text statements entries

@@ -1,5 +1,6 @@
 -- The grammar of statements. s is the joined text up to the end of the statement, which begins at a place of it.
-use Rattle.std.specs.Prelude.{◌≡◌, ◌≢◌, ℕ, ◌+◌, ◌⊎◌, ◌||◌, ◌&&◌, Bool, true, false, List, length, Option, Some, None, codes}
+use Rattle.std.specs.Prelude.{◌≡◌, ◌≢◌, ℕ, ◌+◌, ◌⊎◌, ◌||◌, ◌&&◌, Bool, true, false, List, length, Option, Some, None}
+use Rattle.std.specs.Prelude.{codes}
 use Rattle.sno_text.specs.declared.bytes.Class.TheVariants.{NameByte}
 use Rattle.sno_text.specs.declared.node.Span.{Span}
 use Rattle.sno_text.specs.Bytes.{byte, is_letter, is_digit, IsWholeRun}
@@ -63,8 +64,10 @@ HasTargets s letter i j t u = (k : ℕ) × IsTarget s i k t × HasOther s letter
 -- branch = target | "S" target [[b] "F" target] | "F" target [[b] "S" target]
 pub data IsBranch (s : List ℕ) (i j : ℕ) (g : JumpTree) : Type 0 where
   always : {t : TargetTree} → IsTarget s i j t → g ≡ Always t → IsBranch s i j g
-  success : {t : TargetTree} {u : Option TargetTree} → byte s i ≡ 83 → HasTargets s 70 (i + 1) j t u → g ≡ Either (Some t) u → IsBranch s i j g
-  failure : {t : TargetTree} {u : Option TargetTree} → byte s i ≡ 70 → HasTargets s 83 (i + 1) j t u → g ≡ Either u (Some t) → IsBranch s i j g
+  success : {t : TargetTree} {u : Option TargetTree} → byte s i ≡ 83 → HasTargets s 70 (i + 1) j t u
+      → g ≡ Either (Some t) u → IsBranch s i j g
+  failure : {t : TargetTree} {u : Option TargetTree} → byte s i ≡ 70 → HasTargets s 83 (i + 1) j t u
+      → g ≡ Either u (Some t) → IsBranch s i j g
 
 -- [b goto], goto = ":" [b] branch
 abbrev pub HasJump : List ℕ → ℕ → ℕ → JumpTree → Type 0

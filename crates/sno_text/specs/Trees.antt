@@ -1,11 +1,13 @@
 -- Syntax trees, and what it means that a number of the flat table stands for one.
-use Rattle.std.specs.Prelude.{◌≡◌, ℕ, ◌<◌, ◌≤◌, ◌⊎◌, ◌^◌, List, length, [], ◌∷◌, ◌++◌, Bool, true, ◌&&◌, nat_lt, Some, slice_get, min, pos, ◌-◌, ◌==◌, if◌then◌else◌}
+use Rattle.std.specs.Prelude.{◌≡◌, ℕ, ◌<◌, ◌≤◌, ◌⊎◌, ◌^◌, List, length, [], ◌∷◌, ◌++◌, Bool, true, ◌&&◌, nat_lt, Some}
+use Rattle.std.specs.Prelude.{slice_get, min, pos, ◌-◌, ◌==◌, if◌then◌else◌}
 use Rattle.std.specs.List.{AllByRecursion}
 use Rattle.std.specs.declared.vec.Vec.{Vec}
 use Rattle.std.specs.declared.alloc.Global.{Global}
 use Rattle.sno_text.specs.declared.node.Operator.{Operator}
 use Rattle.sno_text.specs.declared.node.UnaryOperator.{UnaryOperator}
-use Rattle.sno_text.specs.declared.node.UnaryOperator.TheVariants.{Plus, Minus, Indirect, NameOf, Defer, Cursor, Query, Not}
+use Rattle.sno_text.specs.declared.node.UnaryOperator.TheVariants.{Plus, Minus, Indirect, NameOf, Defer, Cursor, Query}
+use Rattle.sno_text.specs.declared.node.UnaryOperator.TheVariants.{Not}
 use Rattle.sno_text.specs.declared.node.Node.{Node}
 use Rattle.sno_text.specs.declared.node.Node.TheVariants as nodes
 use Rattle.sno_value.specs.declared.ids.ExprId.{ExprId}
@@ -56,20 +58,30 @@ Holds table id node = slice_get table id.0 ≡ Some node
 -- The last of the numbers stands for the tree, all of them for the arguments of a tree of arguments.
 -- The numbers of its operands are smaller.
 abbrev pub StandsFor : List Node → Tree → List ExprId → Type 0
-StandsFor table (Variable from to) ids = (id : ExprId) × (ids ≡ id ∷ []) × Holds table id (nodes.Variable (record { start = from; end = to }))
-StandsFor table (Integer value) ids = (id : ExprId) × (ids ≡ id ∷ []) × Holds table id (nodes.Integer (pos (min value (2 ^ 63 - 1))))
-StandsFor table (Literal from to) ids = (id : ExprId) × (ids ≡ id ∷ []) × Holds table id (nodes.Literal (record { start = from; end = to }))
-StandsFor table (Keyword from to) ids = (id : ExprId) × (ids ≡ id ∷ []) × Holds table id (nodes.Keyword (record { start = from; end = to }))
+StandsFor table (Variable from to) ids =
+    (id : ExprId) × (ids ≡ id ∷ []) × Holds table id (nodes.Variable (record { start = from; end = to }))
+StandsFor table (Integer value) ids =
+    (id : ExprId) × (ids ≡ id ∷ []) × Holds table id (nodes.Integer (pos (min value (2 ^ 63 - 1))))
+StandsFor table (Literal from to) ids =
+    (id : ExprId) × (ids ≡ id ∷ []) × Holds table id (nodes.Literal (record { start = from; end = to }))
+StandsFor table (Keyword from to) ids =
+    (id : ExprId) × (ids ≡ id ∷ []) × Holds table id (nodes.Keyword (record { start = from; end = to }))
 StandsFor table (Unary o t) ids =
     (id a : ExprId) × (ids ≡ id ∷ []) × Holds table id (nodes.Unary o a) × (a.0 < id.0) × StandsFor table t (a ∷ [])
 StandsFor table (Binary o t u) ids =
-    (id a b : ExprId) × (ids ≡ id ∷ []) × Holds table id (nodes.Binary o a b) × (a.0 < id.0) × (b.0 < id.0) × StandsFor table t (a ∷ []) × StandsFor table u (b ∷ [])
+    (id a b : ExprId) × (ids ≡ id ∷ []) × Holds table id (nodes.Binary o a b) × (a.0 < id.0) × (b.0 < id.0)
+    × StandsFor table t (a ∷ []) × StandsFor table u (b ∷ [])
 StandsFor table (Call from to t) ids =
-    (id : ExprId) × (arguments : Vec ExprId Global) × (ids ≡ id ∷ []) × Holds table id (nodes.Call (record { start = from; end = to }) arguments) × AllByRecursion (λ a. a.0 < id.0) arguments.items × StandsFor table t arguments.items
+    (id : ExprId) × (arguments : Vec ExprId Global) × (ids ≡ id ∷ [])
+    × Holds table id (nodes.Call (record { start = from; end = to }) arguments)
+    × AllByRecursion (λ a. a.0 < id.0) arguments.items × StandsFor table t arguments.items
 StandsFor table (Item from to t) ids =
-    (id : ExprId) × (arguments : Vec ExprId Global) × (ids ≡ id ∷ []) × Holds table id (nodes.Item (record { start = from; end = to }) arguments) × AllByRecursion (λ a. a.0 < id.0) arguments.items × StandsFor table t arguments.items
+    (id : ExprId) × (arguments : Vec ExprId Global) × (ids ≡ id ∷ [])
+    × Holds table id (nodes.Item (record { start = from; end = to }) arguments)
+    × AllByRecursion (λ a. a.0 < id.0) arguments.items × StandsFor table t arguments.items
 StandsFor table (One t) ids = StandsFor table t ids
-StandsFor table (And t u) ids = (before : List ExprId) × (last : ExprId) × (ids ≡ before ++ last ∷ []) × StandsFor table t before × StandsFor table u (last ∷ [])
+StandsFor table (And t u) ids = (before : List ExprId) × (last : ExprId) × (ids ≡ before ++ last ∷ [])
+    × StandsFor table t before × StandsFor table u (last ∷ [])
 
 abbrev pub Stands : List Node → ExprId → Tree → Type 0
 Stands table id t = StandsFor table t (id ∷ [])
@@ -92,7 +104,8 @@ IsOneOf id (a ∷ ids) = (id ≡ a) ⊎ IsOneOf id ids
 -- Number k is a part of the trees that these numbers stand for: it is one of them, or a part of the operands of one.
 pub data IsPart (table : List Node) (k : ℕ) : List ExprId → Type 0 where
   whole : {ids : List ExprId} (id : ExprId) → IsOneOf id ids → id.0 ≡ k → IsPart table k ids
-  operand : {ids : List ExprId} (id : ExprId) (node : Node) → IsOneOf id ids → Holds table id node → IsPart table k (operands node) → IsPart table k ids
+  operand : {ids : List ExprId} (id : ExprId) (node : Node) → IsOneOf id ids → Holds table id node
+      → IsPart table k (operands node) → IsPart table k ids
 
 -- Each node of the table from a number on is a part of these trees: none is left behind.
 pub record Uses (table : List Node) (from : ℕ) (ids : List ExprId) : Type 0 where

@@ -1,10 +1,12 @@
 //! The cores of statements.
 ghost use Rattle.std.specs.Prelude.{◌≡◌, ◌+◌, ◌^◌, ◌<◌, ◌≤◌, ℕ, length, Option, Bool, IfOk};
 ghost use Rattle.sno_text.specs.Trees.{Tree};
-ghost use Rattle.sno_text.specs.Statements.{HasExpression, HasObject, IsCore, HasCore, CoreTree, option_fits, core_fits, core_option_fits};
+ghost use Rattle.sno_text.specs.Statements.{HasExpression, HasObject, IsCore, HasCore, CoreTree, option_fits};
+ghost use Rattle.sno_text.specs.Statements.{core_fits, core_option_fits};
 ghost use Rattle.sno_text.specs.Source.{option_ids, core_ids, core_option_ids};
 ghost use Rattle.sno_text.specs.Outcome.{Extends};
-ghost use Rattle.sno_text.specs.Pieces.{Outcome, MeetsColon, MeetsEquals, StandsExpression, StandsObject, StandsCore, StandsCores, HasObjectPair, object_ids, object_fits};
+ghost use Rattle.sno_text.specs.Pieces.{Outcome, MeetsColon, MeetsEquals, StandsExpression, StandsObject, StandsCore};
+ghost use Rattle.sno_text.specs.Pieces.{StandsCores, HasObjectPair, object_ids, object_fits};
 
 use crate::bytes::{Class, byte_at, is_in, run_end};
 use crate::expression::{read_element, read_level};
@@ -31,7 +33,9 @@ fn read_optional(
 ) -> Result<Option<Read<Option<ExprId>>>, AllocError>
     requires within { from ≤ length text.now }
     requires room { length nodes.old.items + length text.now < from + 2 ^ 32 }
-    ensures read { IfOk result (Outcome (Option Tree) (Option ExprId) (HasExpression text.now from) (MeetsEquals text.now) StandsExpression option_ids option_fits (length text.now) from nodes.old.items nodes.new.items) }
+    ensures read { IfOk result
+        (Outcome (Option Tree) (Option ExprId) (HasExpression text.now from) (MeetsEquals text.now) StandsExpression
+        option_ids option_fits (length text.now) from nodes.old.items nodes.new.items) }
     ensures extends { Extends (length text.now) nodes.old.items nodes.new.items }
 {
     let at = run_end(text, Class::Blank, from);
@@ -62,7 +66,9 @@ fn read_object(
 ) -> Result<Option<Read<Object>>, AllocError>
     requires within { from ≤ length text.now }
     requires room { length nodes.old.items + length text.now < from + 2 ^ 32 }
-    ensures read { IfOk result (Outcome (Bool × Option Tree) Object (HasObjectPair text.now from) (MeetsColon text.now) StandsObject object_ids object_fits (length text.now) from nodes.old.items nodes.new.items) }
+    ensures read { IfOk result
+        (Outcome (Bool × Option Tree) Object (HasObjectPair text.now from) (MeetsColon text.now) StandsObject object_ids
+        object_fits (length text.now) from nodes.old.items nodes.new.items) }
     ensures extends { Extends (length text.now) nodes.old.items nodes.new.items }
 {
     let at = run_end(text, Class::Blank, from);
@@ -101,7 +107,9 @@ fn read_core(
 ) -> Result<Option<Read<Core>>, AllocError>
     requires within { from ≤ length text.now }
     requires room { length nodes.old.items + length text.now < from + 2 ^ 32 }
-    ensures read { IfOk result (Outcome CoreTree Core (IsCore text.now from) (MeetsColon text.now) StandsCore core_ids core_fits (length text.now) from nodes.old.items nodes.new.items) }
+    ensures read { IfOk result
+        (Outcome CoreTree Core (IsCore text.now from) (MeetsColon text.now) StandsCore core_ids core_fits
+        (length text.now) from nodes.old.items nodes.new.items) }
     ensures extends { Extends (length text.now) nodes.old.items nodes.new.items }
 {
     let Some(subject) = read_element(alloc, text, nodes, from)? else {
@@ -137,7 +145,9 @@ pub fn read_body(
 ) -> Result<Option<Read<Option<Core>>>, AllocError>
     requires within { from ≤ length text.now }
     requires room { length nodes.old.items + length text.now < from + 2 ^ 32 }
-    ensures read { IfOk result (Outcome (Option CoreTree) (Option Core) (HasCore text.now from) (MeetsColon text.now) StandsCores core_option_ids core_option_fits (length text.now) from nodes.old.items nodes.new.items) }
+    ensures read { IfOk result
+        (Outcome (Option CoreTree) (Option Core) (HasCore text.now from) (MeetsColon text.now) StandsCores
+        core_option_ids core_option_fits (length text.now) from nodes.old.items nodes.new.items) }
     ensures extends { Extends (length text.now) nodes.old.items nodes.new.items }
 {
     let at = run_end(text, Class::Blank, from);

@@ -1,7 +1,7 @@
-//! Expressions, read from left to right. Each function reads one part of the grammar from a place on: it tells where the
-//! part ends and its number in the table, None where no such part stands there, or that memory was refused. Unary signs
-//! and the operators of a level are read by loops; the functions call each other only into brackets, along the levels and
-//! to the right operand of `**`.
+//! Expressions, read from left to right. Each function reads one part of the grammar from a place on: it tells where
+//! the part ends and its number in the table, None where no such part stands there, or that memory was refused. Unary
+//! signs and the operators of a level are read by loops; the functions call each other only into brackets, along the
+//! levels and to the right operand of `**`.
 ghost use Rattle.std.specs.Prelude.{◌≡◌, ◌+◌, ◌^◌, ◌<◌, ◌≤◌, true, false, length, IfOk};
 ghost use Rattle.sno_text.specs.Bytes.{byte, is_letter};
 ghost use Rattle.sno_text.specs.Grammar.{IsPair, Level, Element, Primary};
@@ -53,7 +53,8 @@ pub fn read_level(
     requires within { from ≤ length text.now }
     requires level { level ≤ 7 }
     requires room { length nodes.old.items + length text.now < from + 2 ^ 32 }
-    ensures read { IfOk result (Outcome text.now (Level level) (Stops text.now level) from nodes.old.items nodes.new.items) }
+    ensures read { IfOk result
+        (Outcome text.now (Level level) (Stops text.now level) from nodes.old.items nodes.new.items) }
     ensures extends { Extends (length text.now) nodes.old.items nodes.new.items }
 {
     if level == ELEMENT {

@@ -1,10 +1,12 @@
 //! The gotos of statements, with their targets.
 ghost use Rattle.std.specs.Prelude.{◌≡◌, ◌+◌, ◌^◌, ◌<◌, ◌≤◌, ◌⊎◌, ℕ, length, Option, IfOk, MatchOption};
-ghost use Rattle.sno_text.specs.Statements.{IsLabel, IsPlace, IsTarget, HasOther, IsBranch, HasJump, TargetTree, JumpTree, target_fits, target_option_fits, jump_fits};
+ghost use Rattle.sno_text.specs.Statements.{IsLabel, IsPlace, IsTarget, HasOther, IsBranch, HasJump, TargetTree};
+ghost use Rattle.sno_text.specs.Statements.{JumpTree, target_fits, target_option_fits, jump_fits};
 ghost use Rattle.sno_text.specs.Links.{Stops};
 ghost use Rattle.sno_text.specs.Source.{target_ids, target_option_ids, jump_ids};
 ghost use Rattle.sno_text.specs.Outcome.{Extends};
-ghost use Rattle.sno_text.specs.Pieces.{Outcome, MeetsEnd, StandsTarget, StandsTargets, StandsTargetPair, StandsJump, HasTargetPair, pair_ids, pair_fits, Anywhere};
+ghost use Rattle.sno_text.specs.Pieces.{Outcome, MeetsEnd, StandsTarget, StandsTargets, StandsTargetPair, StandsJump};
+ghost use Rattle.sno_text.specs.Pieces.{HasTargetPair, pair_ids, pair_fits, Anywhere};
 
 use crate::bytes::{Class, byte_at, is_in, run_end};
 use crate::expression::read_element;
@@ -17,7 +19,8 @@ use std::alloc::{AllocError, Global};
 pub fn read_label(text: &[u8], from: usize) -> Option<Span>
     requires { from ≤ length text.now }
     ensures { MatchOption result ((j : ℕ) → IsLabel text.now from j → ⊥)
-        (λ span. (span.start ≡ from) × IsLabel text.now from span.end × (from < span.end) × (span.end ≤ length text.now)) }
+        (λ span. (span.start ≡ from) × IsLabel text.now from span.end × (from < span.end)
+        × (span.end ≤ length text.now)) }
 {
     let first = byte_at(text, from);
     if is_in(Class::Letter, first) || is_in(Class::Digit, first) {
@@ -38,7 +41,9 @@ fn read_place(
 ) -> Result<Option<Read<Target>>, AllocError>
     requires within { from ≤ length text.now }
     requires room { length nodes.old.items + length text.now < from + 2 ^ 32 }
-    ensures read { IfOk result (Outcome TargetTree Target (IsPlace text.now from) (Stops text.now 7) StandsTarget target_ids target_fits (length text.now) from nodes.old.items nodes.new.items) }
+    ensures read { IfOk result
+        (Outcome TargetTree Target (IsPlace text.now from) (Stops text.now 7) StandsTarget target_ids target_fits
+        (length text.now) from nodes.old.items nodes.new.items) }
     ensures extends { Extends (length text.now) nodes.old.items nodes.new.items }
 {
     if byte_at(text, from) == b'$' {
@@ -72,7 +77,9 @@ pub fn read_target(
 ) -> Result<Option<Read<Target>>, AllocError>
     requires within { from ≤ length text.now }
     requires room { length nodes.old.items + length text.now < from + 2 ^ 32 }
-    ensures read { IfOk result (Outcome TargetTree Target (IsTarget text.now from) Anywhere StandsTarget target_ids target_fits (length text.now) from nodes.old.items nodes.new.items) }
+    ensures read { IfOk result
+        (Outcome TargetTree Target (IsTarget text.now from) Anywhere StandsTarget target_ids target_fits
+        (length text.now) from nodes.old.items nodes.new.items) }
     ensures extends { Extends (length text.now) nodes.old.items nodes.new.items }
 {
     if byte_at(text, from) != b'(' {
@@ -105,7 +112,9 @@ fn read_other(
     requires letter { (letter ≡ 70) ⊎ (letter ≡ 83) }
     requires within { from ≤ length text.now }
     requires room { length nodes.old.items + length text.now < from + 2 ^ 32 }
-    ensures read { IfOk result (Outcome (Option TargetTree) (Option Target) (HasOther text.now letter from) (MeetsEnd text.now) StandsTargets target_option_ids target_option_fits (length text.now) from nodes.old.items nodes.new.items) }
+    ensures read { IfOk result
+        (Outcome (Option TargetTree) (Option Target) (HasOther text.now letter from) (MeetsEnd text.now) StandsTargets
+        target_option_ids target_option_fits (length text.now) from nodes.old.items nodes.new.items) }
     ensures extends { Extends (length text.now) nodes.old.items nodes.new.items }
 {
     let at = run_end(text, Class::Blank, from);
@@ -145,7 +154,9 @@ fn read_targets(
     requires letter { (letter ≡ 70) ⊎ (letter ≡ 83) }
     requires within { from ≤ length text.now }
     requires room { length nodes.old.items + length text.now < from + 2 ^ 32 }
-    ensures read { IfOk result (Outcome (TargetTree × Option TargetTree) Targets (HasTargetPair text.now letter from) (MeetsEnd text.now) StandsTargetPair pair_ids pair_fits (length text.now) from nodes.old.items nodes.new.items) }
+    ensures read { IfOk result (Outcome (TargetTree × Option TargetTree) Targets (HasTargetPair text.now letter from)
+        (MeetsEnd text.now) StandsTargetPair pair_ids pair_fits (length text.now) from
+        nodes.old.items nodes.new.items) }
     ensures extends { Extends (length text.now) nodes.old.items nodes.new.items }
 {
     let Some(first) = read_target(alloc, text, nodes, from)? else {
@@ -176,7 +187,9 @@ fn read_branch(
 ) -> Result<Option<Read<Jump>>, AllocError>
     requires within { from ≤ length text.now }
     requires room { length nodes.old.items + length text.now < from + 2 ^ 32 }
-    ensures read { IfOk result (Outcome JumpTree Jump (IsBranch text.now from) (MeetsEnd text.now) StandsJump jump_ids jump_fits (length text.now) from nodes.old.items nodes.new.items) }
+    ensures read { IfOk result
+        (Outcome JumpTree Jump (IsBranch text.now from) (MeetsEnd text.now) StandsJump jump_ids jump_fits
+        (length text.now) from nodes.old.items nodes.new.items) }
     ensures extends { Extends (length text.now) nodes.old.items nodes.new.items }
 {
     let letter = byte_at(text, from);
@@ -222,7 +235,9 @@ pub fn read_jump(
 ) -> Result<Option<Read<Jump>>, AllocError>
     requires within { from ≤ length text.now }
     requires room { length nodes.old.items + length text.now < from + 2 ^ 32 }
-    ensures read { IfOk result (Outcome JumpTree Jump (HasJump text.now from) (MeetsEnd text.now) StandsJump jump_ids jump_fits (length text.now) from nodes.old.items nodes.new.items) }
+    ensures read { IfOk result
+        (Outcome JumpTree Jump (HasJump text.now from) (MeetsEnd text.now) StandsJump jump_ids jump_fits
+        (length text.now) from nodes.old.items nodes.new.items) }
     ensures extends { Extends (length text.now) nodes.old.items nodes.new.items }
 {
     let at = run_end(text, Class::Blank, from);

@@ -1,5 +1,6 @@
 //! The reader of programs: statements are judged in their order, up to END.
-ghost use Rattle.std.specs.Prelude.{◌≡◌, ◌≢◌, ◌+◌, ◌<◌, ◌≤◌, ◌⊎◌, ◌∷◌, ◌++◌, ◌^◌, [], None, Some, true, false, ℕ, List, length, codes, is_some, IfOk, IfErr, IfNone, IfSome, OnOk};
+ghost use Rattle.std.specs.Prelude.{◌≡◌, ◌≢◌, ◌+◌, ◌<◌, ◌≤◌, ◌⊎◌, ◌∷◌, ◌++◌, ◌^◌, [], None, Some, true, false, ℕ, List};
+ghost use Rattle.std.specs.Prelude.{length, codes, is_some, IfOk, IfErr, IfNone, IfSome, OnOk};
 ghost use Rattle.sno_text.specs.Lines as lines;
 ghost use Rattle.sno_text.specs.Lines.{part};
 ghost use Rattle.sno_text.specs.Refusals.{HasOpenLiteral};
@@ -72,8 +73,10 @@ fn refuse_labels(
 ) -> Option<ReadError>
     requires label { IsOptionWithin phrase.label (length text.now) }
     requires entry { IsOptionWithin phrase.entry (length text.now) }
-    ensures fresh { IfNone result ((span : Span) → phrase.label ≡ Some span → number_of labels.now.entries (part text.now span) ≡ None) }
-    ensures known { IfNone result ((span : Span) → phrase.entry ≡ Some span → part text.now span ≢ codes "END" → is_some (number_of labels.now.entries (part text.now span)) ≡ true) }
+    ensures fresh { IfNone result ((span : Span) → phrase.label ≡ Some span
+        → number_of labels.now.entries (part text.now span) ≡ None) }
+    ensures known { IfNone result ((span : Span) → phrase.entry ≡ Some span → part text.now span ≢ codes "END"
+        → is_some (number_of labels.now.entries (part text.now span)) ≡ true) }
     ensures refused { IfSome result (λ e. IsLabelRefused text.now labels.now.entries phrase line e) }
 {
     if let Some(label) = phrase.label {
@@ -91,8 +94,8 @@ fn refuse_labels(
     None
 }
 
-/// Reads the statement at an extent, and judges it by the first row of the table of refusals that fits. `labels` are those
-/// of the statements before it, and `count` is how many they are.
+/// Reads the statement at an extent, and judges it by the first row of the table of refusals that fits. `labels` are
+/// those of the statements before it, and `count` is how many they are.
 pub fn judge(
     alloc: Global,
     text: &[u8],
@@ -109,11 +112,15 @@ pub fn judge(
     requires extent { IsWithin extent (length text.now) }
     requires room { length nodes.old.items ≤ extent.start }
     requires line { line ≡ lines.line_of text.now extent }
-    ensures accepted { IfOk result (λ p. (before : List StatementTree) → Knows text.now before count labels.now.entries → Accepts text.now before extent nodes.old.items nodes.new.items p) }
+    ensures accepted { IfOk result (λ p. (before : List StatementTree) → Knows text.now before count labels.now.entries
+        → Accepts text.now before extent nodes.old.items nodes.new.items p) }
     ensures few { OnOk result (count < 100000) }
     ensures label { IfOk result (λ p. IsOptionWithin p.label (length text.now)) }
-    ensures fresh { IfOk result (λ p. (span : Span) → p.label ≡ Some span → number_of labels.now.entries (part text.now span) ≡ None) }
-    ensures refused { IfErr result (λ e. (e ≡ ReadError.NoMemory) ⊎ ((before : List StatementTree) → Knows text.now before count labels.now.entries → IsRefusedAt text.now before extent e)) }
+    ensures fresh { IfOk result (λ p. (span : Span) → p.label ≡ Some span
+        → number_of labels.now.entries (part text.now span) ≡ None) }
+    ensures refused { IfErr result (λ e. (e ≡ ReadError.NoMemory)
+        ⊎ ((before : List StatementTree) → Knows text.now before count labels.now.entries
+        → IsRefusedAt text.now before extent e)) }
     ensures extends { OnOk result (Extends (length text.now) nodes.old.items nodes.new.items) }
     ensures room { OnOk result (length nodes.new.items ≤ extent.end) }
 {
@@ -143,9 +150,11 @@ pub fn push_statement(
 ) -> Result<(), ReadError>
     requires few { length statements.old.items < 100000 }
     requires label { IsOptionWithin phrase.label (length text.now) }
-    requires fresh { (span : Span) → phrase.label ≡ Some span → number_of labels.old.entries (part text.now span) ≡ None }
+    requires fresh { (span : Span) → phrase.label ≡ Some span
+        → number_of labels.old.entries (part text.now span) ≡ None }
     ensures pushed { OnOk result (statements.new.items ≡ statements.old.items ++ statement_of phrase line ∷ []) }
-    ensures index { OnOk result (IsIndex text.now statements.old.items labels.old.entries → IsIndex text.now statements.new.items labels.new.entries) }
+    ensures index { OnOk result (IsIndex text.now statements.old.items labels.old.entries
+        → IsIndex text.now statements.new.items labels.new.entries) }
     ensures err { IfErr result (λ e. e ≡ ReadError.NoMemory) }
 {
     let Phrase {

@@ -1,5 +1,6 @@
 //! What the reader gives.
-ghost use Rattle.std.specs.Prelude.{◌≡◌, ◌≤◌, ◌<◌, ◌-◌, ◌^◌, ◌==◌, ℕ, length, None, Some, IfSome, IfNone, if◌then◌else◌, option_copied, slice_get, slice_range};
+ghost use Rattle.std.specs.Prelude.{◌≡◌, ◌≤◌, ◌<◌, ◌-◌, ◌^◌, ◌==◌, ℕ, length, None, Some, IfSome, IfNone};
+ghost use Rattle.std.specs.Prelude.{if◌then◌else◌, option_copied, slice_get, slice_range};
 ghost use Rattle.sno_text.specs.Source.{IsTable, OperandsBelow, SpansWithin, IsStatementOf, IsLabelled, IsWhole};
 
 use crate::node::{Node, Span};
@@ -78,7 +79,8 @@ impl Program {
 
     /// The statement with this number, from 1; None where there are fewer, and at 0. A program has at most 100,000.
     pub fn statement(&self, number: u32) -> Option<&Statement>
-        ensures statement { option_copied result ≡ (if number == 0 then None else slice_get self.now.statements (number - 1)) }
+        ensures statement { option_copied result
+            ≡ (if number == 0 then None else slice_get self.now.statements (number - 1)) }
         ensures sound { IfSome result (λ st. IsStatementOf (length self.now.text) (length self.now.nodes) st.now) }
         ensures count { length self.now.statements ≤ 100000 }
     {
@@ -89,8 +91,8 @@ impl Program {
         statements.get(number as usize - 1)
     }
 
-    /// The number of the statement with this label, END among them; None where no statement has it. No two statements have
-    /// the same label.
+    /// The number of the statement with this label, END among them; None where no statement has it. No two statements
+    /// have the same label.
     pub fn label(&self, name: &[u8]) -> Option<u32>
         ensures found { IfSome result (λ n. IsLabelled self.now.text self.now.statements name.now n) }
         ensures only { IfSome result (λ n. (m : ℕ) → IsLabelled self.now.text self.now.statements name.now m → m ≡ n) }

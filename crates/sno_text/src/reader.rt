@@ -37,7 +37,8 @@ fn has_line_end(text: &[u8]) -> bool
 /// integer is greater than 9223372036854775807. NoMemory comes where memory is refused.
 #[tactic(auto, using(crate::proofs::Expressions::expression_facts))]
 pub fn read_expression(alloc: Global, text: &[u8]) -> Result<(Program, ExprId), ReadError>
-    ensures accepted { IfOk result (λ r. (t : Tree) × IsAccepted text.now t × Stands r.0.nodes r.1 t × Uses r.0.nodes 0 (r.1 ∷ [])) }
+    ensures accepted { IfOk result (λ r. (t : Tree) × IsAccepted text.now t × Stands r.0.nodes r.1 t
+        × Uses r.0.nodes 0 (r.1 ∷ [])) }
     ensures source { IfOk result (λ r. r.0.text ≡ text.now) }
     ensures number { IfOk result (λ r. r.1.0 < length r.0.nodes) }
     ensures table { IfOk result (λ r. IsTable (length r.0.text) r.0.nodes) }

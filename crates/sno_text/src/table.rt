@@ -41,7 +41,8 @@ pub struct Read<T> {
 /// Appends a node.
 pub fn push_node(nodes: &mut Vec<Node>, node: Node) -> Result<ExprId, AllocError>
     requires { length nodes.old.items < 2 ^ 32 }
-    ensures pushed { IfOk result (λ id. (id.0 ≡ length nodes.old.items) × (nodes.new.items ≡ nodes.old.items ++ node ∷ [])) }
+    ensures pushed { IfOk result (λ id. (id.0 ≡ length nodes.old.items)
+        × (nodes.new.items ≡ nodes.old.items ++ node ∷ [])) }
     ensures err { OnErr result (nodes.new.items ≡ nodes.old.items) }
 {
     let id = ExprId(nodes.len() as u32);

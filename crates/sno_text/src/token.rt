@@ -13,7 +13,8 @@ use std::alloc::AllocError;
 /// The number that digits stand for, if it is in range.
 fn decimal_value(digits: &[u8]) -> Option<i64>
     requires { (k : ℕ) → k < length digits.now → is_digit (byte digits.now k) ≡ true }
-    ensures { MatchOption result (2 ^ 63 ≤ decimal 0 digits.now) (λ value. (value ≡ pos (decimal 0 digits.now)) × (decimal 0 digits.now < 2 ^ 63)) }
+    ensures { MatchOption result (2 ^ 63 ≤ decimal 0 digits.now) (λ value. (value ≡ pos (decimal 0 digits.now))
+        × (decimal 0 digits.now < 2 ^ 63)) }
 {
     let mut value: u64 = 0;
     for digit in digits {

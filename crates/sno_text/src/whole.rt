@@ -1,5 +1,6 @@
 //! A whole program: its text is laid out, and its statements are judged in their order.
-ghost use Rattle.std.specs.Prelude.{◌≡◌, ◌≢◌, ◌+◌, ◌<◌, ◌≤◌, ◌==◌, ◌⊎◌, Some, true, false, ℕ, List, length, take, codes, IfOk, IfErr};
+ghost use Rattle.std.specs.Prelude.{◌≡◌, ◌≢◌, ◌+◌, ◌<◌, ◌≤◌, ◌==◌, ◌⊎◌, Some, true, false, ℕ, List, length, take};
+ghost use Rattle.std.specs.Prelude.{codes, IfOk, IfErr};
 ghost use Rattle.std.specs.List.{count_by, prefix_len};
 ghost use Rattle.sno_text.specs.Source.{IsWithin, IsOptionWithin};
 ghost use Rattle.sno_text.specs.Lines.{part};
@@ -74,14 +75,15 @@ fn is_end(text: &[u8], phrase: Phrase) -> bool
 }
 
 /// Reads a program: its statements up to END, in their order. The error is that of the first statement that is refused,
-/// by the first of these that fits: TooLarge, it is statement 100,001; code 1, a literal is open at the end of a line of
-/// it; TooLarge, it has more than 8,000 bytes or more than 40 open brackets; code 3, it isn't of the grammar; code 2, an
-/// integer is greater than 9223372036854775807; DuplicateLabel, an earlier statement has its label; code 4, it is
+/// by the first of these that fits: TooLarge, it is statement 100,001; code 1, a literal is open at the end of a line
+/// of it; TooLarge, it has more than 8,000 bytes or more than 40 open brackets; code 3, it isn't of the grammar; code
+/// 2, an integer is greater than 9223372036854775807; DuplicateLabel, an earlier statement has its label; code 4, it is
 /// `END L`, and L is no label of the program. The line told is that in which the statement begins. A text of more than
 /// 4,000,000 bytes is TooLarge in line 0, and one whose statements are accepted, with no END among them, is NoEnd.
 /// NoMemory comes where memory is refused.
 pub fn read_program(alloc: Global, text: &[u8]) -> Result<Program, ReadError>
-    ensures accepted { IfOk result (λ p. (ts : List StatementTree) × IsProgram text.now ts × StandsProgram p text.now ts) }
+    ensures accepted { IfOk result (λ p. (ts : List StatementTree) × IsProgram text.now ts
+        × StandsProgram p text.now ts) }
     ensures source { IfOk result (λ p. p.text ≡ text.now) }
     ensures refused { IfErr result (λ e. (e ≡ ReadError.NoMemory) ⊎ IsRefusedProgram text.now e) }
 {

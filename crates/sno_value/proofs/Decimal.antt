@@ -1,5 +1,6 @@
 -- Decimal texts, read and written.
-use Rattle.std.proofs.Common.{◌≡◌, ℕ, zero, suc, ◌^◌, ◌<◌, ◌≤◌, ℤ, pos, negsuc, neg_ℤ, List, [], ◌∷◌, length, Bool, true, false, ◌&&◌, nat_lt, ◌==◌, cond, Some, None, Result, Ok, Err, OkIff, refl, sym, ◌∙◌, ap, arith, rules, decimal, IsUtf8, IsAscii, w64}
+use Rattle.std.proofs.Common.{◌≡◌, ℕ, zero, suc, ◌^◌, ◌<◌, ◌≤◌, ℤ, pos, negsuc, neg_ℤ, List, [], ◌∷◌, length, Bool, true, false, ◌&&◌, nat_lt, ◌==◌, cond, Some}
+use Rattle.std.proofs.Common.{None, Result, Ok, Err, OkIff, refl, sym, ◌∙◌, ap, arith, rules, decimal, IsUtf8, IsAscii, w64}
 use Rattle.std.specs.Fmt.{signed_decimal}
 use Rattle.std.specs.Prelude.{FitsSigned}
 use Rattle.std.specs.Int.{IsInRange}
@@ -46,7 +47,8 @@ parsed {E = E} (byte ∷ rest) r h some = by_sign (byte == 45) refl (byte == 43)
         → result_ok r ≡ cond minus (negative_of rest) (cond plus (positive_of rest) (positive_of (byte ∷ rest)))
     by_sign true m plus p =
         chosen r _ _ _ (parse_signed_minus own w64 (byte ∷ rest) r h (grind (arith, nat_tests)))
-        (passes_below (all_ascii_digits rest) (length rest) (number_of_digits rest)) (passed_below (all_ascii_digits rest) (length rest) (number_of_digits rest))
+        (passes_below (all_ascii_digits rest) (length rest) (number_of_digits rest))
+        (passed_below (all_ascii_digits rest) (length rest) (number_of_digits rest))
     by_sign false m true p =
         chosen r _ _ _ (parse_signed_plus own w64 (byte ∷ rest) r h (grind (arith, nat_tests)))
         (passes (all_ascii_digits rest) (length rest) (number_of_digits rest)) (passed (all_ascii_digits rest) (length rest) (number_of_digits rest))
@@ -82,14 +84,17 @@ no_text (byte ∷ rest) h some = by_sign (byte == 45) refl (byte == 43) refl
   where
     signed : (c : ℕ) → (byte == c) ≡ true → c < 128 → is_numeral rest ≡ true → ⊥
     signed c e small n =
-        h (IsUtf8-from_ascii (byte ∷ rest) (IsAscii-cons byte rest (grind (arith, nat_tests)) (IsAscii-digits rest (and_right (nat_lt 0 (length rest)) (all_ascii_digits rest) n))))
+        h (IsUtf8-from_ascii (byte ∷ rest)
+        (IsAscii-cons byte rest (grind (arith, nat_tests)) (IsAscii-digits rest (and_right (nat_lt 0 (length rest)) (all_ascii_digits rest) n))))
 
     by_sign : (minus : Bool) → (byte == 45) ≡ minus → (plus : Bool) → (byte == 43) ≡ plus
         → None ≡ cond minus (negative_of rest) (cond plus (positive_of rest) (positive_of (byte ∷ rest)))
     by_sign true m plus p = no_numeral rest (neg_ℤ (pos (number_of_digits rest))) (signed 45 m (omega arith))
     by_sign false m true p = no_numeral rest (pos (number_of_digits rest)) (signed 43 p (omega arith))
     by_sign false m false p =
-        no_numeral (byte ∷ rest) (pos (number_of_digits (byte ∷ rest))) (λ n. h (IsUtf8-from_ascii (byte ∷ rest) (IsAscii-digits (byte ∷ rest) (and_right (nat_lt 0 (length (byte ∷ rest))) (all_ascii_digits (byte ∷ rest)) n))))
+        no_numeral (byte ∷ rest) (pos (number_of_digits (byte ∷ rest)))
+        (λ n. h (IsUtf8-from_ascii (byte ∷ rest)
+        (IsAscii-digits (byte ∷ rest) (and_right (nat_lt 0 (length (byte ∷ rest))) (all_ascii_digits (byte ∷ rest)) n))))
 
 -- digits alone have no sign before them
 integer_of-digits : (ds : List ℕ) (n : ℕ) → all_ascii_digits ds ≡ true → 0 < length ds → number_of_digits ds ≡ n → n < 2 ^ 63 → integer_of ds ≡ Some (pos n)
@@ -119,7 +124,8 @@ reads_back (pos n) f = integer_of-digits (decimal n) n (digits_decimal own n sma
 reads_back (negsuc n) f =
     ap (λ k. integer_from (decimal (suc n)) (neg_ℤ (pos k))) (digits_value-decimal own (suc n) small)
     ∙ ap (λ t. cond t (Some (negsuc n)) None)
-    (passes_below (all_ascii_digits (decimal (suc n))) (length (decimal (suc n))) (suc n) (digits_decimal own (suc n) small, decimal_nonempty (suc n) small, omega (arith, f.sfits)))
+    (passes_below (all_ascii_digits (decimal (suc n))) (length (decimal (suc n))) (suc n)
+    (digits_decimal own (suc n) small, decimal_nonempty (suc n) small, omega (arith, f.sfits)))
   where
     small : suc n < 2 ^ 64
     small = omega (arith, f.sfits)

@@ -1,5 +1,6 @@
 -- The power to a large exponent, by one that is small.
-use Rattle.std.proofs.Common.{◌≡◌, ℕ, zero, suc, ◌+◌, ◌%◌, ◌^◌, ◌<◌, ◌≤◌, ◌⊎◌, pos, neg_ℤ, ◌*ℤ◌, negsuc, ℤ, refl, sym, ◌∙◌, ap, ap₂, cond, not, ◌*◌, ◌==◌, Err, arith, le_trans, inl, inr, Bool, true, false}
+use Rattle.std.proofs.Common.{◌≡◌, ℕ, zero, suc, ◌+◌, ◌%◌, ◌^◌, ◌<◌, ◌≤◌, ◌⊎◌, pos, neg_ℤ, ◌*ℤ◌, negsuc, ℤ, refl, sym, ◌∙◌, ap, ap₂, cond, not, ◌*◌, ◌==◌, Err}
+use Rattle.std.proofs.Common.{arith, le_trans, inl, inr, Bool, true, false}
 use Rattle.std.proofs.Math.Nat.{pow-zero, pow-suc, pow-succ', pow-le-pow_left, pow-le-pow_right, mul-one, mul-zero}
 use Rattle.std.proofs.lemmas.Grind.{common_steps}
 use Rattle.std.proofs.lemmas.Bool.Decides.{nat_tests}

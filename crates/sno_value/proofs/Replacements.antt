@@ -1,5 +1,6 @@
 -- What stands for a byte, as the pairs are read one after another: the later pair counts.
-use Rattle.std.proofs.Common.{◌≡◌, ℕ, ◌+◌, ◌<◌, List, [], ◌∷◌, ◌++◌, length, take, get_or, Bool, true, false, ◌||◌, ◌==◌, cond, refl, sym, ◌∙◌, ap₂, arith, length-take-le, set}
+use Rattle.std.proofs.Common.{◌≡◌, ℕ, ◌+◌, ◌<◌, List, [], ◌∷◌, ◌++◌, length, take, get_or, Bool, true, false, ◌||◌, ◌==◌, cond, refl, sym, ◌∙◌, ap₂, arith}
+use Rattle.std.proofs.Common.{length-take-le, set}
 use Rattle.std.specs.List.{list_any}
 use Rattle.std.proofs.lemmas.Bool.Decides.{nat_tests}
 use Rattle.std.proofs.lemmas.Grind.{common_steps}

@@ -1,5 +1,6 @@
 -- What each operation on integers answers: the mathematical result in ℤ, where it fits 64 bits.
-use Rattle.std.specs.Prelude.{ℕ, zero, suc, ℤ, pos, negsuc, ◌+ℤ◌, ◌-ℤ◌, ◌*ℤ◌, neg_ℤ, int_div, int_rem, int_le, int_lt, ◌^◌, Bool, ◌&&◌, List, codes, Result, Ok, Err, if◌then◌else◌}
+use Rattle.std.specs.Prelude.{ℕ, zero, suc, ℤ, pos, negsuc, ◌+ℤ◌, ◌-ℤ◌, ◌*ℤ◌, neg_ℤ, int_div, int_rem, int_le, int_lt}
+use Rattle.std.specs.Prelude.{◌^◌, Bool, ◌&&◌, List, codes, Result, Ok, Err, if◌then◌else◌}
 use Rattle.std.specs.Ordering.{int_eq}
 use Rattle.sno_value.specs.declared.arithmetic.Arith.{Arith}
 use Rattle.sno_value.specs.declared.arithmetic.Arith.TheVariants.{Overflow, DivisionByZero, BadExponent}

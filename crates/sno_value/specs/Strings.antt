@@ -1,5 +1,7 @@
 -- What the functions on strings give.
-use Rattle.std.specs.Prelude.{ℕ, zero, suc, ◌*◌, ℤ, pos, negsuc, Bool, true, false, nat_lt, ◌==◌, List, codes, [], ◌∷◌, ◌++◌, map, length, Option, Some, None, Result, Ok, Err, ◌&&◌, Vec, option_map, if◌then◌else◌}
+use Rattle.std.specs.Prelude.{ℕ, zero, suc, ◌*◌, ℤ, pos, negsuc, Bool, true, false, nat_lt, ◌==◌, List, codes, [], ◌∷◌}
+use Rattle.std.specs.Prelude.{◌++◌, map, length, Option, Some, None, Result, Ok, Err, ◌&&◌, Vec, option_map}
+use Rattle.std.specs.Prelude.{if◌then◌else◌}
 use Rattle.std.specs.Global.{Global}
 use Rattle.std.specs.List.{list_any, list_all}
 use Rattle.sno_value.specs.declared.strings.TextError.{TextError}

@@ -3,7 +3,8 @@
 
 ghost use Rattle.std.specs.Prelude.{◌≡◌, ℤ, Some};
 ghost use Rattle.std.specs.Int.{int_pow};
-ghost use Rattle.sno_value.specs.Arithmetic.{message_of, fitted, sum_of, difference_of, product_of, quotient_of, remainder_of, power, power_of};
+ghost use Rattle.sno_value.specs.Arithmetic.{message_of, fitted, sum_of, difference_of, product_of, quotient_of};
+ghost use Rattle.sno_value.specs.Arithmetic.{remainder_of, power, power_of};
 
 use std::error::Error;
 use std::fmt;
@@ -64,8 +65,8 @@ pub fn div(a: i64, b: i64) -> Result<i64, Arith>
     a.checked_div(b).ok_or(Arith::Overflow)
 }
 
-/// `base ** exponent`, or an overflow where it does not fit 64 bits. A negative exponent is refused, and 0 to the power 0
-/// is 1 (both this profile). It multiplies at most 64 times, however large the exponent.
+/// `base ** exponent`, or an overflow where it does not fit 64 bits. A negative exponent is refused, and 0 to the power
+/// 0 is 1 (both this profile). It multiplies at most 64 times, however large the exponent.
 pub fn pow(base: i64, exponent: i64) -> Result<i64, Arith>
     ensures { result ≡ power_of base exponent }
 {

@@ -1,6 +1,8 @@
 //! The functions TRIM, DUPL, REPLACE and LGT on strings (the book, chapter 3).
-ghost use Rattle.std.specs.Prelude.{◌≡◌, ◌↔◌, ◌<ℤ◌, ◌<◌, ◌≤◌, ◌*◌, ℕ, pos, length, Ok, Err, Some, None, unsigned_abs, IfOk, IsOk, IsNone, IsOkAnd, slice_index};
-ghost use Rattle.sno_value.specs.Strings.{trimmed, copies, duplicate, replacement, replaced, is_after, items_of, message_of};
+ghost use Rattle.std.specs.Prelude.{◌≡◌, ◌↔◌, ◌<ℤ◌, ◌<◌, ◌≤◌, ◌*◌, ℕ, pos, length, Ok, Err, Some, None, unsigned_abs};
+ghost use Rattle.std.specs.Prelude.{IfOk, IsOk, IsNone, IsOkAnd, slice_index};
+ghost use Rattle.sno_value.specs.Strings.{trimmed, copies, duplicate, replacement, replaced, is_after, items_of};
+ghost use Rattle.sno_value.specs.Strings.{message_of};
 ghost use Rattle.sno_value.specs.declared.strings.TextError.TheVariants.{NoMemory};
 
 use std::alloc::{AllocError, Global};
@@ -92,8 +94,8 @@ fn copies_of(alloc: Global, text: &[u8], count: usize) -> Result<Vec<u8>, AllocE
     Ok(copied)
 }
 
-/// REPLACE: the text with each byte that stands in `from` replaced by the byte of `to` at the last place where it stands
-/// in `from`. It is None where `from` is empty or not as long as `to` (this profile).
+/// REPLACE: the text with each byte that stands in `from` replaced by the byte of `to` at the last place where it
+/// stands in `from`. It is None where `from` is empty or not as long as `to` (this profile).
 #[tactic(auto, unfolding(crate::specs::Strings::replaced))]
 pub fn replace(
     alloc: Global,

@@ -1,5 +1,6 @@
 -- A machine that is asked: what its calls answer, and why there is none.
-use Rattle.std.proofs.Common.{◌≡◌, if◌then◌else◌, ℕ, suc, ◌-◌, drop, ◌==◌, ◌<◌, ◌≤◌, inl, inr, sym, slice_get, arith, nat_lt, Bool, true, false, List, [], ◌∷◌, length, refl, ap, subst, Option, None, Some, Result, Ok, Err, IfOk, IfSome}
+use Rattle.std.proofs.Common.{◌≡◌, if◌then◌else◌, ℕ, suc, ◌-◌, drop, ◌==◌, ◌<◌, ◌≤◌, inl, inr, sym, slice_get, arith, nat_lt, Bool, true, false, List, [], ◌∷◌}
+use Rattle.std.proofs.Common.{length, refl, ap, subst, Option, None, Some, Result, Ok, Err, IfOk, IfSome}
 use Rattle.std.proofs.lemmas.List.{length-append, length-take, length-drop}
 use Rattle.std.specs.Result.{result_err}
 use Rattle.sno_io.specs.declared.jobs.Limits.{Limits}
@@ -73,7 +74,8 @@ if_fails_not : {A : Type 0} (b : Bool) (o p : Outcome A) → FailsNot o → Fail
 if_fails_not true o p h k = h
 if_fails_not false o p h k = k
 
-then_fails_not : {A B : Type 0} (act : Action A) (next : A → Action B) (w : World) → FailsNot (act w) → ((x : A) (v : World) → FailsNot (next x v)) → FailsNot (and_then act next w)
+then_fails_not : {A B : Type 0} (act : Action A) (next : A → Action B) (w : World) → FailsNot (act w) → ((x : A) (v : World) → FailsNot (next x v))
+    → FailsNot (and_then act next w)
 unfolding settles
 then_fails_not {A} act next w h k = by (act w).ending (act w).world (act w).wrote h
   where
@@ -95,7 +97,8 @@ name_fails_not (Some bytes) w = then_fails_not (variable_named bytes) (λ target
 
 names_fail_not : (text : List ℕ) (nodes : List Node) (w : World) → FailsNot (joins_names text nodes w)
 names_fail_not text [] w = λ e. absurd (cc e)
-names_fail_not text (node ∷ nodes) w = then_fails_not (joins_name (name_in text node)) (λ done. joins_names text nodes) w (name_fails_not (name_in text node) w) (λ done v. names_fail_not text nodes v)
+names_fail_not text (node ∷ nodes) w = then_fails_not (joins_name (name_in text node)) (λ done. joins_names text nodes) w (name_fails_not (name_in text node) w)
+    (λ done v. names_fail_not text nodes v)
 
 -- and that nothing but a name that is too long, or one more than there may be, ends it
 
@@ -106,11 +109,13 @@ if_stops : {A : Type 0} (b : Bool) (o p : Outcome A) → StopsAsMeant o → Stop
 if_stops true o p h k = h
 if_stops false o p h k = k
 
-then_stops : {A B : Type 0} (act : Action A) (next : A → Action B) (w : World) → StopsAsMeant (act w) → ((x : A) (v : World) → StopsAsMeant (next x v)) → StopsAsMeant (and_then act next w)
+then_stops : {A B : Type 0} (act : Action A) (next : A → Action B) (w : World) → StopsAsMeant (act w) → ((x : A) (v : World) → StopsAsMeant (next x v))
+    → StopsAsMeant (and_then act next w)
 unfolding settles
 then_stops {A} act next w h k = by (act w).ending (act w).world (act w).wrote h
   where
-    by : (end : Ending A) (v : World) (wrote : List ℕ) → ((code : ℕ) → end ≡ Stops (Error code) → IsTooMuch code) → StopsAsMeant (settled end v wrote (either fails next))
+    by : (end : Ending A) (v : World) (wrote : List ℕ) → ((code : ℕ) → end ≡ Stops (Error code) → IsTooMuch code)
+        → StopsAsMeant (settled end v wrote (either fails next))
     by (Got x) v wrote g = k x v
     by Fails v wrote g = λ code e. absurd (cc e)
     by (Stops why) v wrote g = λ code e. g code (cc e)
@@ -144,16 +149,22 @@ named_some text (nodes.Unary o a) h w = tt
 named_some text (nodes.Binary o a b) h w = tt
 named_some text (nodes.Call span arguments) h w = token_some text span h w.1
 named_some text (nodes.Item span arguments) h w =
-    some_of (name_in text (nodes.Item span arguments)) (λ bytes e. let same : token text span ≡ bytes = cc e in subst (λ name. 0 < length name) same (token_some text span h w.1))
+    some_of (name_in text (nodes.Item span arguments)) (λ bytes e. let same : token text span ≡ bytes = cc e in
+    subst (λ name. 0 < length name) same (token_some text span h w.1))
 
-names_stop : (text : List ℕ) (nodes : List Node) (w : World) → ((id : ℕ) (node : Node) → slice_get nodes id ≡ Some node → IfSome (name_in text node) (λ bytes. 0 < length bytes)) → StopsAsMeant (joins_names text nodes w)
+names_stop : (text : List ℕ) (nodes : List Node) (w : World)
+    → ((id : ℕ) (node : Node) → slice_get nodes id ≡ Some node → IfSome (name_in text node) (λ bytes. 0 < length bytes))
+    → StopsAsMeant (joins_names text nodes w)
 names_stop text [] w h = λ code e. absurd (cc e)
 names_stop text (node ∷ nodes) w h =
-    then_stops (joins_name (name_in text node)) (λ done. joins_names text nodes) w (name_stops (name_in text node) w (h 0 node refl)) (λ done v. names_stop text nodes v (λ id other at. h (suc id) other at))
+    then_stops (joins_name (name_in text node)) (λ done. joins_names text nodes) w (name_stops (name_in text node) w (h 0 node refl))
+    (λ done v. names_stop text nodes v (λ id other at. h (suc id) other at))
 
 -- why there is no machine
 
-pub machine_refused : (source : Source) (limits : Limits) (s : State) (x : Exit) → IsTable (length source.text) source.nodes → Does {X = Unit} itself any (joins_names source.text source.nodes) (new_state (new_keywords false limits.statements limits.match_steps)) s (Err x) → IsRefusal source limits (ran_in 0 x)
+pub machine_refused : (source : Source) (limits : Limits) (s : State) (x : Exit) → IsTable (length source.text) source.nodes
+    → Does {X = Unit} itself any (joins_names source.text source.nodes) (new_state (new_keywords false limits.statements limits.match_steps)) s (Err x)
+    → IsRefusal source limits (ran_in 0 x)
 machine_refused source limits s Failure table did = absurd (names_fail_not source.text source.nodes _ (ap (λ (o : Outcome Unit). o.ending) (did.meets [])))
 machine_refused source limits s (Halt (HasError code)) table did =
     let named : (id : ℕ) (node : Node) → slice_get source.nodes id ≡ Some node → IfSome (name_in source.text node) (λ bytes. 0 < length bytes) =

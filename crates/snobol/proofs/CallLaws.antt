@@ -1,5 +1,6 @@
 -- What a call of a program's function does, from its parts.
-use Rattle.std.proofs.Common.{Vec, Global, ◌≡◌, ℕ, zero, suc, ◌+◌, ◌-◌, ◌<◌, ◌≤◌, ◌==◌, nat_lt, arith, Bool, true, false, List, [], ◌∷◌, ◌++◌, length, map, refl, ap, sym, ◌∙◌, subst, if◌then◌else◌, Option, None, Some, Result, Ok, Err}
+use Rattle.std.proofs.Common.{Vec, Global, ◌≡◌, ℕ, zero, suc, ◌+◌, ◌-◌, ◌<◌, ◌≤◌, ◌==◌, nat_lt, arith, Bool, true, false, List, [], ◌∷◌, ◌++◌, length, map}
+use Rattle.std.proofs.Common.{refl, ap, sym, ◌∙◌, subst, if◌then◌else◌, Option, None, Some, Result, Ok, Err}
 use Rattle.std.proofs.lemmas.List.{append-nil, length-append}
 use Rattle.sno_value.specs.declared.ids.ExprId.{ExprId}
 use Rattle.sno_value.specs.declared.ids.SymId.{SymId}
@@ -52,33 +53,48 @@ no_value_wanted text (Some (Call function arguments)) wanted.Field other = refl
 no_value_wanted text (Some (Keyword span)) wants other = refl
 no_value_wanted text (Some (Item function subscripts)) wants other = refl
 
-pub calls_none : (text : List ℕ) (o : Option Form) (wants : Wanted) (s : State) → function_called text o wants ≡ gives None → Does {X = Option SymId} itself any (function_called text o wants) s s (Ok None)
+pub calls_none : (text : List ℕ) (o : Option Form) (wants : Wanted) (s : State) → function_called text o wants ≡ gives None
+    → Does {X = Option SymId} itself any (function_called text o wants) s s (Ok None)
 calls_none text o wants s none = rw none (gives_does {X = Option SymId} itself any s None None refl tt)
 
 abbrev calls_by : List ℕ → Action (Option SymId)
 calls_by name = and_then (variable_named name) function_of
 
-form_called : (text : List ℕ) (o : Option Form) (node : Form) (function : Span) (arguments : Vec ExprId Global) (wants : Wanted) → o ≡ Some node → node ≡ Call function arguments → wants ≡ wanted.Value → function_called text o wants ≡ calls_by (token text function)
+form_called : (text : List ℕ) (o : Option Form) (node : Form) (function : Span) (arguments : Vec ExprId Global) (wants : Wanted) → o ≡ Some node
+    → node ≡ Call function arguments → wants ≡ wanted.Value → function_called text o wants ≡ calls_by (token text function)
 form_called text o node function arguments wants at is value = rw (at, is, value) refl
 
 -- where its name joins no symbols
-pub unnamed : (text : List ℕ) (o : Option Form) (node : Form) (function : Span) (arguments : Vec ExprId Global) (wants : Wanted) (a b : State) (e : Exit) → o ≡ Some node → node ≡ Call function arguments → wants ≡ wanted.Value
-    → Does {X = Target} itself any (variable_named (token text function)) a b (Err e) → Does {X = Option SymId} itself any (function_called text o wants) a b (Err e)
+pub unnamed : (text : List ℕ) (o : Option Form) (node : Form) (function : Span) (arguments : Vec ExprId Global) (wants : Wanted) (a b : State) (e : Exit)
+    → o ≡ Some node → node ≡ Call function arguments → wants ≡ wanted.Value
+    → Does {X = Target} itself any (variable_named (token text function)) a b (Err e)
+    → Does {X = Option SymId} itself any (function_called text o wants) a b (Err e)
 unnamed text o node function arguments wants a b e at is value did =
-    rw (form_called text o node function arguments wants at is value) (then_err {X = Target} {Y = Option SymId} itself any itself any (variable_named (token text function)) function_of a b e did)
+    rw (form_called text o node function arguments wants at is value)
+    (then_err {X = Target} {Y = Option SymId} itself any itself any (variable_named (token text function)) function_of a b e did)
 
-pub named : (text : List ℕ) (o : Option Form) (node : Form) (function : Span) (arguments : Vec ExprId Global) (wants : Wanted) (a b : State) (name : Target) (r : Option SymId) → o ≡ Some node → node ≡ Call function arguments → wants ≡ wanted.Value
-    → Does itself any (variable_named (token text function)) a b (Ok name) → r ≡ made_function b.store.functions name → Does itself any (function_called text o wants) a b (Ok r)
+pub named : (text : List ℕ) (o : Option Form) (node : Form) (function : Span) (arguments : Vec ExprId Global) (wants : Wanted) (a b : State) (name : Target)
+    (r : Option SymId) → o ≡ Some node → node ≡ Call function arguments → wants ≡ wanted.Value
+    → Does itself any (variable_named (token text function)) a b (Ok name) → r ≡ made_function b.store.functions name
+    → Does itself any (function_called text o wants) a b (Ok r)
 named text o node function arguments wants a b name r at is value did found =
-    let look : Does {X = Option SymId} itself any (function_of name) b b (Ok r) = record { grows = grows_none b.nodes; meets = λ more. ap (λ (q : Option SymId). record { ending = Got q; world = world b more; wrote = [] }) (sym found); answer = tt; unread = refl } in
-    rw (form_called text o node function arguments wants at is value) (then_got itself any itself any (variable_named (token text function)) function_of a b b name (Ok r) did look)
+    let look : Does {X = Option SymId} itself any (function_of name) b b (Ok r) =
+    record {
+      grows = grows_none b.nodes;
+      meets = λ more. ap (λ (q : Option SymId). record { ending = Got q; world = world b more; wrote = [] }) (sym found);
+      answer = tt;
+      unread = refl;
+    } in
+    rw (form_called text o node function arguments wants at is value)
+    (then_got itself any itself any (variable_named (token text function)) function_of a b b name (Ok r) did look)
 
 -- a text always names a variable, or that is an error
 never_fails : (name : List ℕ) (w : World) → (variable_named name w).ending ≡ Fails → ⊥
 never_fails [] w fails = cc fails
 never_fails (byte ∷ bytes) w fails = by (nat_lt 1_000_000 (length (byte ∷ bytes))) (is_symbol (byte ∷ bytes) w.symbols) (length w.symbols == 1_000_000) fails
   where
-    by : (long known full : Bool) → (if long then stops (Error 8) w else if known then gives (Var (symbol (place (byte ∷ bytes) w.symbols))) w else if full then stops (Error 9) w else joins (byte ∷ bytes) w).ending ≡ Fails → ⊥
+    by : (long known full : Bool) → (if long then stops (Error 8) w else if known then gives (Var (symbol (place (byte ∷ bytes) w.symbols))) w else if full
+        then stops (Error 9) w else joins (byte ∷ bytes) w).ending ≡ Fails → ⊥
     by true known full is = cc is
     by false true full is = cc is
     by false false true is = cc is
@@ -90,7 +106,8 @@ named_or_error name a b e did is = never_fails name (world a []) (ap (λ (o : Ou
 -- the entry of the function
 
 -- a function whose entry label the program lacks
-pub unlabelled : (source : Source) (f levels : ℕ) (xs : List Value) (d : Definition) (s : State) → length s.store.calls < 200 → levels + length s.store.calls ≡ 200 → definition_at s.store.functions f ≡ Some d → label_number source d.entry ≡ None
+pub unlabelled : (source : Source) (f levels : ℕ) (xs : List Value) (d : Definition) (s : State) → length s.store.calls < 200 → levels + length s.store.calls
+    ≡ 200 → definition_at s.store.functions f ≡ Some d → label_number source d.entry ≡ None
     → Does {X = Stored} shown IsValueOf (call_at source levels f xs) s s (Err (Halt (HasError 5)))
 unlabelled source f zero xs d s room left defined missing = absurd (omega arith)
 unlabelled source f (suc levels) xs d s room left defined missing =
@@ -120,7 +137,8 @@ abbrev stored_call : ℕ → Definition → State → List (ℕ × Stored)
 stored_call f d before = saved (stored.Str []) f d before.store.values
 
 -- one more call is open behind its beginning
-opened_level : (f : ℕ) (d : Definition) (xs : List Value) (before mid : State) → Entered f d xs before mid → length mid.store.calls ≡ length before.store.calls + 1
+opened_level : (f : ℕ) (d : Definition) (xs : List Value) (before mid : State) → Entered f d xs before mid → length mid.store.calls
+    ≡ length before.store.calls + 1
 opened_level f d xs before mid begun = ap length begun.opened ∙ length-append before.store.calls (stored_call f d before ∷ [])
 
 module _ (source : Source) (f n : ℕ) (d : Definition) (xs : List Value) (before mid : State) (begun : Entered f d xs before mid)
@@ -138,23 +156,29 @@ module _ (source : Source) (f n : ℕ) (d : Definition) (xs : List Value) (befor
   call_is levels more =
       ap (λ (o : Option Definition). either (stops (Error 4)) (performs_call source (call_at source levels) f xs) o (world before more)) defined
       ∙ (ap (λ (o : Option ℕ). either (stops (Error 5)) (performs_function source (call_at source levels) f d xs) o (world before more)) found
-      ∙ (ap (λ (w : World). and_then (chain source (call_at source levels) (before.keywords.cap + 1) n) (leaves shown_call before.keywords.statement) w) (sym (begun.meets more))
-      ∙ ap (λ (k : Keywords). and_then (chain source (call_at source levels) (k.cap + 1) n) (leaves shown_call before.keywords.statement) (world mid more)) (sym begun.keywords)))
+      ∙ (ap (λ (w : World). and_then (chain source (call_at source levels) (before.keywords.cap + 1) n) (leaves shown_call before.keywords.statement) w)
+      (sym (begun.meets more))
+      ∙ ap (λ (k : Keywords). and_then (chain source (call_at source levels) (k.cap + 1) n) (leaves shown_call before.keywords.statement) (world mid more))
+      (sym begun.keywords)))
 
-  module _ (late after : State) (value : Stored) (grew : Grows mid.nodes late.nodes) (left : Leaves before.store.calls (stored_call f d before) before.keywords.statement late after value) where
+  module _ (late after : State) (value : Stored) (grew : Grows mid.nodes late.nodes)
+      (left : Leaves before.store.calls (stored_call f d before) before.keywords.statement late after value) where
     -- what was saved is shown the same behind the statements
     saved_same : shown_saved late.nodes (stored_call f d before) ≡ shown_call
-    saved_same = saved_shown_stay before.nodes late.nodes (stored_call f d before) (grew.0, grew.1 ∙ ap (λ nodes. nodes ++ grew.0) begun.nodes) begun.known ∙ saved_shown before.nodes f d before.store.values
+    saved_same = saved_shown_stay before.nodes late.nodes (stored_call f d before) (grew.0, grew.1 ∙ ap (λ nodes. nodes ++ grew.0) begun.nodes) begun.known
+        ∙ saved_shown before.nodes f d before.store.values
 
     value_same : (more : List ℕ) → function_value (Str []) shown_call (world late more).values ≡ shown after.nodes value
-    value_same more = ap (λ call. function_value (Str []) call (world late more).values) (sym saved_same) ∙ (sym (left.returned more) ∙ ap (λ nodes. shown nodes value) (sym left.nodes))
+    value_same more = ap (λ call. function_value (Str []) call (world late more).values) (sym saved_same)
+        ∙ (sym (left.returned more) ∙ ap (λ nodes. shown nodes value) (sym left.nodes))
 
     world_same : (more : List ℕ) → left_world shown_call before.keywords.statement (world late more) ≡ world after more
     world_same more = ap (λ call. left_world call before.keywords.statement (world late more)) (sym saved_same) ∙ sym (left.meets more)
 
     -- how a call ends whose statements went to RETURN, or to FRETURN
     left_meets : (success : Bool) (wrote more : List ℕ) (o : Outcome Bool) → o ≡ record { ending = Got success; world = world late more; wrote = wrote }
-        → MeetsRunning (shown after.nodes) (settled o.ending o.world o.wrote (either fails (leaves shown_call before.keywords.statement))) (world after more) wrote (answered success value)
+        → MeetsRunning (shown after.nodes) (settled o.ending o.world o.wrote (either fails (leaves shown_call before.keywords.statement)))
+        (world after more) wrote (answered success value)
     left_meets true wrote more o is =
         ap (λ (q : Outcome Bool). settled q.ending q.world q.wrote (either fails (leaves shown_call before.keywords.statement))) is
         ∙ (λ i. record { ending = Got (value_same more i); world = world_same more i; wrote = append-nil wrote i })
@@ -175,13 +199,21 @@ module _ (source : Source) (f n : ℕ) (d : Definition) (xs : List Value) (befor
     left_sound false e = tt
 
     can_end : (e : Devices) → CanRun late e → CanRun after e
-    can_end e can = record { reads = record { going = rw left.reading can.reads.going; same = λ told. can.reads.same (rw left.reading at told); sound = can.reads.sound }; writes = can.writes }
+    can_end e can = record {
+      reads = record {
+        going = rw left.reading can.reads.going;
+        same = λ told. can.reads.same (rw left.reading at told);
+        sound = can.reads.sound;
+      };
+      writes = can.writes;
+    }
 
     left_goes : Goes mid.keywords late.keywords → Goes before.keywords after.keywords
     left_goes went = let k = ap (λ (q : Keywords). q.cap) left.keywords in let m = ap (λ (q : Keywords). q.begun) left.keywords in let w = went.begun in
         record { cap = k ∙ (went.cap ∙ ap (λ (q : Keywords). q.cap) begun.keywords); begun = omega (arith, ap (λ (q : Keywords). q.begun) begun.keywords) }
 
-    left_runs : (levels : ℕ) (success : Bool) (old new : Devices) → Runs {X = Bool} itself any (chain source (call_at source levels) (mid.keywords.cap + 1) n) mid late old new (Ok success)
+    left_runs : (levels : ℕ) (success : Bool) (old new : Devices) → Runs {X = Bool} itself any (chain source (call_at source levels) (mid.keywords.cap + 1) n)
+        mid late old new (Ok success)
         → Runs shown IsValueOf (call_at source (suc levels) f xs) before after old new (answered success value)
     unfolding settles
     left_runs levels success old new p = record {
@@ -195,18 +227,22 @@ module _ (source : Source) (f n : ℕ) (d : Definition) (xs : List Value) (befor
       goes = left_goes p.goes;
       calls = left_going success (after.store.calls ≡ before.store.calls) left.closed;
       meets = λ more none.
-          subst (λ (o : Outcome Value). MeetsRunning (shown after.nodes) o (world after more) p.wrote (answered success value)) (sym (call_is levels (p.given ++ more)))
-          (left_meets success p.wrote more (chain source (call_at source levels) (mid.keywords.cap + 1) n (world mid (p.given ++ more))) (p.meets more (λ told. none (rw left.reading told))));
+          subst (λ (o : Outcome Value). MeetsRunning (shown after.nodes) o (world after more) p.wrote (answered success value))
+          (sym (call_is levels (p.given ++ more)))
+          (left_meets success p.wrote more (chain source (call_at source levels) (mid.keywords.cap + 1) n (world mid (p.given ++ more)))
+          (p.meets more (λ told. none (rw left.reading told))));
       answer = left_answer success;
       ready = left_going success (CanRun after new) (can_end new p.ready);
       cause = left_sound success new;
     }
 
   -- a call within which the run ended
-  halted_runs : (levels : ℕ) (late : State) (old new : Devices) (why : Stop) → Runs {X = Bool} itself any (chain source (call_at source levels) (mid.keywords.cap + 1) n) mid late old new (Err (Halt why))
+  halted_runs : (levels : ℕ) (late : State) (old new : Devices) (why : Stop)
+      → Runs {X = Bool} itself any (chain source (call_at source levels) (mid.keywords.cap + 1) n) mid late old new (Err (Halt why))
       → Runs {X = Stored} shown IsValueOf (call_at source (suc levels) f xs) before late old new (Err (Halt why))
   halted_runs levels late old new why p =
-      let q = runs_halt {X = Bool} {Y = Stored} itself any shown IsValueOf (chain source (call_at source levels) (mid.keywords.cap + 1) n) (either fails (leaves shown_call before.keywords.statement)) mid late old new why p in
+      let q = runs_halt {X = Bool} {Y = Stored} itself any shown IsValueOf (chain source (call_at source levels) (mid.keywords.cap + 1) n)
+      (either fails (leaves shown_call before.keywords.statement)) mid late old new why p in
       record {
         given = q.given;
         wrote = q.wrote;
@@ -217,7 +253,8 @@ module _ (source : Source) (f n : ℕ) (d : Definition) (xs : List Value) (befor
         grows = (q.grows.0, q.grows.1 ∙ ap (λ nodes. nodes ++ q.grows.0) begun.nodes);
         goes = rw (sym begun.keywords) q.goes;
         calls = tt;
-        meets = λ more none. subst (λ (o : Outcome Value). MeetsRunning {X = Stored} (shown late.nodes) o (world late more) q.wrote (Err (Halt why))) (sym (call_is levels (q.given ++ more))) (q.meets more none);
+        meets = λ more none. subst (λ (o : Outcome Value). MeetsRunning {X = Stored} (shown late.nodes) o (world late more) q.wrote (Err (Halt why)))
+            (sym (call_is levels (q.given ++ more))) (q.meets more none);
         answer = tt;
         ready = tt;
         cause = q.cause;
@@ -235,13 +272,16 @@ module _ (source : Source) (f n : ℕ) (d : Definition) (xs : List Value) (befor
 
   pub call_runs : (level : ℕ) (late after : State) (value : Stored) (success : Bool) (old new : Devices) → level ≡ length mid.store.calls
       → RunsAt {X = Bool} itself any (λ call. chain source call (mid.keywords.cap + 1) n) source level mid late old new (Ok success)
-      → ((calls : List (List (ℕ × Stored))) (call : List (ℕ × Stored)) → late.store.calls ≡ calls ++ call ∷ [] → Leaves calls call before.keywords.statement late after value)
+      → ((calls : List (List (ℕ × Stored))) (call : List (ℕ × Stored)) → late.store.calls ≡ calls ++ call ∷ []
+      → Leaves calls call before.keywords.statement late after value)
       → RunsAt shown IsValueOf (λ call. call f xs) source (length before.store.calls) before after old new (answered success value)
   call_runs level late after value success old new inside p leave =
-      rw (deeper level inside) (left_runs late after value p.grows (leave before.store.calls (stored_call f d before) (innermost late p.calls)) (200 - level) success old new p)
+      rw (deeper level inside) (left_runs late after value p.grows (leave before.store.calls (stored_call f d before) (innermost late p.calls))
+      (200 - level) success old new p)
 
   -- a chain of statements never fails
-  pub call_ended : (level : ℕ) (late : State) (old new : Devices) (x : Exit) → level ≡ length mid.store.calls → (◌≡◌ {A = Result Bool Exit} (Err x) (Err Failure) → ⊥)
+  pub call_ended : (level : ℕ) (late : State) (old new : Devices) (x : Exit) → level ≡ length mid.store.calls
+      → (◌≡◌ {A = Result Bool Exit} (Err x) (Err Failure) → ⊥)
       → RunsAt {X = Bool} itself any (λ call. chain source call (mid.keywords.cap + 1) n) source level mid late old new (Err x)
       → RunsAt {X = Stored} shown IsValueOf (λ call. call f xs) source (length before.store.calls) before late old new (Err x)
   call_ended level late old new Failure inside never p = absurd (never refl)
@@ -249,14 +289,16 @@ module _ (source : Source) (f n : ℕ) (d : Definition) (xs : List Value) (befor
 
 -- a call that could not begin
 
-pub not_begun : (source : Source) (f : ℕ) (d : Definition) (xs : List Value) (before mid : State) (e : Devices) (x : Exit) → CanRun before e → length before.store.calls < 200 → Enters f d xs before mid (Err x)
+pub not_begun : (source : Source) (f : ℕ) (d : Definition) (xs : List Value) (before mid : State) (e : Devices) (x : Exit) → CanRun before e
+    → length before.store.calls < 200 → Enters f d xs before mid (Err x)
     → RunsAt {X = Stored} shown IsValueOf (λ call. call f xs) source (length before.store.calls) before mid e e (Err x)
 not_begun source f d xs before mid e Failure can room began = absurd began
 not_begun source f d xs before mid e (Halt (HasError code)) can room began = absurd (let n = began.1 in omega arith)
 not_begun source f d xs before mid e (Halt (HasErrorIn code statement)) can room began = absurd began
 not_begun source f d xs before mid e (Halt NoMemory) can room began =
     let act = call_at source (200 - length before.store.calls) f xs in
-    rw began (does_runs shown IsValueOf act before before e (Err (Halt NoMemory)) can (no_memory_does shown IsValueOf act before before (grows_none before.nodes) refl))
+    rw began (does_runs shown IsValueOf act before before e (Err (Halt NoMemory)) can
+    (no_memory_does shown IsValueOf act before before (grows_none before.nodes) refl))
 not_begun source f d xs before mid e (Halt ReadFault) can room began = absurd began
 not_begun source f d xs before mid e (Halt WriteFault) can room began = absurd began
 not_begun source f d xs before mid e (Halt HasEnded) can room began = absurd began
@@ -264,4 +306,5 @@ not_begun source f d xs before mid e (Halt HasEnded) can room began = absurd beg
 pub call_refused : (source : Source) (f : ℕ) (xs : List Value) (s : State) (e : Devices) (x : Exit) → CanRun s e → length s.store.calls ≤ 200
     → ((levels : ℕ) (xs : List Value) → levels + length s.store.calls ≡ 200 → Does {X = Stored} shown IsValueOf (call_at source levels f xs) s s (Err x))
     → RunsAt {X = Stored} shown IsValueOf (λ call. call f xs) source (length s.store.calls) s s e e (Err x)
-call_refused source f xs s e x can most refused = does_runs shown IsValueOf (call_at source (200 - length s.store.calls) f xs) s s e (Err x) can (refused (200 - length s.store.calls) xs (omega arith))
+call_refused source f xs s e x can most refused = does_runs shown IsValueOf (call_at source (200 - length s.store.calls) f xs) s s e (Err x) can
+    (refused (200 - length s.store.calls) xs (omega arith))

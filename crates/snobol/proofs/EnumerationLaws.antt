@@ -1,5 +1,6 @@
 -- The listing of a pattern, from what its evaluation did.
-use Rattle.std.proofs.Common.{◌≡◌, if◌then◌else◌, ℕ, suc, ◌+◌, ◌*◌, ◌≤◌, ◌<◌, slice_get, Bool, true, false, nat_lt, List, [], ◌∷◌, ◌++◌, length, codes, refl, ap, sym, ◌∙◌, subst, Option, Some, None, Result, Ok, Err, ◌⊎◌, inl, inr}
+use Rattle.std.proofs.Common.{◌≡◌, if◌then◌else◌, ℕ, suc, ◌+◌, ◌*◌, ◌≤◌, ◌<◌, slice_get, Bool, true, false, nat_lt, List, [], ◌∷◌, ◌++◌, length, codes, refl}
+use Rattle.std.proofs.Common.{ap, sym, ◌∙◌, subst, Option, Some, None, Result, Ok, Err, ◌⊎◌, inl, inr}
 use Rattle.std.proofs.lemmas.Bool.{le-ltb, lt-ltb}
 use Rattle.std.specs.Io.KnownBytes.{Appends, Consumes}
 use Rattle.sno_io.specs.Devices.{Begins}
@@ -79,10 +80,13 @@ listing_is source e subject anchored limit short =
 -- the session of a listing
 
 abbrev pub to_end : Source → Pattern → List ℕ → Bool → ℕ → List Answer → ℕ → Action Unit
-to_end source p subject anchored limit = left (lists_event subject) (answers source (calls source)) (λ given. trace p subject anchored limit given) (gives tt) limit
+to_end source p subject anchored limit =
+    left (lists_event subject) (answers source (calls source)) (λ given. trace p subject anchored limit given) (gives tt) limit
 
-line_of_event : (source : Source) (subject : List ℕ) (given : List Answer) (event : Told) (way : List Pending) (next : List Answer → Action Unit) → is_value event ≡ false
-    → after_one (lists_event subject) (answers source (calls source)) next given (in_trace event way) ≡ and_then (listed subject (in_trace event way)) (λ done. next given)
+line_of_event : (source : Source) (subject : List ℕ) (given : List Answer) (event : Told) (way : List Pending)
+    (next : List Answer → Action Unit) → is_value event ≡ false
+    → after_one (lists_event subject) (answers source (calls source)) next given (in_trace event way)
+    ≡ and_then (listed subject (in_trace event way)) (λ done. next given)
 line_of_event source subject given (V.Way start end) way next no_value = refl
 line_of_event source subject given (V.Assign target start end) way next no_value = refl
 line_of_event source subject given (V.Cursor target at) way next no_value = refl
@@ -92,34 +96,55 @@ line_of_event source subject given V.Aborted way next no_value = refl
 line_of_event source subject given V.Limit way next no_value = refl
 
 -- an event whose line is written and that takes effect, and what follows it
-pub event_then : (source : Source) (p : Pattern) (subject : List ℕ) (anchored : Bool) (limit told : ℕ) (given : List Answer) (event : Told) (way : List Pending) (n : ℕ) (a b c : State) (d e f : Devices) (r : Result Unit Exit) → is_value event ≡ false → told ≤ 2 * limit + 2
-    → slice_get (trace p subject anchored limit given) told ≡ Some (in_trace event way, n) → Runs {X = Unit} itself any (listed subject (in_trace event way)) a b d e (Ok tt) → Runs {X = Unit} itself any (to_end source p subject anchored limit given (suc told)) b c e f r
+pub event_then : (source : Source) (p : Pattern) (subject : List ℕ) (anchored : Bool) (limit told : ℕ) (given : List Answer) (event : Told) (way : List Pending)
+    (n : ℕ) (a b c : State) (d e f : Devices) (r : Result Unit Exit) → is_value event ≡ false → told ≤ 2 * limit + 2
+    → slice_get (trace p subject anchored limit given) told ≡ Some (in_trace event way, n)
+    → Runs {X = Unit} itself any (listed subject (in_trace event way)) a b d e (Ok tt)
+    → Runs {X = Unit} itself any (to_end source p subject anchored limit given (suc told)) b c e f r
     → Runs {X = Unit} itself any (to_end source p subject anchored limit given told) a c d f r
 event_then source p subject anchored limit told given event way n a b c d e f r no_value few at did rest =
-    subst (λ (act : Action Unit). Runs {X = Unit} itself any act a c d f r) (sym (left_next (lists_event subject) (answers source (calls source)) (λ more. trace p subject anchored limit more) (gives tt) limit told given (in_trace event way, n) few at ∙ line_of_event source subject given event way (λ more. to_end source p subject anchored limit more (suc told)) no_value))
-    (then_runs {X = Unit} {Y = Unit} itself any itself any (listed subject (in_trace event way)) (λ done. to_end source p subject anchored limit given (suc told)) a b c d e f tt r did rest)
+    subst (λ (act : Action Unit). Runs {X = Unit} itself any act a c d f r)
+    (sym (left_next (lists_event subject) (answers source (calls source)) (λ more. trace p subject anchored limit more) (gives tt) limit told given
+    (in_trace event way, n) few at ∙ line_of_event source subject given event way
+    (λ more. to_end source p subject anchored limit more (suc told)) no_value))
+    (then_runs {X = Unit} {Y = Unit} itself any itself any (listed subject (in_trace event way))
+    (λ done. to_end source p subject anchored limit given (suc told)) a b c d e f tt r did rest)
 
-pub event_ended : (source : Source) (p : Pattern) (subject : List ℕ) (anchored : Bool) (limit told : ℕ) (given : List Answer) (event : Told) (way : List Pending) (n : ℕ) (a b : State) (d e : Devices) (x : Exit) → is_value event ≡ false → told ≤ 2 * limit + 2
-    → slice_get (trace p subject anchored limit given) told ≡ Some (in_trace event way, n) → Runs {X = Unit} itself any (listed subject (in_trace event way)) a b d e (Err x)
+pub event_ended : (source : Source) (p : Pattern) (subject : List ℕ) (anchored : Bool) (limit told : ℕ) (given : List Answer) (event : Told)
+    (way : List Pending) (n : ℕ) (a b : State) (d e : Devices) (x : Exit) → is_value event ≡ false → told ≤ 2 * limit + 2
+    → slice_get (trace p subject anchored limit given) told ≡ Some (in_trace event way, n)
+    → Runs {X = Unit} itself any (listed subject (in_trace event way)) a b d e (Err x)
     → Runs {X = Unit} itself any (to_end source p subject anchored limit given told) a b d e (Err x)
 event_ended source p subject anchored limit told given event way n a b d e x no_value few at did =
-    subst (λ (act : Action Unit). Runs {X = Unit} itself any act a b d e (Err x)) (sym (left_next (lists_event subject) (answers source (calls source)) (λ more. trace p subject anchored limit more) (gives tt) limit told given (in_trace event way, n) few at ∙ line_of_event source subject given event way (λ more. to_end source p subject anchored limit more (suc told)) no_value))
-    (then_ended {X = Unit} {Y = Unit} itself any itself any (listed subject (in_trace event way)) (λ done. to_end source p subject anchored limit given (suc told)) a b d e x did)
+    subst (λ (act : Action Unit). Runs {X = Unit} itself any act a b d e (Err x))
+    (sym (left_next (lists_event subject) (answers source (calls source)) (λ more. trace p subject anchored limit more) (gives tt) limit told given
+    (in_trace event way, n) few at ∙ line_of_event source subject given event way
+    (λ more. to_end source p subject anchored limit more (suc told)) no_value))
+    (then_ended {X = Unit} {Y = Unit} itself any itself any (listed subject (in_trace event way))
+    (λ done. to_end source p subject anchored limit given (suc told)) a b d e x did)
 
 -- a deferred part, and what follows its answer
-pub value_then : (source : Source) (p : Pattern) (subject : List ℕ) (anchored : Bool) (limit told : ℕ) (given : List Answer) (primitive : Option PrimitiveKind) (e n : ℕ) (a b c : State) (d f g : Devices) (x : Option PatId) (r : Result Unit Exit) → IsTurn p subject anchored limit given told (Value primitive e, n)
-    → Runs given_of IsGivenOf (answers source (calls source) primitive e) a b d f (Ok x) → Runs {X = Unit} itself any (to_end source p subject anchored limit (given ++ given_of b.nodes x ∷ []) (suc told)) b c f g r → Runs {X = Unit} itself any (to_end source p subject anchored limit given told) a c d g r
+pub value_then : (source : Source) (p : Pattern) (subject : List ℕ) (anchored : Bool) (limit told : ℕ) (given : List Answer) (primitive : Option PrimitiveKind)
+    (e n : ℕ) (a b c : State) (d f g : Devices) (x : Option PatId) (r : Result Unit Exit) → IsTurn p subject anchored limit given told (Value primitive e, n)
+    → Runs given_of IsGivenOf (answers source (calls source) primitive e) a b d f (Ok x)
+    → Runs {X = Unit} itself any (to_end source p subject anchored limit (given ++ given_of b.nodes x ∷ []) (suc told)) b c f g r
+    → Runs {X = Unit} itself any (to_end source p subject anchored limit given told) a c d g r
 value_then source p subject anchored limit told given primitive e n a b c d f g x r turn did rest =
-    answer_then {Y = Unit} itself any (lists_event subject) (answers source (calls source)) (λ more. trace p subject anchored limit more) (gives (tt {0})) limit told given primitive e n a b c d f g x r turn.0 turn.1 did rest
+    answer_then {Y = Unit} itself any (lists_event subject) (answers source (calls source)) (λ more. trace p subject anchored limit more) (gives (tt {0})) limit
+    told given primitive e n a b c d f g x r turn.0 turn.1 did rest
 
-pub value_ended : (source : Source) (p : Pattern) (subject : List ℕ) (anchored : Bool) (limit told : ℕ) (given : List Answer) (primitive : Option PrimitiveKind) (e n : ℕ) (a b : State) (d f : Devices) (x : Exit) → IsTurn p subject anchored limit given told (Value primitive e, n)
-    → Runs {X = Option PatId} given_of IsGivenOf (answers source (calls source) primitive e) a b d f (Err x) → Runs {X = Unit} itself any (to_end source p subject anchored limit given told) a b d f (Err x)
+pub value_ended : (source : Source) (p : Pattern) (subject : List ℕ) (anchored : Bool) (limit told : ℕ) (given : List Answer) (primitive : Option PrimitiveKind)
+    (e n : ℕ) (a b : State) (d f : Devices) (x : Exit) → IsTurn p subject anchored limit given told (Value primitive e, n)
+    → Runs {X = Option PatId} given_of IsGivenOf (answers source (calls source) primitive e) a b d f (Err x)
+    → Runs {X = Unit} itself any (to_end source p subject anchored limit given told) a b d f (Err x)
 value_ended source p subject anchored limit told given primitive e n a b d f x turn did =
-    answer_ended {Y = Unit} itself any (lists_event subject) (answers source (calls source)) (λ more. trace p subject anchored limit more) (gives (tt {0})) limit told given primitive e n a b d f x turn.0 turn.1 did
+    answer_ended {Y = Unit} itself any (lists_event subject) (answers source (calls source)) (λ more. trace p subject anchored limit more)
+    (gives (tt {0})) limit told given primitive e n a b d f x turn.0 turn.1 did
 
 -- want of memory
 pub unlisted : (act : Action Unit) (s : State) (d : Devices) → CanRun s d → Runs {X = Unit} itself any act s s d d (Err (Halt NoMemory))
-unlisted act s d can = does_runs {X = Unit} itself any act s s d (Err (Halt NoMemory)) can (no_memory_does {X = Unit} itself any act s s (grows_none s.nodes) refl)
+unlisted act s d can = does_runs {X = Unit} itself any act s s d (Err (Halt NoMemory)) can
+    (no_memory_does {X = Unit} itself any act s s (grows_none s.nodes) refl)
 
 -- the last event has a line
 pub last_told : (event : Told) → (event ≡ V.Exhausted) ⊎ ((event ≡ V.Aborted) ⊎ (event ≡ V.Limit)) → (is_value event ≡ false) × (is_last event ≡ true)
@@ -128,7 +153,8 @@ last_told event (inr (inl e)) = rw e (refl, refl)
 last_told event (inr (inr e)) = rw e (refl, refl)
 
 -- and so has any that isn't a deferred part
-pub line_told : (event : Told) → ((prim : Option PrimitiveKind) (expr : ExprId) → event ≡ V.Value prim expr → ⊥) → (event ≡ V.Exhausted → ⊥) → (event ≡ V.Aborted → ⊥) → (event ≡ V.Limit → ⊥) → (is_value event ≡ false) × (is_last event ≡ false)
+pub line_told : (event : Told) → ((prim : Option PrimitiveKind) (expr : ExprId) → event ≡ V.Value prim expr → ⊥) → (event ≡ V.Exhausted → ⊥)
+    → (event ≡ V.Aborted → ⊥) → (event ≡ V.Limit → ⊥) → (is_value event ≡ false) × (is_last event ≡ false)
 line_told (V.Way start end) value_not exhausted_not aborted_not limit_not = (refl, refl)
 line_told (V.Assign target start end) value_not exhausted_not aborted_not limit_not = (refl, refl)
 line_told (V.Cursor target at) value_not exhausted_not aborted_not limit_not = (refl, refl)
@@ -138,15 +164,18 @@ line_told V.Aborted value_not exhausted_not aborted_not limit_not = absurd (abor
 line_told V.Limit value_not exhausted_not aborted_not limit_not = absurd (limit_not refl)
 
 -- behind the last event
-pub events_over : (source : Source) (p : Pattern) (subject : List ℕ) (anchored : Bool) (limit told : ℕ) (given : List Answer) (s : State) (d : Devices) → CanRun s d → length (trace p subject anchored limit given) ≤ told
+pub events_over : (source : Source) (p : Pattern) (subject : List ℕ) (anchored : Bool) (limit told : ℕ) (given : List Answer) (s : State) (d : Devices)
+    → CanRun s d → length (trace p subject anchored limit given) ≤ told
     → Runs {X = Unit} itself any (to_end source p subject anchored limit given told) s s d d (Ok tt)
 events_over source p subject anchored limit told given s d can all =
     rw (left_over (lists_event subject) (answers source (calls source)) (λ more. trace p subject anchored limit more) (gives (tt {0})) limit told given all)
     (does_runs {X = Unit} itself any (gives tt) s s d (Ok tt) can (gives_does {X = Unit} itself any s tt tt refl tt))
 
 -- the whole session of a listing
-pub whole_listing : (source : Source) (p : Pattern) (subject : List ℕ) (anchored : Bool) (limit : ℕ) → to_end source p subject anchored limit [] 0 ≡ lists_events source p subject anchored limit (most_events limit) [] 0
-whole_listing source p subject anchored limit = left_first (lists_event subject) (answers source (calls source)) (λ given. trace p subject anchored limit given) (gives (tt {0})) limit
+pub whole_listing : (source : Source) (p : Pattern) (subject : List ℕ) (anchored : Bool) (limit : ℕ) → to_end source p subject anchored limit [] 0
+    ≡ lists_events source p subject anchored limit (most_events limit) [] 0
+whole_listing source p subject anchored limit =
+    left_first (lists_event subject) (answers source (calls source)) (λ given. trace p subject anchored limit given) (gives (tt {0})) limit
 
 -- what was performed is told
 tells_of : (o : Outcome Unit) (after : World) (wrote : List ℕ) (r : Result Unit Exit) → MeetsRunning (λ done. done) o after wrote r → Tells o wrote r
@@ -159,11 +188,13 @@ tells_of o after wrote (Err (Halt WriteFault)) h = h
 tells_of o after wrote (Err (Halt (HasErrorIn code statement))) h = h
 tells_of o after wrote (Err (Halt HasEnded)) h = h
 
-pub told : (act : Action Unit) (o : Outcome Unit) (a b : State) (d e : Devices) (r : Result Unit Exit) → o ≡ act (world a []) → Nothing d.reader → Runs {X = Unit} itself any act a b d e r → (wrote : List ℕ) × Appends d.writer.taken e.writer.taken wrote × Tells o wrote r
+pub told : (act : Action Unit) (o : Outcome Unit) (a b : State) (d e : Devices) (r : Result Unit Exit) → o ≡ act (world a []) → Nothing d.reader
+    → Runs {X = Unit} itself any act a b d e r → (wrote : List ℕ) × Appends d.writer.taken e.writer.taken wrote × Tells o wrote r
 told act o a b d e r is none did = (
   did.wrote,
   did.appends,
-  rw is (subst (λ (bytes : List ℕ). Tells (act (world a bytes)) did.wrote r) (ap (λ (bytes : List ℕ). bytes ++ []) (nothing_given d.reader e.reader did.given none did.consumed))
+  rw is (subst (λ (bytes : List ℕ). Tells (act (world a bytes)) did.wrote r)
+      (ap (λ (bytes : List ℕ). bytes ++ []) (nothing_given d.reader e.reader did.given none did.consumed))
       (tells_of (act (world a (did.given ++ []))) (world b []) did.wrote r (did.meets [] (λ end. refl)))),
 )
 
@@ -180,38 +211,51 @@ new_runs s keywords d is sound unstuck = rw is (record { reads = record { going 
 abbrev pub whole : Source → ExprId → List ℕ → Bool → ℕ → Action Unit
 whole source e subject anchored limit = settles (built source e) (lists_ways source subject anchored limit)
 
-pub built_listed : (source : Source) (e : ExprId) (subject : List ℕ) (anchored : Bool) (limit : ℕ) (a b c : State) (d f g : Devices) (id : PatId) (r : Result Unit Exit) → Runs tree_of IsPatternOf (built source e) a b d f (Ok id)
-    → Runs {X = Unit} itself any (lists_events source (tree b.nodes id.0) subject anchored limit (most_events limit) [] 0) b c f g r → Runs {X = Unit} itself any (whole source e subject anchored limit) a c d g r
-built_listed source e subject anchored limit a b c d f g id r did rest = runs_got tree_of IsPatternOf itself any (built source e) (lists_ways source subject anchored limit) a b c d f g id r did rest
+pub built_listed : (source : Source) (e : ExprId) (subject : List ℕ) (anchored : Bool) (limit : ℕ) (a b c : State) (d f g : Devices) (id : PatId)
+    (r : Result Unit Exit) → Runs tree_of IsPatternOf (built source e) a b d f (Ok id)
+    → Runs {X = Unit} itself any (lists_events source (tree b.nodes id.0) subject anchored limit (most_events limit) [] 0) b c f g r
+    → Runs {X = Unit} itself any (whole source e subject anchored limit) a c d g r
+built_listed source e subject anchored limit a b c d f g id r did rest =
+    runs_got tree_of IsPatternOf itself any (built source e) (lists_ways source subject anchored limit) a b c d f g id r did rest
 
-pub failed_listed : (source : Source) (e : ExprId) (subject : List ℕ) (anchored : Bool) (limit : ℕ) (a b c : State) (d f g : Devices) (r : Result Unit Exit) → Runs {X = PatId} tree_of IsPatternOf (built source e) a b d f (Err Failure)
+pub failed_listed : (source : Source) (e : ExprId) (subject : List ℕ) (anchored : Bool) (limit : ℕ) (a b c : State) (d f g : Devices) (r : Result Unit Exit)
+    → Runs {X = PatId} tree_of IsPatternOf (built source e) a b d f (Err Failure)
     → Runs {X = Unit} itself any (writes (codes "exhausted\n")) b c f g r → Runs {X = Unit} itself any (whole source e subject anchored limit) a c d g r
-failed_listed source e subject anchored limit a b c d f g r did rest = runs_failed {X = PatId} tree_of IsPatternOf itself any (built source e) (lists_ways source subject anchored limit) a b c d f g r did rest
+failed_listed source e subject anchored limit a b c d f g r did rest =
+    runs_failed {X = PatId} tree_of IsPatternOf itself any (built source e) (lists_ways source subject anchored limit) a b c d f g r did rest
 
-pub stopped_listed : (source : Source) (e : ExprId) (subject : List ℕ) (anchored : Bool) (limit : ℕ) (a b : State) (d f : Devices) (why : Stop) → Runs {X = PatId} tree_of IsPatternOf (built source e) a b d f (Err (Halt why))
+pub stopped_listed : (source : Source) (e : ExprId) (subject : List ℕ) (anchored : Bool) (limit : ℕ) (a b : State) (d f : Devices) (why : Stop)
+    → Runs {X = PatId} tree_of IsPatternOf (built source e) a b d f (Err (Halt why))
     → Runs {X = Unit} itself any (whole source e subject anchored limit) a b d f (Err (Halt why))
-stopped_listed source e subject anchored limit a b d f why did = runs_halt {X = PatId} {Y = Unit} tree_of IsPatternOf itself any (built source e) (lists_ways source subject anchored limit) a b d f why did
+stopped_listed source e subject anchored limit a b d f why did =
+    runs_halt {X = PatId} {Y = Unit} tree_of IsPatternOf itself any (built source e) (lists_ways source subject anchored limit) a b d f why did
 
 -- the line of a pattern that failed while it was built
 
 pub line_put : (bytes : List ℕ) (s : State) (x y : Option (List ℕ)) → Appends x y bytes → Performs (writes bytes) s s x y (Ok tt)
 line_put bytes s x y put = record { wrote = bytes; appends = put; ends = λ more. refl; unread = refl }
 
-pub line_cut : (bytes part : List ℕ) (s : State) (x y : Option (List ℕ)) → Begins part bytes → Appends x y part → Performs (writes bytes) s s x y (Err WriteFault)
+pub line_cut : (bytes part : List ℕ) (s : State) (x y : Option (List ℕ)) → Begins part bytes → Appends x y part
+    → Performs (writes bytes) s s x y (Err WriteFault)
 line_cut bytes part s x y begins put = record { wrote = part; appends = put; ends = λ more. begins; unread = refl }
 
 -- how it ended, and what was written, is the listing
-pub listed_as : (source : Source) (e : ExprId) (subject : List ℕ) (anchored : Bool) (limit : ℕ) (b : State) (d f : Devices) (r : Result Unit Exit) → length subject ≤ 1_000_000 → Nothing d.reader → Runs {X = Unit} itself any (whole source e subject anchored limit) (begun anchored limit) b d f r
+pub listed_as : (source : Source) (e : ExprId) (subject : List ℕ) (anchored : Bool) (limit : ℕ) (b : State) (d f : Devices) (r : Result Unit Exit)
+    → length subject ≤ 1_000_000 → Nothing d.reader → Runs {X = Unit} itself any (whole source e subject anchored limit) (begun anchored limit) b d f r
     → (wrote : List ℕ) × Appends d.writer.taken f.writer.taken wrote × Tells (listing source e subject anchored limit) wrote r
-listed_as source e subject anchored limit b d f r short none did = told (whole source e subject anchored limit) (listing source e subject anchored limit) (begun anchored limit) b d f r (listing_is source e subject anchored limit short) none did
+listed_as source e subject anchored limit b d f r short none did =
+    told (whole source e subject anchored limit) (listing source e subject anchored limit) (begun anchored limit) b d f r
+    (listing_is source e subject anchored limit short) none did
 
 -- a fault of the writer is its own
 pub fault_told : (r : Result Unit Exit) (d : Devices) → HasFault r d → r ≡ Err (Halt WriteFault) → d.writer.broken ≡ true
 fault_told r d fault is = rw is at fault
 
 -- what was told of a pattern that is read is its listing
-pub is_listing : (pattern subject : List ℕ) (anchored : Bool) (limit : ℕ) (source : Source) (e : ExprId) (outcome : WaysOutcome) (end : Result Unit Exit) (wrote : List ℕ)
-    → IsRead pattern source e → outcome ≡ outcome_told end → Tells (listing source e subject anchored limit) wrote end → IsListing pattern subject anchored limit outcome wrote
+pub is_listing : (pattern subject : List ℕ) (anchored : Bool) (limit : ℕ) (source : Source) (e : ExprId) (outcome : WaysOutcome)
+    (end : Result Unit Exit) (wrote : List ℕ)
+    → IsRead pattern source e → outcome ≡ outcome_told end → Tells (listing source e subject anchored limit) wrote end
+    → IsListing pattern subject anchored limit outcome wrote
 is_listing pattern subject anchored limit source e outcome (Ok done) wrote read is told =
     rw is (record { source = source; number = e; read = read; ends = rw told.0 refl; written = told.1 })
 is_listing pattern subject anchored limit source e outcome (Err Failure) wrote read is told =
@@ -230,12 +274,23 @@ is_listing pattern subject anchored limit source e outcome (Err (Halt HasEnded))
     rw is (record { source = source; number = e; read = read; ends = rw told.0 refl; written = told.1 })
 
 -- an expression that the reader accepts is read
-pub is_read : (text : List ℕ) (source : Source) (e : ExprId) → ((t : Tree) × IsAccepted text t × Stands source.nodes e t × Uses source.nodes 0 (e ∷ [])) → source.text ≡ text → e.0 < length source.nodes → IsTable (length source.text) source.nodes → source.statements ≡ [] → IsRead text source e
+pub is_read : (text : List ℕ) (source : Source) (e : ExprId) → ((t : Tree) × IsAccepted text t × Stands source.nodes e t × Uses source.nodes 0 (e ∷ []))
+    → source.text ≡ text → e.0 < length source.nodes → IsTable (length source.text) source.nodes → source.statements ≡ [] → IsRead text source e
 is_read text source e accepted same number table none =
-    record { tree = accepted.0; accepted = accepted.1; stands = accepted.2; used = accepted.3; source_text = same; number = number; table = table; statements = none }
+    record {
+      tree = accepted.0;
+      accepted = accepted.1;
+      stands = accepted.2;
+      used = accepted.3;
+      source_text = same;
+      number = number;
+      table = table;
+      statements = none;
+    }
 
 -- a subject that is too long
-pub too_long : (pattern subject : List ℕ) (anchored : Bool) (limit : ℕ) (source : Source) (e : ExprId) → IsRead pattern source e → 1_000_000 < length subject → IsListed pattern subject anchored limit (ways.Error 8) []
+pub too_long : (pattern subject : List ℕ) (anchored : Bool) (limit : ℕ) (source : Source) (e : ExprId) → IsRead pattern source e → 1_000_000 < length subject
+    → IsListed pattern subject anchored limit (ways.Error 8) []
 too_long pattern subject anchored limit source e read h =
     let long : nat_lt 1_000_000 (length subject) ≡ true = lt-ltb 1_000_000 (length subject) h in
     record { source = source; number = e; read = read; ends = rw long refl; written = rw long refl }

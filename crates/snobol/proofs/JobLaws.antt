@@ -1,5 +1,6 @@
 -- The report of a job whose program is refused, and a line that is written in parts.
-use Rattle.std.proofs.Common.{◌≡◌, ◌≢◌, ◌⊎◌, ℕ, ◌+◌, ◌^◌, ◌/◌, ◌%◌, ◌<◌, ◌≤◌, List, [], ◌∷◌, Option, Result, Err, ◌++◌, ap, append_assoc, decimal, inl, inr, refl, subst, sym, ◌∙◌}
+use Rattle.std.proofs.Common.{◌≡◌, ◌≢◌, ◌⊎◌, ℕ, ◌+◌, ◌^◌, ◌/◌, ◌%◌, ◌<◌, ◌≤◌, List, [], ◌∷◌, Option, Result, Err, ◌++◌, ap, append_assoc, decimal, inl, inr}
+use Rattle.std.proofs.Common.{refl, subst, sym, ◌∙◌}
 use Rattle.std.proofs.lemmas.Fmt.{decimal_digit, decimal_step}
 use Rattle.std.specs.Io.KnownBytes.{Appends}
 use Rattle.sno_io.specs.Devices.{Begins, TakesBytes}
@@ -18,7 +19,8 @@ some_status (why.TooLarge line) e = let same = ap (λ (r : Report). r.status) e 
 some_status why.NoMemory e = let same = ap (λ (r : Report). r.status) e in absurd (cc)
 
 -- a text that is no program
-pub refusal_checked : (text : List ℕ) (error : ReadError) → (error ≡ why.NoMemory) ⊎ IsRefusedProgram text error → IsChecked text (refused error) × (refused error ≢ well)
+pub refusal_checked : (text : List ℕ) (error : ReadError) → (error ≡ why.NoMemory) ⊎ IsRefusedProgram text error
+    → IsChecked text (refused error) × (refused error ≢ well)
 refusal_checked text error (inl is) = (no_memory_is (ap refused is), some_status error)
 refusal_checked text error (inr r) = (refused_is error refl r, some_status error)
 
@@ -45,8 +47,10 @@ cut_in_tenth a b n large fits h = subst (λ zs. Cut a b zs) (sym (decimal_step n
 pub cut_in_digit : (a b c : Option (List ℕ)) (n : ℕ) → 10 ≤ n → n < 2 ^ 64 → Appends a b (decimal (n / 10)) → Cut b c ((48 + n % 10) ∷ []) → Cut a c (decimal n)
 cut_in_digit a b c n large fits h k = subst (λ zs. Cut a c zs) (sym (decimal_step n large fits)) (cut_then a b c (decimal (n / 10)) ((48 + n % 10) ∷ []) h k)
 
-pub all_digits : (a b c : Option (List ℕ)) (n : ℕ) → 10 ≤ n → n < 2 ^ 64 → Appends a b (decimal (n / 10)) → Appends b c ((48 + n % 10) ∷ []) → Appends a c (decimal n)
-all_digits a b c n large fits h k = subst (λ zs. Appends a c zs) (sym (decimal_step n large fits)) (appends_then a b c (decimal (n / 10)) ((48 + n % 10) ∷ []) h k)
+pub all_digits : (a b c : Option (List ℕ)) (n : ℕ) → 10 ≤ n → n < 2 ^ 64 → Appends a b (decimal (n / 10)) → Appends b c ((48 + n % 10) ∷ [])
+    → Appends a c (decimal n)
+all_digits a b c n large fits h k =
+    subst (λ zs. Appends a c zs) (sym (decimal_step n large fits)) (appends_then a b c (decimal (n / 10)) ((48 + n % 10) ∷ []) h k)
 
 pub cut_alone : (a b : Option (List ℕ)) (n : ℕ) → n < 10 → Cut a b ((48 + n) ∷ []) → Cut a b (decimal n)
 cut_alone a b n small h = subst (λ zs. Cut a b zs) (sym (decimal_digit n small)) h

@@ -16,7 +16,8 @@ use Rattle.snobol.specs.Running.{Devices, CanRun, Runs, MeetsRunning}
 use Rattle.snobol.proofs.RunningLaws.{does_runs}
 
 -- an action that is another one in the worlds of a state
-runs_as : {X A : Type 0} (see : List Node → X → A) (fits : List Node → X → Type 0) (act other : Action A) (a b : State) (d e : Devices) (r : Result X Exit) → ((more : List ℕ) → act (world a more) ≡ other (world a more)) → Runs see fits other a b d e r → Runs see fits act a b d e r
+runs_as : {X A : Type 0} (see : List Node → X → A) (fits : List Node → X → Type 0) (act other : Action A) (a b : State) (d e : Devices) (r : Result X Exit)
+    → ((more : List ℕ) → act (world a more) ≡ other (world a more)) → Runs see fits other a b d e r → Runs see fits act a b d e r
 runs_as {A = A} see fits act other a b d e r same p = record {
   given = p.given;
   wrote = p.wrote;
@@ -53,13 +54,22 @@ module _ (call : Caller) (f : ℕ) (xs : List Value) where
   other_call IsField none other = absurd (cc other)
 
   module _ (a b : State) (d : Devices) (r : Result Stored Exit) where
-    pub constructed_runs : (number : ℕ) → CanRun a d → as_constructor (function_at a.store.functions f) ≡ Some number → Does shown IsValueOf (constructs number xs) a b r → Runs shown IsValueOf (made_call call f xs) a b d d r
+    pub constructed_runs : (number : ℕ) → CanRun a d → as_constructor (function_at a.store.functions f) ≡ Some number
+        → Does shown IsValueOf (constructs number xs) a b r → Runs shown IsValueOf (made_call call f xs) a b d d r
     constructed_runs number can is did =
-        runs_as shown IsValueOf (made_call call f xs) (constructs number xs) a b d d r (λ more. ap (λ (act : Action Value). act (world a more)) (constructor_call (function_at a.store.functions f) number is)) (does_runs shown IsValueOf (constructs number xs) a b d r can did)
+        runs_as shown IsValueOf (made_call call f xs) (constructs number xs) a b d d r
+        (λ more. ap (λ (act : Action Value). act (world a more)) (constructor_call (function_at a.store.functions f) number is))
+        (does_runs shown IsValueOf (constructs number xs) a b d r can did)
 
-    pub field_runs : CanRun a d → is_field (function_at a.store.functions f) ≡ true → Does shown IsValueOf (field_value f (argument xs 0)) a b r → Runs shown IsValueOf (made_call call f xs) a b d d r
+    pub field_runs : CanRun a d → is_field (function_at a.store.functions f) ≡ true → Does shown IsValueOf (field_value f (argument xs 0)) a b r
+        → Runs shown IsValueOf (made_call call f xs) a b d d r
     field_runs can is did =
-        runs_as shown IsValueOf (made_call call f xs) (field_value f (argument xs 0)) a b d d r (λ more. ap (λ (act : Action Value). act (world a more)) (field_call (function_at a.store.functions f) is)) (does_runs shown IsValueOf (field_value f (argument xs 0)) a b d r can did)
+        runs_as shown IsValueOf (made_call call f xs) (field_value f (argument xs 0)) a b d d r
+        (λ more. ap (λ (act : Action Value). act (world a more)) (field_call (function_at a.store.functions f) is))
+        (does_runs shown IsValueOf (field_value f (argument xs 0)) a b d r can did)
 
-    pub defined_runs : (e : Devices) → as_constructor (function_at a.store.functions f) ≡ None → is_field (function_at a.store.functions f) ≡ false → Runs shown IsValueOf (call f xs) a b d e r → Runs shown IsValueOf (made_call call f xs) a b d e r
-    defined_runs e none other p = runs_as shown IsValueOf (made_call call f xs) (call f xs) a b d e r (λ more. ap (λ (act : Action Value). act (world a more)) (other_call (function_at a.store.functions f) none other)) p
+    pub defined_runs : (e : Devices) → as_constructor (function_at a.store.functions f) ≡ None → is_field (function_at a.store.functions f) ≡ false
+        → Runs shown IsValueOf (call f xs) a b d e r → Runs shown IsValueOf (made_call call f xs) a b d e r
+    defined_runs e none other p =
+        runs_as shown IsValueOf (made_call call f xs) (call f xs) a b d e r
+        (λ more. ap (λ (act : Action Value). act (world a more)) (other_call (function_at a.store.functions f) none other)) p

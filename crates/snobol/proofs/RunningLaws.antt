@@ -1,5 +1,6 @@
 -- How functions join that read and write what their actions do.
-use Rattle.std.proofs.Common.{◌≡◌, ℕ, Bool, true, false, List, [], ◌++◌, refl, ap, sym, ◌∙◌, subst, append_assoc, arith, Option, None, Some, Result, Ok, Err, OnOk}
+use Rattle.std.proofs.Common.{◌≡◌, ℕ, Bool, true, false, List, [], ◌++◌, refl, ap, sym, ◌∙◌, subst, append_assoc, arith, Option, None, Some, Result, Ok, Err}
+use Rattle.std.proofs.Common.{OnOk}
 use Rattle.std.proofs.lemmas.List.{append-nil}
 use Rattle.sno_io.specs.Devices.{Begins, Drain, Feed}
 use Rattle.sno_io.proofs.Bytes.{consumes_then, appends_then}
@@ -47,12 +48,14 @@ running_meets see o w (Err (Halt WriteFault)) h = absurd h
 running_meets see o w (Err (Halt (HasErrorIn code statement))) h = absurd h
 running_meets see o w (Err (Halt HasEnded)) h = absurd h
 
-running_ready : {X : Type 0} (r : Result X Exit) (s : State) (f : Feed) (w : Drain) → w.broken ≡ false → OnGoing r (IsReady s f) → OnGoing r (CanRun s (devices f w))
+running_ready : {X : Type 0} (r : Result X Exit) (s : State) (f : Feed) (w : Drain) → w.broken ≡ false → OnGoing r (IsReady s f)
+    → OnGoing r (CanRun s (devices f w))
 running_ready (Ok x) s f w sound h = record { reads = h; writes = sound }
 running_ready (Err Failure) s f w sound h = record { reads = h; writes = sound }
 running_ready (Err (Halt why)) s f w sound h = tt
 
-running_cause : {X A : Type 0} (see : X → A) (o : Outcome A) (v : World) (r : Result X Exit) (f : Feed) (w : Drain) → MeetsReading see o v r → HasCause r f → HasFault r (devices f w)
+running_cause : {X A : Type 0} (see : X → A) (o : Outcome A) (v : World) (r : Result X Exit) (f : Feed) (w : Drain) → MeetsReading see o v r → HasCause r f
+    → HasFault r (devices f w)
 running_cause see o v (Ok x) f w m h = tt
 running_cause see o v (Err Failure) f w m h = tt
 running_cause see o v (Err (Halt (HasError code))) f w m h = tt
@@ -62,7 +65,8 @@ running_cause see o v (Err (Halt WriteFault)) f w m h = absurd m
 running_cause see o v (Err (Halt (HasErrorIn code statement))) f w m h = tt
 running_cause see o v (Err (Halt HasEnded)) f w m h = tt
 
-pub reads_runs : {X A : Type 0} (see : List Node → X → A) (fits : List Node → X → Type 0) (act : Action A) (a b : State) (f g : Feed) (w : Drain) (r : Result X Exit) → w.broken ≡ false
+pub reads_runs : {X A : Type 0} (see : List Node → X → A) (fits : List Node → X → Type 0) (act : Action A) (a b : State) (f g : Feed) (w : Drain)
+    (r : Result X Exit) → w.broken ≡ false
     → Reads see fits act a b f g r → Runs see fits act a b (devices f w) (devices g w) r
 reads_runs see fits act a b f g w r sound did = record {
   given = did.given;
@@ -81,8 +85,10 @@ reads_runs see fits act a b f g w r sound did = record {
 }
 
 -- what reads and writes nothing
-pub does_runs : {X A : Type 0} (see : List Node → X → A) (fits : List Node → X → Type 0) (act : Action A) (a b : State) (d : Devices) (r : Result X Exit) → CanRun a d → Does see fits act a b r → Runs see fits act a b d d r
-does_runs see fits act a b d r can did = reads_runs see fits act a b d.reader d.reader d.writer r can.writes (reads_nothing see fits act a b d.reader r can.reads did)
+pub does_runs : {X A : Type 0} (see : List Node → X → A) (fits : List Node → X → Type 0) (act : Action A) (a b : State) (d : Devices) (r : Result X Exit)
+    → CanRun a d → Does see fits act a b r → Runs see fits act a b d d r
+does_runs see fits act a b d r can did =
+    reads_runs see fits act a b d.reader d.reader d.writer r can.writes (reads_nothing see fits act a b d.reader r can.reads did)
 
 -- what writes, and reads nothing
 
@@ -99,7 +105,8 @@ performed_meets o w wrote (Err WriteFault) h = h
 performed_meets o w wrote (Err (HasErrorIn code statement)) h = absurd h
 performed_meets o w wrote (Err HasEnded) h = absurd h
 
-performed_cause : (o : Outcome Unit) (w : World) (wrote : List ℕ) (r : Result Unit Stop) (d : Devices) → Ends o w wrote r → (r ≡ Err WriteFault → d.writer.broken ≡ true) → HasFault (exited r) d
+performed_cause : (o : Outcome Unit) (w : World) (wrote : List ℕ) (r : Result Unit Stop) (d : Devices) → Ends o w wrote r
+    → (r ≡ Err WriteFault → d.writer.broken ≡ true) → HasFault (exited r) d
 performed_cause o w wrote (Ok done) d h fault = tt
 performed_cause o w wrote (Err (HasError code)) d h fault = tt
 performed_cause o w wrote (Err NoMemory) d h fault = tt
@@ -108,7 +115,8 @@ performed_cause o w wrote (Err WriteFault) d h fault = fault refl
 performed_cause o w wrote (Err (HasErrorIn code statement)) d h fault = tt
 performed_cause o w wrote (Err HasEnded) d h fault = tt
 
-performed_ready : (r : Result Unit Stop) (a b : State) (f : Feed) (w : Drain) → untouched b ≡ untouched a → IsReady a f → OnOk r (w.broken ≡ false) → OnGoing (exited r) (CanRun b (devices f w))
+performed_ready : (r : Result Unit Stop) (a b : State) (f : Feed) (w : Drain) → untouched b ≡ untouched a → IsReady a f → OnOk r (w.broken ≡ false)
+    → OnGoing (exited r) (CanRun b (devices f w))
 performed_ready (Ok done) a b f w u ready sound = record { reads = ready_unread a b f u ready; writes = sound }
 performed_ready (Err why) a b f w u ready sound = tt
 
@@ -116,7 +124,8 @@ performed_answer : (nodes : List Node) (r : Result Unit Stop) → OnAnswer {X = 
 performed_answer nodes (Ok done) = tt
 performed_answer nodes (Err why) = tt
 
-pub performs_runs : (act : Action Unit) (a b : State) (f : Feed) (v w : Drain) (r : Result Unit Stop) → IsReady a f → b.nodes ≡ a.nodes → OnOk r (w.broken ≡ false) → (r ≡ Err WriteFault → w.broken ≡ true)
+pub performs_runs : (act : Action Unit) (a b : State) (f : Feed) (v w : Drain) (r : Result Unit Stop) → IsReady a f → b.nodes ≡ a.nodes
+    → OnOk r (w.broken ≡ false) → (r ≡ Err WriteFault → w.broken ≡ true)
     → Performs act a b v.taken w.taken r → Runs {X = Unit} itself any act a b (devices f v) (devices f w) (exited r)
 performs_runs act a b f v w r ready nodes sound fault did = record {
   given = [];
@@ -150,17 +159,22 @@ meets_behind look o w front wrote (Err (Halt WriteFault)) h = begins_behind fron
 meets_behind look o w front wrote (Err (Halt (HasErrorIn code statement))) h = (h.0, ap (λ bytes. front ++ bytes) h.1)
 meets_behind look o w front wrote (Err (Halt HasEnded)) h = (h.0, ap (λ bytes. front ++ bytes) h.1)
 
-settled_got : {Y A B : Type 0} (look : Y → B) (k : Option A → Action B) (o : Outcome A) (x : A) (v w : World) (front wrote : List ℕ) (r : Result Y Exit) → o ≡ record { ending = Got x; world = v; wrote = front } → MeetsRunning look (k (Some x) v) w wrote r
+settled_got : {Y A B : Type 0} (look : Y → B) (k : Option A → Action B) (o : Outcome A) (x : A) (v w : World) (front wrote : List ℕ) (r : Result Y Exit)
+    → o ≡ record { ending = Got x; world = v; wrote = front } → MeetsRunning look (k (Some x) v) w wrote r
     → MeetsRunning look (settled o.ending o.world o.wrote k) w (front ++ wrote) r
 settled_got look k o x v w front wrote r is h =
-    subst (λ (q : Outcome _). MeetsRunning look (settled q.ending q.world q.wrote k) w (front ++ wrote) r) (sym is) (meets_behind look (k (Some x) v) w front wrote r h)
+    subst (λ (q : Outcome _). MeetsRunning look (settled q.ending q.world q.wrote k) w (front ++ wrote) r) (sym is)
+    (meets_behind look (k (Some x) v) w front wrote r h)
 
-settled_fails : {Y A B : Type 0} (look : Y → B) (k : Option A → Action B) (o : Outcome A) (v w : World) (front wrote : List ℕ) (r : Result Y Exit) → o ≡ record { ending = Fails; world = v; wrote = front } → MeetsRunning look (k None v) w wrote r
+settled_fails : {Y A B : Type 0} (look : Y → B) (k : Option A → Action B) (o : Outcome A) (v w : World) (front wrote : List ℕ) (r : Result Y Exit)
+    → o ≡ record { ending = Fails; world = v; wrote = front } → MeetsRunning look (k None v) w wrote r
     → MeetsRunning look (settled o.ending o.world o.wrote k) w (front ++ wrote) r
 settled_fails look k o v w front wrote r is h =
-    subst (λ (q : Outcome _). MeetsRunning look (settled q.ending q.world q.wrote k) w (front ++ wrote) r) (sym is) (meets_behind look (k None v) w front wrote r h)
+    subst (λ (q : Outcome _). MeetsRunning look (settled q.ending q.world q.wrote k) w (front ++ wrote) r) (sym is)
+    (meets_behind look (k None v) w front wrote r h)
 
-pub runs_got : {X Y A B : Type 0} (see : List Node → X → A) (fits : List Node → X → Type 0) (look : List Node → Y → B) (suits : List Node → Y → Type 0) (act : Action A) (k : Option A → Action B) (a b c : State) (d e f : Devices) (x : X) (r : Result Y Exit)
+pub runs_got : {X Y A B : Type 0} (see : List Node → X → A) (fits : List Node → X → Type 0) (look : List Node → Y → B) (suits : List Node → Y → Type 0)
+    (act : Action A) (k : Option A → Action B) (a b c : State) (d e f : Devices) (x : X) (r : Result Y Exit)
     → Runs see fits act a b d e (Ok x) → Runs look suits (k (Some (see b.nodes x))) b c e f r → Runs look suits (settles act k) a c d f r
 unfolding settles
 runs_got {A = A} see fits look suits act k a b c d e f x r p q = record {
@@ -174,14 +188,17 @@ runs_got {A = A} see fits look suits act k a b c d e f x r p q = record {
   goes = goes_twice a.keywords b.keywords c.keywords p.goes q.goes;
   calls = on_going_then r (c.store.calls ≡ b.store.calls) (c.store.calls ≡ a.store.calls) (λ same. same ∙ p.calls) q.calls;
   meets = λ more none.
-      subst (λ (bytes : List ℕ). MeetsRunning (look c.nodes) (settled (act (world a bytes)).ending (act (world a bytes)).world (act (world a bytes)).wrote k) (world c more) (p.wrote ++ q.wrote) r) (sym (append_assoc p.given q.given more))
-      (settled_got (look c.nodes) k (act (world a (p.given ++ (q.given ++ more)))) (see b.nodes x) (world b (q.given ++ more)) (world c more) p.wrote q.wrote r (p.meets (q.given ++ more) (λ told. let n = q.ended told in none_given q.given more n.0 (none n.1))) (q.meets more none));
+      subst (λ (bytes : List ℕ). MeetsRunning (look c.nodes) (settled (act (world a bytes)).ending (act (world a bytes)).world (act (world a bytes)).wrote k)
+      (world c more) (p.wrote ++ q.wrote) r) (sym (append_assoc p.given q.given more))
+      (settled_got (look c.nodes) k (act (world a (p.given ++ (q.given ++ more)))) (see b.nodes x) (world b (q.given ++ more)) (world c more) p.wrote q.wrote r
+      (p.meets (q.given ++ more) (λ told. let n = q.ended told in none_given q.given more n.0 (none n.1))) (q.meets more none));
   answer = q.answer;
   ready = q.ready;
   cause = q.cause;
 }
 
-pub runs_failed : {X Y A B : Type 0} (see : List Node → X → A) (fits : List Node → X → Type 0) (look : List Node → Y → B) (suits : List Node → Y → Type 0) (act : Action A) (k : Option A → Action B) (a b c : State) (d e f : Devices) (r : Result Y Exit)
+pub runs_failed : {X Y A B : Type 0} (see : List Node → X → A) (fits : List Node → X → Type 0) (look : List Node → Y → B) (suits : List Node → Y → Type 0)
+    (act : Action A) (k : Option A → Action B) (a b c : State) (d e f : Devices) (r : Result Y Exit)
     → Runs {X = X} see fits act a b d e (Err Failure) → Runs look suits (k None) b c e f r → Runs look suits (settles act k) a c d f r
 unfolding settles
 runs_failed {A = A} see fits look suits act k a b c d e f r p q = record {
@@ -195,19 +212,24 @@ runs_failed {A = A} see fits look suits act k a b c d e f r p q = record {
   goes = goes_twice a.keywords b.keywords c.keywords p.goes q.goes;
   calls = on_going_then r (c.store.calls ≡ b.store.calls) (c.store.calls ≡ a.store.calls) (λ same. same ∙ p.calls) q.calls;
   meets = λ more none.
-      subst (λ (bytes : List ℕ). MeetsRunning (look c.nodes) (settled (act (world a bytes)).ending (act (world a bytes)).world (act (world a bytes)).wrote k) (world c more) (p.wrote ++ q.wrote) r) (sym (append_assoc p.given q.given more))
-      (settled_fails (look c.nodes) k (act (world a (p.given ++ (q.given ++ more)))) (world b (q.given ++ more)) (world c more) p.wrote q.wrote r (p.meets (q.given ++ more) (λ told. let n = q.ended told in none_given q.given more n.0 (none n.1))) (q.meets more none));
+      subst (λ (bytes : List ℕ). MeetsRunning (look c.nodes) (settled (act (world a bytes)).ending (act (world a bytes)).world (act (world a bytes)).wrote k)
+      (world c more) (p.wrote ++ q.wrote) r) (sym (append_assoc p.given q.given more))
+      (settled_fails (look c.nodes) k (act (world a (p.given ++ (q.given ++ more)))) (world b (q.given ++ more)) (world c more) p.wrote q.wrote r
+      (p.meets (q.given ++ more) (λ told. let n = q.ended told in none_given q.given more n.0 (none n.1))) (q.meets more none));
   answer = q.answer;
   ready = q.ready;
   cause = q.cause;
 }
 
-begins_settled : {A B : Type 0} (end : Ending A) (w : World) (xs wrote : List ℕ) (k : Option A → Action B) → Begins wrote xs → Begins wrote (settled end w xs k).wrote
-begins_settled (Got x) w xs wrote k h = (h.0 ++ (k (Some x) w).wrote, sym (append_assoc wrote h.0 (k (Some x) w).wrote) ∙ ap (λ bytes. bytes ++ (k (Some x) w).wrote) h.1)
+begins_settled : {A B : Type 0} (end : Ending A) (w : World) (xs wrote : List ℕ) (k : Option A → Action B) → Begins wrote xs
+    → Begins wrote (settled end w xs k).wrote
+begins_settled (Got x) w xs wrote k h =
+    (h.0 ++ (k (Some x) w).wrote, sym (append_assoc wrote h.0 (k (Some x) w).wrote) ∙ ap (λ bytes. bytes ++ (k (Some x) w).wrote) h.1)
 begins_settled Fails w xs wrote k h = (h.0 ++ (k None w).wrote, sym (append_assoc wrote h.0 (k None w).wrote) ∙ ap (λ bytes. bytes ++ (k None w).wrote) h.1)
 begins_settled (Stops why) w xs wrote k h = h
 
-settled_halt : {X Y A B : Type 0} (see : X → A) (look : Y → B) (k : Option A → Action B) (o : Outcome A) (w : World) (wrote : List ℕ) (why : Stop) → MeetsRunning {X = X} see o w wrote (Err (Halt why))
+settled_halt : {X Y A B : Type 0} (see : X → A) (look : Y → B) (k : Option A → Action B) (o : Outcome A) (w : World) (wrote : List ℕ) (why : Stop)
+    → MeetsRunning {X = X} see o w wrote (Err (Halt why))
     → MeetsRunning {X = Y} look (settled o.ending o.world o.wrote k) w wrote (Err (Halt why))
 settled_halt see look k o w wrote (HasError code) h = rw h.0 (refl, h.1)
 settled_halt see look k o w wrote NoMemory h = begins_settled o.ending o.world o.wrote wrote k h
@@ -224,7 +246,8 @@ same_fault X Y WriteFault d h = h
 same_fault X Y (HasErrorIn code statement) d h = tt
 same_fault X Y HasEnded d h = tt
 
-pub runs_halt : {X Y A B : Type 0} (see : List Node → X → A) (fits : List Node → X → Type 0) (look : List Node → Y → B) (suits : List Node → Y → Type 0) (act : Action A) (k : Option A → Action B) (a b : State) (d e : Devices) (why : Stop)
+pub runs_halt : {X Y A B : Type 0} (see : List Node → X → A) (fits : List Node → X → Type 0) (look : List Node → Y → B) (suits : List Node → Y → Type 0)
+    (act : Action A) (k : Option A → Action B) (a b : State) (d e : Devices) (why : Stop)
     → Runs {X = X} see fits act a b d e (Err (Halt why)) → Runs {X = Y} look suits (settles act k) a b d e (Err (Halt why))
 unfolding settles
 runs_halt {X = X} {Y = Y} see fits look suits act k a b d e why p = record {
@@ -245,16 +268,21 @@ runs_halt {X = X} {Y = Y} see fits look suits act k a b d e why p = record {
 
 -- the same of what goes on only with a value
 
-pub then_runs : {X Y A B : Type 0} (see : List Node → X → A) (fits : List Node → X → Type 0) (look : List Node → Y → B) (suits : List Node → Y → Type 0) (act : Action A) (next : A → Action B) (a b c : State) (d e f : Devices) (x : X) (r : Result Y Exit)
+pub then_runs : {X Y A B : Type 0} (see : List Node → X → A) (fits : List Node → X → Type 0) (look : List Node → Y → B) (suits : List Node → Y → Type 0)
+    (act : Action A) (next : A → Action B) (a b c : State) (d e f : Devices) (x : X) (r : Result Y Exit)
     → Runs see fits act a b d e (Ok x) → Runs look suits (next (see b.nodes x)) b c e f r → Runs look suits (and_then act next) a c d f r
 then_runs see fits look suits act next a b c d e f x r p q = runs_got see fits look suits act (either fails next) a b c d e f x r p q
 
-pub then_ended : {X Y A B : Type 0} (see : List Node → X → A) (fits : List Node → X → Type 0) (look : List Node → Y → B) (suits : List Node → Y → Type 0) (act : Action A) (next : A → Action B) (a b : State) (d e : Devices) (x : Exit)
+pub then_ended : {X Y A B : Type 0} (see : List Node → X → A) (fits : List Node → X → Type 0) (look : List Node → Y → B) (suits : List Node → Y → Type 0)
+    (act : Action A) (next : A → Action B) (a b : State) (d e : Devices) (x : Exit)
     → Runs {X = X} see fits act a b d e (Err x) → Runs {X = Y} look suits (and_then act next) a b d e (Err x)
 then_ended see fits look suits act next a b d e Failure p =
-    runs_failed see fits look suits act (either fails next) a b b d e e (Err Failure) p (does_runs look suits fails b b e (Err Failure) p.ready (fails_does look suits b))
+    runs_failed see fits look suits act (either fails next) a b b d e e (Err Failure) p
+    (does_runs look suits fails b b e (Err Failure) p.ready (fails_does look suits b))
 then_ended see fits look suits act next a b d e (Halt why) p = runs_halt see fits look suits act (either fails next) a b d e why p
 
 -- a result that is known to be another
-pub answered : {X A : Type 0} {see : List Node → X → A} {fits : List Node → X → Type 0} {act : Action A} {a b : State} {d e : Devices} {r s : Result X Exit} → r ≡ s → Runs see fits act a b d e s → Runs see fits act a b d e r
-answered {X} {see = see} {fits = fits} {act = act} {a = a} {b = b} {d = d} {e = e} same did = subst (λ (result : Result X Exit). Runs see fits act a b d e result) (sym same) did
+pub answered : {X A : Type 0} {see : List Node → X → A} {fits : List Node → X → Type 0} {act : Action A} {a b : State} {d e : Devices} {r s : Result X Exit}
+    → r ≡ s → Runs see fits act a b d e s → Runs see fits act a b d e r
+answered {X} {see = see} {fits = fits} {act = act} {a = a} {b = b} {d = d} {e = e} same did =
+    subst (λ (result : Result X Exit). Runs see fits act a b d e result) (sym same) did

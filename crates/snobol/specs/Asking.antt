@@ -13,8 +13,8 @@ use Rattle.snobol.specs.Meaning.{joins_names}
 use Rattle.sno_machine.specs.State.{State, world}
 use Rattle.snobol.specs.Running.{Devices, Runs, ran_in}
 
--- what contracts see of such a machine: the program that its expressions are of, what they can change, and the stop that
--- it has answered
+-- what contracts see of such a machine: the program that its expressions are of, what they can change, and the stop
+-- that it has answered
 pub record Asked : Type 0 where
   pub source : Source
   pub state : State
@@ -33,20 +33,24 @@ stopped_by (Err Failure) = None
 stopped_by (Err (Halt why)) = Some (ran_in 0 (Halt why))
 
 -- A call did what the action does, and answered it.
-abbrev pub Asks : {X A : Type 0} → (List Node → X → A) → (List Node → X → Type 0) → Action A → Asked → Asked → Devices → Devices → Result (Option X) RunOutcome → Type 0
+abbrev pub Asks : {X A : Type 0} → (List Node → X → A) → (List Node → X → Type 0) → Action A → Asked → Asked → Devices
+    → Devices → Result (Option X) RunOutcome → Type 0
 Asks {X} see fits act before after old new result =
-    (r : Result X Exit) × (result ≡ answered r) × (after.stopped ≡ stopped_by r) × (after.source ≡ before.source) × Runs see fits act before.state after.state old new r
+    (r : Result X Exit) × (result ≡ answered r) × (after.stopped ≡ stopped_by r) × (after.source ≡ before.source)
+    × Runs see fits act before.state after.state old new r
 
 -- the names of the program join the symbols, before the first statement
 abbrev pub joined : Source → Limits → List ℕ → Outcome Unit
-joined source limits input = joins_names source.text source.nodes (new_world input (new_keywords false limits.statements limits.match_steps))
+joined source limits input =
+    joins_names source.text source.nodes (new_world input (new_keywords false limits.statements limits.match_steps))
 
 -- a machine of which nothing was asked yet, whatever the input
 pub record IsNew (source : Source) (limits : Limits) (m : Asked) : Type 0 where
   pub program : m.source ≡ source
   pub going : m.stopped ≡ None
   pub unread : m.state.reading ≡ record { held = []; told_end = false; stopped = None }
-  pub names : (input : List ℕ) → joined source limits input ≡ record { ending = Got tt; world = world m.state input; wrote = [] }
+  pub names : (input : List ℕ) → joined source limits input
+      ≡ record { ending = Got tt; world = world m.state input; wrote = [] }
 
 -- the names are too many for a store, or one is too long for a string
 abbrev pub IsTooMuch : ℕ → Type 0

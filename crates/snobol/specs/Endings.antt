@@ -10,7 +10,8 @@ number_text (Some number) = decimal number
 
 -- a line of two texts, each with a number behind it or none
 abbrev pub line_of : List ℕ → Option ℕ → List ℕ → Option ℕ → List ℕ
-line_of text number more last = codes "snobol4: " ++ (text ++ (number_text number ++ (more ++ (number_text last ++ codes "\n"))))
+line_of text number more last =
+    codes "snobol4: " ++ (text ++ (number_text number ++ (more ++ (number_text last ++ codes "\n"))))
 
 -- what a status and a line of this form report
 abbrev pub report_of : ℕ → Option FaultLine → Report

@@ -1,5 +1,6 @@
 -- What the program does for a job, its status, and what it tells on standard error.
-use Rattle.std.specs.Prelude.{◌≡◌, ◌≢◌, ℕ, ◌==◌, Bool, false, List, [], ◌++◌, Option, None, Some, codes, decimal, if◌then◌else◌}
+use Rattle.std.specs.Prelude.{◌≡◌, ◌≢◌, ℕ, ◌==◌, Bool, false, List, [], ◌++◌, Option, None, Some, codes, decimal}
+use Rattle.std.specs.Prelude.{if◌then◌else◌}
 use Rattle.std.specs.Io.KnownBytes.{Appends}
 use Rattle.sno_io.specs.Devices.{Begins}
 use Rattle.std.specs.Borrow.{Bor}
@@ -57,24 +58,40 @@ error_status code = if code == 20 then 4 else if code == 21 then 5 else 1
 
 -- a program or a pattern is refused
 abbrev pub refused : ReadError → Report
-refused (why.Syntax line code) = record { status = 2; line = codes "snobol4: syntax " ++ (decimal code ++ (codes " at line " ++ (decimal line ++ codes "\n"))) }
-refused (why.DuplicateLabel line) = record { status = 2; line = codes "snobol4: duplicate label at line " ++ (decimal line ++ codes "\n") }
+refused (why.Syntax line code) =
+    record {
+      status = 2;
+      line = codes "snobol4: syntax "
+          ++ (decimal code ++ (codes " at line " ++ (decimal line ++ codes "\n")));
+    }
+refused (why.DuplicateLabel line) =
+    record { status = 2; line = codes "snobol4: duplicate label at line " ++ (decimal line ++ codes "\n") }
 refused why.NoEnd = record { status = 2; line = codes "snobol4: no END\n" }
-refused (why.TooLarge line) = record { status = 2; line = codes "snobol4: too large at line " ++ (decimal line ++ codes "\n") }
+refused (why.TooLarge line) =
+    record { status = 2; line = codes "snobol4: too large at line " ++ (decimal line ++ codes "\n") }
 refused why.NoMemory = no_memory
 
 -- after a listing
 abbrev pub listed : WaysOutcome → Report
 listed Done = well
 listed (Refused error) = refused error
-listed (Error code) = record { status = error_status code; line = codes "snobol4: error " ++ (decimal code ++ codes "\n") }
+listed (Error code) = record {
+  status = error_status code;
+  line = codes "snobol4: error "
+      ++ (decimal code ++ codes "\n");
+}
 listed NoMemory = no_memory
 listed WriteFault = write_fault
 
 -- after a run
 abbrev pub ran : RunOutcome → Report
 ran run.Ended = well
-ran (run.Error code statement) = record { status = error_status code; line = codes "snobol4: error " ++ (decimal code ++ (codes " in statement " ++ (decimal statement ++ codes "\n"))) }
+ran (run.Error code statement) =
+    record {
+      status = error_status code;
+      line = codes "snobol4: error "
+          ++ (decimal code ++ (codes " in statement " ++ (decimal statement ++ codes "\n")));
+    }
 ran run.NoMemory = no_memory
 ran run.ReadFault = read_fault
 ran run.WriteFault = write_fault
@@ -91,19 +108,25 @@ pub data IsChecked (text : List ℕ) (report : Report) : Type 0 where
   refused_is : (error : ReadError) → report ≡ refused error → IsRefusedProgram text error → IsChecked text report
   no_memory_is : report ≡ no_memory → IsChecked text report
 
--- The text is a program, which was read and run: for whatever input there may be it wrote what it means, or a beginning.
-pub record IsRunOf (text : List ℕ) (limits : Limits) (outcome : RunOutcome) (given : List ℕ) (at_end : Bool) (wrote : List ℕ) : Type 0 where
+-- The text is a program, which was read and run: for whatever
+-- input there may be it wrote what it means, or a beginning.
+pub record IsRunOf (text : List ℕ) (limits : Limits) (outcome : RunOutcome) (given : List ℕ) (at_end : Bool)
+    (wrote : List ℕ) : Type 0 where
   pub statements : List StatementTree
   pub program : IsProgram text statements
   pub source : Source
   pub stands : StandsProgram source text statements
   pub source_text : source.text ≡ text
-  pub meets : (input : List ℕ) → IsPossible given at_end input → MeetsOutcome (meaning source limits input) wrote outcome
+  pub meets : (input : List ℕ) → IsPossible given at_end input
+      → MeetsOutcome (meaning source limits input) wrote outcome
 
 -- the text is refused, which reads and writes nothing, or it was run
-pub data IsRunFile (text : List ℕ) (limits : Limits) (report : Report) (given : List ℕ) (at_end : Bool) (wrote : List ℕ) : Type 0 where
-  not_read : given ≡ [] → wrote ≡ [] → IsChecked text report → report ≢ well → IsRunFile text limits report given at_end wrote
-  was_run : (outcome : RunOutcome) → IsRunOf text limits outcome given at_end wrote → report ≡ ran outcome → IsRunFile text limits report given at_end wrote
+pub data IsRunFile (text : List ℕ) (limits : Limits) (report : Report) (given : List ℕ) (at_end : Bool)
+    (wrote : List ℕ) : Type 0 where
+  not_read : given ≡ [] → wrote ≡ [] → IsChecked text report → report ≢ well
+      → IsRunFile text limits report given at_end wrote
+  was_run : (outcome : RunOutcome) → IsRunOf text limits outcome given at_end wrote → report ≡ ran outcome
+      → IsRunFile text limits report given at_end wrote
 
 -- the job was done with this report, where the file holds these bytes (nothing, where it can't be read), and these were
 -- given by the reader, which may have told its end, and written
@@ -111,6 +134,7 @@ abbrev pub IsDone : Job → Option (Bor (List ℕ)) → Report → List ℕ → 
 IsDone (Run name limits) None report given at_end wrote = (given ≡ []) × (wrote ≡ []) × (report ≡ unread name.now)
 IsDone (Run name limits) (Some text) report given at_end wrote = IsRunFile text.now limits report given at_end wrote
 IsDone (Ways anchored steps pattern subject) file report given at_end wrote =
-    (given ≡ []) × ((outcome : WaysOutcome) × IsListing pattern.now subject.now anchored steps outcome wrote × (report ≡ listed outcome))
+    (given ≡ []) × ((outcome : WaysOutcome) × IsListing pattern.now subject.now anchored steps outcome wrote
+    × (report ≡ listed outcome))
 IsDone (Check name) None report given at_end wrote = (given ≡ []) × (wrote ≡ []) × (report ≡ unread name.now)
 IsDone (Check name) (Some text) report given at_end wrote = (given ≡ []) × (wrote ≡ []) × IsChecked text.now report

@@ -6,9 +6,11 @@ use Rattle.sno_text.specs.Source.{Source}
 use Rattle.sno_pattern.specs.Pattern.{Pattern}
 use Rattle.sno_match.specs.Search.{Event, Answer, trace}
 use Rattle.snobol.specs.declared.enumeration.WaysOutcome.{WaysOutcome}
-use Rattle.snobol.specs.declared.enumeration.WaysOutcome.TheVariants.{Done, Refused, Error as HasError, NoMemory, WriteFault}
+use Rattle.snobol.specs.declared.enumeration.WaysOutcome.TheVariants.{Done, Refused, Error as HasError, NoMemory}
+use Rattle.snobol.specs.declared.enumeration.WaysOutcome.TheVariants.{WriteFault}
 use Rattle.sno_machine.specs.World.{new_world, listing_keywords}
-use Rattle.sno_machine.specs.Action.{Error, ErrorIn, Ended, Ending, Got, Fails, Stops, Outcome, Action, gives, stops, settles, either, and_then}
+use Rattle.sno_machine.specs.Action.{Error, ErrorIn, Ended, Ending, Got, Fails, Stops, Outcome, Action, gives, stops}
+use Rattle.sno_machine.specs.Action.{settles, either, and_then}
 use Rattle.snobol.specs.Forms.{value}
 use Rattle.sno_machine.specs.Operators.{as_pattern}
 use Rattle.snobol.specs.Evaluate.{expression}
@@ -23,21 +25,26 @@ abbrev pub lists_event : List ℕ → Event → Action Unit → Action Unit
 lists_event subject event next = and_then (listed subject event) (λ done. next)
 
 abbrev pub lists_events : Source → Pattern → List ℕ → Bool → ℕ → ℕ → List Answer → ℕ → Action Unit
-lists_events source p subject anchored limit = session (lists_event subject) (answers source (calls source)) (λ given. trace p subject anchored limit given) (gives tt)
+lists_events source p subject anchored limit =
+    session (lists_event subject) (answers source (calls source))
+    (λ given. trace p subject anchored limit given) (gives tt)
 
 -- the events of the whole trace; a pattern that failed while it was built has no way
 abbrev pub lists_ways : Source → List ℕ → Bool → ℕ → Option Pattern → Action Unit
-lists_ways source subject anchored limit = either (writes (codes "exhausted\n")) (λ p. lists_events source p subject anchored limit (most_events limit) [] 0)
+lists_ways source subject anchored limit =
+    either (writes (codes "exhausted\n")) (λ p. lists_events source p subject anchored limit (most_events limit) [] 0)
 
 -- The subject's length is judged, then the pattern is evaluated, and then its ways are listed.
 abbrev pub lists : Source → ExprId → List ℕ → Bool → ℕ → Action Unit
 lists source e subject anchored limit =
     if nat_lt 1_000_000 (length subject) then stops (Error 8)
-    else settles (and_then (expression source (calls source) (value e)) as_pattern) (lists_ways source subject anchored limit)
+    else settles (and_then (expression source (calls source) (value e)) as_pattern)
+    (lists_ways source subject anchored limit)
 
 -- how the listing of a pattern that is read ends, and its lines
 abbrev pub listing : Source → ExprId → List ℕ → Bool → ℕ → Outcome Unit
-listing source e subject anchored limit = lists source e subject anchored limit (new_world [] (listing_keywords anchored 1_000_000 limit))
+listing source e subject anchored limit =
+    lists source e subject anchored limit (new_world [] (listing_keywords anchored 1_000_000 limit))
 
 -- how a listing has ended: an error is told by its code, and behind anything else nothing more is to be listed
 abbrev pub outcome_of : Ending Unit → WaysOutcome
@@ -48,7 +55,8 @@ outcome_of (Stops (ErrorIn code statement)) = HasError code
 outcome_of (Stops Ended) = Done
 
 -- The pattern's text is read, and this is the listing's outcome and its lines.
-pub record IsListed (pattern subject : List ℕ) (anchored : Bool) (limit : ℕ) (outcome : WaysOutcome) (lines : List ℕ) : Type 0 where
+pub record IsListed (pattern subject : List ℕ) (anchored : Bool) (limit : ℕ) (outcome : WaysOutcome)
+    (lines : List ℕ) : Type 0 where
   pub source : Source
   pub number : ExprId
   pub read : IsRead pattern source number
@@ -62,10 +70,12 @@ pub record IsCutShort (pattern subject : List ℕ) (anchored : Bool) (limit : �
   pub read : IsRead pattern source number
   pub begins : Begins bytes (listing source number subject anchored limit).wrote
 
--- What was written is the listing of the pattern's ways with this outcome; where it was broken off, a beginning of its lines.
+-- What was written is the listing of the pattern's ways with this
+-- outcome; where it was broken off, a beginning of its lines.
 abbrev pub IsListing : List ℕ → List ℕ → Bool → ℕ → WaysOutcome → List ℕ → Type 0
 IsListing pattern subject anchored limit Done wrote = IsListed pattern subject anchored limit Done wrote
-IsListing pattern subject anchored limit (HasError code) wrote = IsListed pattern subject anchored limit (HasError code) wrote
+IsListing pattern subject anchored limit (HasError code) wrote =
+    IsListed pattern subject anchored limit (HasError code) wrote
 IsListing pattern subject anchored limit (Refused error) wrote = IsRefusal pattern error × (wrote ≡ [])
 IsListing pattern subject anchored limit NoMemory wrote = (wrote ≡ []) ⊎ IsCutShort pattern subject anchored limit wrote
 IsListing pattern subject anchored limit WriteFault wrote = IsCutShort pattern subject anchored limit wrote

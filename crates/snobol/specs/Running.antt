@@ -5,7 +5,8 @@ use Rattle.sno_io.specs.Devices.{Begins, Drain, Feed}
 use Rattle.sno_pattern.specs.Table.{Node}
 use Rattle.sno_machine.specs.declared.machine.Exit.{Exit}
 use Rattle.sno_machine.specs.declared.machine.Exit.TheVariants.{Failure, Halt}
-use Rattle.sno_machine.specs.declared.machine.Stop.TheVariants.{Error as HasError, ErrorIn as HasErrorIn, NoMemory, ReadFault, WriteFault, Ended as HasEnded}
+use Rattle.sno_machine.specs.declared.machine.Stop.TheVariants.{Error as HasError, ErrorIn as HasErrorIn, NoMemory}
+use Rattle.sno_machine.specs.declared.machine.Stop.TheVariants.{ReadFault, WriteFault, Ended as HasEnded}
 use Rattle.sno_io.specs.declared.jobs.Limits.{Limits}
 use Rattle.snobol.specs.declared.execution.Outcome.{Outcome as RunOutcome}
 use Rattle.snobol.specs.declared.execution.Outcome.TheVariants as ran
@@ -35,7 +36,8 @@ abbrev pub MeetsRunning : {X A : Type 0} → (X → A) → Outcome A → World �
 MeetsRunning see o after wrote (Ok x) = o ≡ record { ending = Got (see x); world = after; wrote = wrote }
 MeetsRunning see o after wrote (Err Failure) = o ≡ record { ending = Fails; world = after; wrote = wrote }
 MeetsRunning see o after wrote (Err (Halt (HasError code))) = (o.ending ≡ Stops (Error code)) × (o.wrote ≡ wrote)
-MeetsRunning see o after wrote (Err (Halt (HasErrorIn code statement))) = (o.ending ≡ Stops (ErrorIn code statement)) × (o.wrote ≡ wrote)
+MeetsRunning see o after wrote (Err (Halt (HasErrorIn code statement))) =
+    (o.ending ≡ Stops (ErrorIn code statement)) × (o.wrote ≡ wrote)
 MeetsRunning see o after wrote (Err (Halt NoMemory)) = Begins wrote o.wrote
 MeetsRunning see o after wrote (Err (Halt ReadFault)) = Begins wrote o.wrote
 MeetsRunning see o after wrote (Err (Halt WriteFault)) = Begins wrote o.wrote
@@ -59,7 +61,8 @@ pub record Goes (before after : Keywords) : Type 0 where
 
 -- The code did what the action does, and wrote what it writes, for whatever input may still come behind what the reader
 -- gave; nothing comes once the end was told.
-pub record Runs {X A : Type 0} (see : List Node → X → A) (fits : List Node → X → Type 0) (act : Action A) (before after : State) (old new : Devices) (result : Result X Exit) : Type 0 where
+pub record Runs {X A : Type 0} (see : List Node → X → A) (fits : List Node → X → Type 0) (act : Action A)
+    (before after : State) (old new : Devices) (result : Result X Exit) : Type 0 where
   pub given : List ℕ
   pub wrote : List ℕ
   pub consumed : Consumes old.reader.left new.reader.left given
@@ -69,7 +72,8 @@ pub record Runs {X A : Type 0} (see : List Node → X → A) (fits : List Node �
   pub grows : Grows before.nodes after.nodes
   pub goes : Goes before.keywords after.keywords
   pub calls : OnGoing result (after.store.calls ≡ before.store.calls)
-  pub meets : (more : List ℕ) → (after.reading.told_end ≡ true → more ≡ []) → MeetsRunning (see after.nodes) (act (world before (given ++ more))) (world after more) wrote result
+  pub meets : (more : List ℕ) → (after.reading.told_end ≡ true → more ≡ [])
+      → MeetsRunning (see after.nodes) (act (world before (given ++ more))) (world after more) wrote result
   pub answer : OnAnswer (fits after.nodes) result
   pub ready : OnGoing result (CanRun after new)
   pub cause : HasFault result new
@@ -95,14 +99,16 @@ HasCauseOf ran.ReadFault d = d.reader.broken ≡ true
 HasCauseOf ran.WriteFault d = d.writer.broken ≡ true
 
 -- The code did what a part of the program does that ends the run.
-pub record Stopped {A : Type 0} (act : Action A) (before after : State) (old new : Devices) (outcome : RunOutcome) : Type 0 where
+pub record Stopped {A : Type 0} (act : Action A) (before after : State) (old new : Devices)
+    (outcome : RunOutcome) : Type 0 where
   pub given : List ℕ
   pub wrote : List ℕ
   pub consumed : Consumes old.reader.left new.reader.left given
   pub appends : Appends old.writer.taken new.writer.taken wrote
   pub ended : before.reading.told_end ≡ true → (given ≡ []) × (after.reading.told_end ≡ true)
   pub tells : after.reading.told_end ≡ true → new.reader.at_end ≡ true
-  pub meets : (more : List ℕ) → (after.reading.told_end ≡ true → more ≡ []) → MeetsOutcome (act (world before (given ++ more))) wrote outcome
+  pub meets : (more : List ℕ) → (after.reading.told_end ≡ true → more ≡ [])
+      → MeetsOutcome (act (world before (given ++ more))) wrote outcome
   pub cause : HasCauseOf outcome new
 
 -- what ends a statement ends the run, in that statement; an error that names a statement names that one
@@ -135,5 +141,6 @@ IsPossible given at_end input = (more : List ℕ) × (input ≡ given ++ more) �
 -- beginning of it.
 abbrev pub RunsAs : {A : Type 0} → (List ℕ → Outcome A) → Devices → Devices → RunOutcome → Type 0
 RunsAs meaning old new outcome =
-    (given : List ℕ) × (wrote : List ℕ) × Consumes old.reader.left new.reader.left given × Appends old.writer.taken new.writer.taken wrote
+    (given : List ℕ) × (wrote : List ℕ) × Consumes old.reader.left new.reader.left given
+    × Appends old.writer.taken new.writer.taken wrote
     × ((input : List ℕ) → IsPossible given new.reader.at_end input → MeetsOutcome (meaning input) wrote outcome)

@@ -22,16 +22,20 @@ abbrev pub answers : Source → Caller → Option PrimitiveKind → ℕ → Acti
 answers source call primitive e = settles (expression source call (value (numbered e))) (answer_of primitive)
 
 -- one event, and what follows it; behind a deferred part that goes on with its answer
-abbrev pub after_one : {A : Type 0} → (Event → Action A → Action A) → (Option PrimitiveKind → ℕ → Action Answer) → (List Answer → Action A) → List Answer → Event → Action A
+abbrev pub after_one : {A : Type 0} → (Event → Action A → Action A) → (Option PrimitiveKind → ℕ → Action Answer)
+    → (List Answer → Action A) → List Answer → Event → Action A
 after_one takes asks next given (Value primitive e) = and_then (asks primitive e) (λ a. next (given ++ a ∷ []))
 after_one takes asks next given event = takes event (next given)
 
 -- The events behind the first `told` ones, of which fewer than `most` come. `trace` says what the events are for the
--- answers given so far, `asks` answers a deferred part, and `takes` does what any other event does and then what follows.
-unfoldable pub session : {A : Type 0} → (Event → Action A → Action A) → (Option PrimitiveKind → ℕ → Action Answer) → (List Answer → List (Event × ℕ)) → Action A → ℕ → List Answer → ℕ → Action A
+-- answers given so far, `asks` answers a deferred part, and
+-- `takes` does what any other event does and then what follows.
+unfoldable pub session : {A : Type 0} → (Event → Action A → Action A) → (Option PrimitiveKind → ℕ → Action Answer)
+    → (List Answer → List (Event × ℕ)) → Action A → ℕ → List Answer → ℕ → Action A
 session takes asks trace over zero given told = over
 session takes asks trace over (suc most) given told =
-    either over (λ next. after_one takes asks (λ more. session takes asks trace over most more (suc told)) given next.0) (slice_get (trace given) told)
+    either over (λ next. after_one takes asks (λ more. session takes asks trace over most more (suc told)) given next.0)
+    (slice_get (trace given) told)
 
 -- more than the events of a search with so many steps, each of which a step, a way or the end precedes
 abbrev pub most_events : ℕ → ℕ

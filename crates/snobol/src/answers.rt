@@ -17,7 +17,8 @@ pub(crate) fn answer_of(
     value: Result<Value, Exit>,
 ) -> Result<Option<PatId>, Exit>
     requires { OnAnswer (IsValueOf machine.old.nodes) value }
-    ensures { (act : Action Shown) (before : State) (old new : Devices) → Runs shown IsValueOf act before machine.old old new value
+    ensures { (act : Action Shown) (before : State) (old new : Devices)
+        → Runs shown IsValueOf act before machine.old old new value
         → Runs given_of IsGivenOf (settles act (answer_of prim)) before machine.new old new result }
 {
     match value {

@@ -125,7 +125,8 @@ impl<'a> Ending<'a> {
         }
     }
 
-    /// Writes the line, if there is one, and answers the status. That `errors` fails changes nothing. It takes no memory.
+    /// Writes the line, if there is one, and answers the status.
+    /// That `errors` fails changes nothing. It takes no memory.
     pub fn tell<E: Sink>(&self, errors: &mut E) -> u8
         requires { E.broken errors.old ≡ false }
         ensures status { result ≡ self.now.status }
@@ -141,7 +142,8 @@ impl<'a> Ending<'a> {
 /// Writes a line.
 fn put_line<E: Sink>(errors: &mut E, line: FaultLine<'_>) -> Result<(), DeviceFault>
     requires { E.broken errors.old ≡ false }
-    ensures bytes { TakesBytes (E.taken errors.old) (E.taken errors.new) result (line_of line.entry.text.now line.entry.number line.entry.more.now line.entry.last) }
+    ensures bytes { TakesBytes (E.taken errors.old) (E.taken errors.new) result
+        (line_of line.entry.text.now line.entry.number line.entry.more.now line.entry.last) }
     ensures fault { OnErr result (E.broken errors.new ≡ true) }
 {
     put(errors, b"snobol4: ")?;

@@ -12,11 +12,11 @@ use sno_text::read_program;
 use std::alloc::Global;
 
 /// Does what a job asks. `file` is what its FILE holds, None where that can't be read and for a job without one. A
-/// program reads its input from `reader`. What the job writes or lists goes to `writer` and, where something went wrong,
-/// one line that says what to `errors`, for which no memory is taken. It answers the program's status: 0 ended, listed or
-/// accepted, 1 an error, 2 the program or pattern is refused, 3 FILE can't be read, 4 and 5 errors 20 and 21, 6 memory
-/// refused, 7 the reader or the writer failed. Each but 0 has its line. That `errors` fails cuts the line off and changes
-/// nothing else. The caller owes devices that have not failed, and limits in their ranges.
+/// program reads its input from `reader`. What the job writes or lists goes to `writer` and, where something went
+/// wrong, one line that says what to `errors`, for which no memory is taken. It answers the program's status: 0 ended,
+/// listed or accepted, 1 an error, 2 the program or pattern is refused, 3 FILE can't be read, 4 and 5 errors 20 and 21,
+/// 6 memory refused, 7 the reader or the writer failed. Each but 0 has its line. That `errors` fails cuts the line off
+/// and changes nothing else. The caller owes devices that have not failed, and limits in their ranges.
 pub fn perform<R: Source, W: Sink, E: Sink>(
     alloc: Global,
     job: &Job<'_>,
@@ -29,8 +29,10 @@ pub fn perform<R: Source, W: Sink, E: Sink>(
     requires writer { (W.drain writer.old).broken ≡ false }
     requires errors { E.broken errors.old ≡ false }
     requires limits { IsInRange job.now }
-    ensures { (report : Report) × (given : List ℕ) × (wrote : List ℕ) × Consumes (R.feed reader.old).left (R.feed reader.new).left given
-        × Appends (W.drain writer.old).taken (W.drain writer.new).taken wrote × IsDone job.now file.entry report given (R.feed reader.new).at_end wrote
+    ensures { (report : Report) × (given : List ℕ) × (wrote : List ℕ)
+        × Consumes (R.feed reader.old).left (R.feed reader.new).left given
+        × Appends (W.drain writer.old).taken (W.drain writer.new).taken wrote
+        × IsDone job.now file.entry report given (R.feed reader.new).at_end wrote
         × (result ≡ report.status) × Tells (E.taken errors.old) (E.taken errors.new) (E.broken errors.new) report.line }
 {
     let ending = end_of(alloc, job, file, reader, writer);
@@ -49,7 +51,8 @@ fn end_of<'a, R: Source, W: Sink>(
     requires writer { (W.drain writer.old).broken ≡ false }
     requires limits { IsInRange job.now }
     ensures { (given : List ℕ) × (wrote : List ℕ) × Consumes (R.feed reader.old).left (R.feed reader.new).left given
-        × Appends (W.drain writer.old).taken (W.drain writer.new).taken wrote × IsDone job.now file.entry result given (R.feed reader.new).at_end wrote }
+        × Appends (W.drain writer.old).taken (W.drain writer.new).taken wrote
+        × IsDone job.now file.entry result given (R.feed reader.new).at_end wrote }
 {
     match job {
         Job::Run { file: name, limits } => match file {
@@ -85,7 +88,8 @@ fn run_file<'a, R: Source, W: Sink>(
     requires writer { (W.drain writer.old).broken ≡ false }
     requires limits { IsLimits limits }
     ensures { (given : List ℕ) × (wrote : List ℕ) × Consumes (R.feed reader.old).left (R.feed reader.new).left given
-        × Appends (W.drain writer.old).taken (W.drain writer.new).taken wrote × IsRunFile text.now limits result given (R.feed reader.new).at_end wrote }
+        × Appends (W.drain writer.old).taken (W.drain writer.new).taken wrote
+        × IsRunFile text.now limits result given (R.feed reader.new).at_end wrote }
 {
     match read_program(alloc, text) {
         Ok(program) => {

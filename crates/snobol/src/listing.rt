@@ -36,13 +36,16 @@ pub(crate) fn list_ways<
     limit: u32,
     writer: &mut W,
 ) -> Result<(), Exit>
-    requires calls { Calling R.feed W.drain scope.now.code.now scope.now.level (C.pre scope.now.call) (C.post scope.now.call) }
+    requires calls { Calling R.feed W.drain scope.now.code.now scope.now.level (C.pre scope.now.call)
+        (C.post scope.now.call) }
     requires level { length machine.old.store.calls ≡ scope.now.level }
     requires outermost { scope.now.level ≡ 0 }
     requires pattern { pattern.0 < length machine.old.nodes }
     requires subject { length subject.now ≤ 1_000_000 }
     requires ready { CanRun machine.old (devices (R.feed reader.old) (W.drain writer.old)) }
-    ensures { Runs itself any (lists_events scope.now.code.now (tree machine.old.nodes pattern.0) subject.now anchored limit (most_events limit) [] 0) machine.old machine.new
+    ensures { Runs itself any
+        (lists_events scope.now.code.now (tree machine.old.nodes pattern.0) subject.now anchored limit
+        (most_events limit) [] 0) machine.old machine.new
         (devices (R.feed reader.old) (W.drain writer.old))
         (devices (R.feed reader.new) (W.drain writer.new)) result }
 {
@@ -76,7 +79,8 @@ fn list_event<W: Sink>(
     requires subject { length subject.now ≤ 1_000_000 }
     requires within { IsWithin (length subject.now) (in_trace event way.now) }
     requires sound { (W.drain writer.old).broken ≡ false }
-    ensures does { Performs (listed subject.now (in_trace event way.now)) machine.old machine.new (W.drain writer.old).taken (W.drain writer.new).taken result }
+    ensures does { Performs (listed subject.now (in_trace event way.now))
+        machine.old machine.new (W.drain writer.old).taken (W.drain writer.new).taken result }
     ensures nodes { machine.new.nodes ≡ machine.old.nodes }
     ensures sound { OnOk result ((W.drain writer.new).broken ≡ false) }
     ensures fault { result ≡ Err Stop.WriteFault → (W.drain writer.new).broken ≡ true }

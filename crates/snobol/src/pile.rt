@@ -1,13 +1,15 @@
-//! The expressions that wait for an operand, and the values that they hold. Evaluation is a loop over this pile, so that
-//! no depth of operators reaches the machine's stack.
-ghost use Rattle.std.specs.Prelude.{◌≡◌, ◌≤◌, ◌+◌, ◌-◌, ◌++◌, List, [], ◌∷◌, length, map, take, drop, option_to_list, IfOk, IfErr, MatchOption, OnOk};
+//! The expressions that wait for an operand, and the values that they hold. Evaluation is a loop over this pile, so
+//! that no depth of operators reaches the machine's stack.
+ghost use Rattle.std.specs.Prelude.{◌≡◌, ◌≤◌, ◌+◌, ◌-◌, ◌++◌, List, [], ◌∷◌, length, map, take, drop, option_to_list};
+ghost use Rattle.std.specs.Prelude.{IfOk, IfErr, MatchOption, OnOk};
 ghost use Rattle.std.specs.List.{AllByRecursion};
 ghost use Rattle.sno_pattern.specs.Table.{Node};
 ghost use Rattle.sno_machine.specs.Values.{shown, IsValueOf};
 ghost use Rattle.snobol.specs.Forms.{IsOrdered, node_at};
 ghost use Rattle.sno_machine.specs.State.{Reads, IsReady};
 ghost use Rattle.snobol.specs.Evaluate.{Caller, given_by};
-ghost use Rattle.snobol.specs.Pile.{holds, after_turn, after_next, turn_work, Falls, at_hand, still_at_hand, Keeps, first_turn, GoesTo, GoesWith, StopsWith, Enter, HasGot, Failed};
+ghost use Rattle.snobol.specs.Pile.{holds, after_turn, after_next, turn_work, Falls, at_hand, still_at_hand, Keeps};
+ghost use Rattle.snobol.specs.Pile.{first_turn, GoesTo, GoesWith, StopsWith, Enter, HasGot, Failed};
 
 use crate::apply::apply;
 use crate::forms::{Part, absorbs_failure, operand};
@@ -98,7 +100,9 @@ impl Pile {
     #[inline]
     fn enter(&mut self, program: &Program, part: Part) -> Result<Next, Exit>
         requires { IsOrdered program.now }
-        ensures rest { IfOk result (λ n. (call : Caller) (nodes : List Node) → after_turn program.now call (shown nodes) self.old (Enter part) ≡ after_next program.now call (shown nodes) self.new n) }
+        ensures rest { IfOk result (λ n. (call : Caller) (nodes : List Node)
+            → after_turn program.now call (shown nodes) self.old (Enter part)
+            ≡ after_next program.now call (shown nodes) self.new n) }
         ensures work { IfOk result (λ n. Falls program.now self.new n (turn_work program.now self.old (Enter part))) }
         ensures known { IfOk result (λ n. Keeps self.old.values (still_at_hand self.new.values n)) }
         ensures memory { IfErr result (λ e. e ≡ Exit.Halt Stop.NoMemory) }
@@ -116,7 +120,8 @@ impl Pile {
     /// An expression waits for its first operand.
     #[inline]
     fn wait(&mut self, part: Part) -> Result<(), AllocError>
-        ensures { OnOk result (self.new ≡ record self.old { waiting = self.old.waiting ++ (record { part = part; held = 0 }) ∷ [] }) }
+        ensures { OnOk result (self.new
+            ≡ record self.old { waiting = self.old.waiting ++ (record { part = part; held = 0 }) ∷ [] }) }
     {
         self.waiting.push(Waiting { part, held: 0 })?;
         Ok(())
@@ -126,9 +131,12 @@ impl Pile {
     #[inline(always)]
     fn resume(&mut self, program: &Program, value: Value) -> Result<Next, Exit>
         requires { IsOrdered program.now }
-        ensures rest { IfOk result (λ n. (call : Caller) (nodes : List Node) → after_turn program.now call (shown nodes) self.old (HasGot value) ≡ after_next program.now call (shown nodes) self.new n) }
+        ensures rest { IfOk result (λ n. (call : Caller) (nodes : List Node)
+            → after_turn program.now call (shown nodes) self.old (HasGot value)
+            ≡ after_next program.now call (shown nodes) self.new n) }
         ensures work { IfOk result (λ n. Falls program.now self.new n (turn_work program.now self.old (HasGot value))) }
-        ensures known { IfOk result (λ n. Keeps (at_hand self.old.values (HasGot value)) (still_at_hand self.new.values n)) }
+        ensures known { IfOk result
+            (λ n. Keeps (at_hand self.old.values (HasGot value)) (still_at_hand self.new.values n)) }
         ensures memory { IfErr result (λ e. e ≡ Exit.Halt Stop.NoMemory) }
     {
         let Some(last) = self.waiting.pop() else {
@@ -152,7 +160,9 @@ impl Pile {
     /// The last that waits fails with its operand, and so on up to one that absorbs the failure and is null.
     fn fail(&mut self, program: &Program) -> Result<Next, Exit>
         requires { IsOrdered program.now }
-        ensures rest { IfOk result (λ n. (call : Caller) (nodes : List Node) → after_turn program.now call (shown nodes) self.old Failed ≡ after_next program.now call (shown nodes) self.new n) }
+        ensures rest { IfOk result (λ n. (call : Caller) (nodes : List Node)
+            → after_turn program.now call (shown nodes) self.old Failed
+            ≡ after_next program.now call (shown nodes) self.new n) }
         ensures work { IfOk result (λ n. Falls program.now self.new n (turn_work program.now self.old Failed)) }
         ensures known { IfOk result (λ n. Keeps self.old.values (still_at_hand self.new.values n)) }
         ensures memory { IfErr result (λ e. e ≡ Exit.Halt Stop.NoMemory) }
@@ -170,7 +180,8 @@ impl Pile {
     /// The last that waits, which is let go with the values that it held.
     fn leave(&mut self) -> Option<Waiting>
         ensures waiting { self.old.waiting ≡ self.new.waiting ++ option_to_list result }
-        ensures values { MatchOption result ((self.old.waiting ≡ []) × (self.new.values ≡ self.old.values)) (λ last. self.new.values ≡ take (length self.old.values - last.held) self.old.values) }
+        ensures values { MatchOption result ((self.old.waiting ≡ []) × (self.new.values ≡ self.old.values))
+            (λ last. self.new.values ≡ take (length self.old.values - last.held) self.old.values) }
     {
         let Some(last) = self.waiting.pop() else {
             return None;
@@ -180,8 +191,8 @@ impl Pile {
         Some(last)
     }
 
-    /// What a form gives that is applied to the last values, which are let go. It is no call of a function that the program
-    /// has made.
+    /// What a form gives that is applied to the last values, which are let go. It is no call of a function that the
+    /// program has made.
     #[inline(always)]
     pub fn apply<R: Source>(
         &mut self,
@@ -194,7 +205,10 @@ impl Pile {
         requires count { holds self.old.waiting + count ≤ length self.old.values }
         requires values { AllByRecursion (IsValueOf machine.old.nodes) self.old.values }
         requires ready { IsReady machine.old (R.feed reader.old) }
-        ensures does { Reads shown IsValueOf (given_by program.now.text (node_at program.now part) part.wanted (map (shown machine.old.nodes) (drop (length self.old.values - count) self.old.values))) machine.old machine.new (R.feed reader.old) (R.feed reader.new) result }
+        ensures does { Reads shown IsValueOf
+            (given_by program.now.text (node_at program.now part) part.wanted
+            (map (shown machine.old.nodes) (drop (length self.old.values - count) self.old.values)))
+            machine.old machine.new (R.feed reader.old) (R.feed reader.new) result }
         ensures rest { self.new ≡ record self.old { values = take (length self.old.values - count) self.old.values } }
     {
         let at = self.values.len() - count;
@@ -214,7 +228,8 @@ impl Pile {
     pub fn split_off(&mut self, count: usize) -> Result<Vec<Value>, AllocError>
         requires { holds self.old.waiting + count ≤ length self.old.values }
         ensures taken { IfOk result (λ last. last.items ≡ drop (length self.old.values - count) self.old.values) }
-        ensures rest { IfOk result (λ last. self.new ≡ record self.old { values = take (length self.old.values - count) self.old.values }) }
+        ensures rest { IfOk result
+            (λ last. self.new ≡ record self.old { values = take (length self.old.values - count) self.old.values }) }
     {
         let at = self.values.len() - count;
         self.values.split_off(at)

@@ -3,8 +3,8 @@
 use std::cell::RefCell;
 use std::io::{self, BufWriter, ErrorKind, IsTerminal, Read, Stdin, Stdout, Write};
 
-/// Standard output behind a buffer, which is written out at each line feed where it is a terminal. Where that has failed
-/// each call fails.
+/// Standard output behind a buffer, which is written out at each line feed where it is a terminal. Where that has
+/// failed each call fails.
 #[derive(Drop)]
 pub(crate) struct Output {
     buffer: BufWriter<Stdout>,

@@ -11,10 +11,12 @@ suc_one : (n : ℕ) → suc n ≡ n + 1
 suc_one n = omega arith
 
 pub blanks_more : (new old start : List ℕ) (n : ℕ) → old ≡ start ++ blanks n → new ≡ old ++ 32 ∷ [] → new ≡ start ++ blanks (n + 1)
-blanks_more new old start n e f = f ∙ ap (λ x. x ++ 32 ∷ []) e ∙ append_assoc start (blanks n) (32 ∷ []) ∙ ap (λ x. start ++ x) (blanks_snoc n ∙ ap blanks (suc_one n))
+blanks_more new old start n e f = f ∙ ap (λ x. x ++ 32 ∷ []) e ∙ append_assoc start (blanks n) (32 ∷ [])
+    ∙ ap (λ x. start ++ x) (blanks_snoc n ∙ ap blanks (suc_one n))
 
 -- One line more was listed.
-pub line_more : (sts : List Statement) (old new total line : List ℕ) (at number : ℕ) (rest : List (List ℕ)) → number ≡ number_in 1 sts (at + 1) → new ≡ old ++ listed_line number line →
+pub line_more : (sts : List Statement) (old new total line : List ℕ) (at number : ℕ) (rest : List (List ℕ)) → number ≡ number_in 1 sts (at + 1)
+    → new ≡ old ++ listed_line number line →
     old ++ lines_listed sts (at + 1) (line ∷ rest) ≡ total → new ++ lines_listed sts (at + 1 + 1) rest ≡ total
 line_more sts old new total line at number rest e f g =
     ap (λ x. x ++ lines_listed sts (at + 1 + 1) rest) (f ∙ ap (λ n. old ++ listed_line n line) e)

@@ -1,5 +1,6 @@
 -- The numbers of the lines, from the last statement to the first.
-use Rattle.std.proofs.Common.{◌≡◌, ℕ, zero, suc, ◌+◌, ◌-◌, ◌<◌, ◌≤◌, ◌==◌, List, [], ◌∷◌, ◌++◌, length, drop, replicate, slice_index, slice_get, Some, None, if◌then◌else◌, arith, refl, ◌∙◌, ap, sym, get_or, Option, inl, inr, drop-cons, add-one}
+use Rattle.std.proofs.Common.{◌≡◌, ℕ, zero, suc, ◌+◌, ◌-◌, ◌<◌, ◌≤◌, ◌==◌, List, [], ◌∷◌, ◌++◌, length, drop, replicate, slice_index, slice_get, Some, None}
+use Rattle.std.proofs.Common.{if◌then◌else◌, arith, refl, ◌∙◌, ap, sym, get_or, Option, inl, inr, drop-cons, add-one}
 use Rattle.std.proofs.lemmas.Grind.{common_steps}
 use Rattle.std.proofs.Math.ListN.{drop_of_length-le}
 use Rattle.std.proofs.lemmas.List.{get_or-replicate, length-replicate}
@@ -8,7 +9,8 @@ use Rattle.sno_text.specs.declared.statement.Statement.{Statement}
 use Rattle.snobol4_list.specs.Listing.{number_in, AreNumbers}
 
 -- Behind the last statement none begins.
-pub numbers_none : (lines n : ℕ) (sts : List Statement) (numbers : List ℕ) → numbers ≡ replicate lines 0 → n ≡ length sts → AreNumbers lines (n + 1) (drop n sts) numbers
+pub numbers_none : (lines n : ℕ) (sts : List Statement) (numbers : List ℕ) → numbers ≡ replicate lines 0 → n ≡ length sts
+    → AreNumbers lines (n + 1) (drop n sts) numbers
 numbers_none lines n sts numbers e f =
     let none : drop n sts ≡ [] = drop_of_length-le sts (omega arith) in
     rw (e, none) (record { count = length-replicate lines 0; each = λ k h. get_or-replicate lines k 0 0 h })
@@ -29,7 +31,8 @@ not_none sts n h w e = elim (slice_get_cases sts (n - 1)).1 [
 ]
 
 -- One statement more, before those that were marked.
-pub numbers_more : (lines number : ℕ) (sts : List Statement) (st : Statement) (old new : List ℕ) → 0 < number → slice_get sts (number - 1) ≡ Some st → length new ≡ length old →
+pub numbers_more : (lines number : ℕ) (sts : List Statement) (st : Statement) (old new : List ℕ) → 0 < number → slice_get sts (number - 1) ≡ Some st
+    → length new ≡ length old →
     ((k : ℕ) → k < length old → slice_index new k ≡ (if st.line == k + 1 then number else slice_index old k)) →
     AreNumbers lines (number + 1) (drop number sts) old → AreNumbers lines number (drop (number - 1) sts) new
 numbers_more lines number sts st old new h e len marked before =

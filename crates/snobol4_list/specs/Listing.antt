@@ -1,5 +1,6 @@
 -- The listing of a program: its lines, each behind the number of the first statement that begins in it.
-use Rattle.std.specs.Prelude.{ℕ, ◌+◌, ◌-◌, ◌<◌, ◌≡◌, ◌==◌, List, [], ◌∷◌, ◌++◌, length, replicate, slice_index, if◌then◌else◌}
+use Rattle.std.specs.Prelude.{ℕ, ◌+◌, ◌-◌, ◌<◌, ◌≡◌, ◌==◌, List, [], ◌∷◌, ◌++◌, length, replicate, slice_index}
+use Rattle.std.specs.Prelude.{if◌then◌else◌}
 use Rattle.std.specs.Fmt.{decimal}
 use Rattle.bstr.specs.Text.{lines_of}
 use Rattle.sno_text.specs.declared.statement.Statement.{Statement}
@@ -30,7 +31,8 @@ listed_line number line = margin number ++ ended line
 -- Some lines as they are listed, the first of them being this line of the text.
 abbrev pub lines_listed : List Statement → ℕ → List (List ℕ) → List ℕ
 lines_listed statements at [] = []
-lines_listed statements at (line ∷ lines) = listed_line (number_in 1 statements at) line ++ lines_listed statements (at + 1) lines
+lines_listed statements at (line ∷ lines) =
+    listed_line (number_in 1 statements at) line ++ lines_listed statements (at + 1) lines
 
 -- The listing of a text: each of its lines, in their order, counted from 1.
 abbrev pub listed : List ℕ → List Statement → List ℕ

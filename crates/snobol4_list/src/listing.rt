@@ -1,5 +1,6 @@
 //! The listing: each line of a text behind the number of the first statement that begins in it.
-ghost use Rattle.std.specs.Prelude.{◌≡◌, ℕ, ◌+◌, ◌-◌, ◌<◌, ◌≤◌, ◌==◌, ◌++◌, if◌then◌else◌, drop, length, replicate, slice_index, OnOk, IfOk};
+ghost use Rattle.std.specs.Prelude.{◌≡◌, ℕ, ◌+◌, ◌-◌, ◌<◌, ◌≤◌, ◌==◌, ◌++◌, if◌then◌else◌, drop, length, replicate};
+ghost use Rattle.std.specs.Prelude.{slice_index, OnOk, IfOk};
 ghost use Rattle.bstr.specs.Text.{lines_of};
 ghost use Rattle.snobol4_list.specs.Listing.{listed, listed_line, margin, ended, blanks, numeral, AreNumbers};
 
@@ -14,9 +15,9 @@ const COLUMNS: usize = 6;
 /// The most statements of a program.
 const MOST_STATEMENTS: u32 = 100_000;
 
-/// The listing of a text: its lines in their order, each with its own bytes, behind the number that the program gives to
-/// the first statement that begins in it. The number stands at the right of six columns, which are blank where no statement
-/// begins, and two blanks follow. A last line without a line feed gets one.
+/// The listing of a text: its lines in their order, each with its own bytes, behind the number that the program gives
+/// to the first statement that begins in it. The number stands at the right of six columns, which are blank where no
+/// statement begins, and two blanks follow. A last line without a line feed gets one.
 pub fn listing(alloc: Global, text: &[u8], program: &Program) -> Result<Vec<u8>, AllocError>
     ensures { IfOk result (λ l. l.items ≡ listed text.now program.now.statements) }
 {

@@ -5,8 +5,8 @@ use bstr::ByteSlice;
 use sno_text::Program;
 use std::alloc::{AllocError, Global};
 
-/// The lines of the statement with this number, listed, None where there is none: the line in which it begins, and those
-/// in which it goes on.
+/// The lines of the statement with this number, listed, None where there is none: the line in which it begins, and
+/// those in which it goes on.
 pub fn single(
     alloc: Global,
     text: &[u8],

@@ -14,9 +14,9 @@ use sno_store::Definition;
 use sno_value::{Name, SymId, Value};
 
 impl Machine {
-    /// Defines a function by its prototype, whose names join the symbols; its calls begin at the label `entry`, or at the
-    /// function's name where that is null. Another text than a sound prototype is error 12, and more than 1,000,000 symbols
-    /// are error 9.
+    /// Defines a function by its prototype, whose names join the symbols; its calls begin at the label `entry`, or at
+    /// the function's name where that is null. Another text than a sound prototype is error 12, and more than 1,000,000
+    /// symbols are error 9.
     pub fn define(&mut self, prototype: &[u8], entry: &[u8]) -> Result<(), Exit>
         requires { length prototype.now ≤ 1_000_000 }
         ensures { Does itself any (defines prototype.now entry.now) self.old self.new result }
@@ -49,11 +49,12 @@ impl Machine {
         self.keywords.statement()
     }
 
-    /// Begins a call of a function: the values of its variables are saved, and they are set for the call. A function without
-    /// a definition is error 4; beside 200 open calls it is error 10.
+    /// Begins a call of a function: the values of its variables are saved, and they are set for the call. A function
+    /// without a definition is error 4; beside 200 open calls it is error 10.
     pub fn enter(&mut self, function: SymId, arguments: Vec<Value>) -> Result<(), Exit>
         requires { AllByRecursion (IsValueOf self.old.nodes) arguments.items }
-        ensures { (d : Defined) → definition_at self.old.store.functions function.0 ≡ Some d → Enters function.0 d (map (shown self.old.nodes) arguments.items) self.old self.new result }
+        ensures { (d : Defined) → definition_at self.old.store.functions function.0 ≡ Some d
+            → Enters function.0 d (map (shown self.old.nodes) arguments.items) self.old self.new result }
     {
         if self.store.definition(function).is_none() {
             return Err(error(UNDEFINED_FUNCTION));
@@ -65,7 +66,8 @@ impl Machine {
     /// Ends the innermost call, whose statement had this number: gives the value of its function, and brings back the
     /// values that it saved. Where no call is open it gives null, and nothing changes.
     pub fn leave(&mut self, statement: u32) -> Value
-        ensures { (calls : List (List (ℕ × Stored))) (call : List (ℕ × Stored)) → self.old.store.calls ≡ calls ++ call ∷ [] → Leaves calls call statement self.old self.new result }
+        ensures { (calls : List (List (ℕ × Stored))) (call : List (ℕ × Stored)) → self.old.store.calls ≡ calls
+            ++ call ∷ [] → Leaves calls call statement self.old self.new result }
     {
         if self.store.level() == 0 {
             return null(self.alloc);

@@ -15,7 +15,8 @@ impl Machine {
     pub fn new_array(&mut self, prototype: &[u8], value: &Value) -> Result<ObjId, Exit>
         requires prototype { length prototype.now ≤ 1_000_000 }
         requires value { IsValueOf self.old.nodes value.now }
-        ensures { Does itself any (does (new_array prototype.now (shown self.old.nodes value.now))) self.old self.new result }
+        ensures { Does itself any (does (new_array prototype.now (shown self.old.nodes value.now)))
+            self.old self.new result }
     {
         let id = self.store.new_array(prototype, value)?;
         Ok(id)
@@ -32,7 +33,8 @@ impl Machine {
     /// The element that subscripts name, which is None where one is out of range. It is error 1 where there is no such
     /// array, and error 12 where there are more or fewer subscripts than dimensions.
     pub fn element(&self, array: ObjId, subscripts: &[i64]) -> Result<Option<Name>, Exit>
-        ensures { Does itself any (asks (λ objects. element_name objects array subscripts.now)) self.now self.now result }
+        ensures { Does itself any (asks (λ objects. element_name objects array subscripts.now))
+            self.now self.now result }
     {
         let name = self.store.element(array, subscripts)?;
         Ok(name)
@@ -49,7 +51,8 @@ impl Machine {
     /// The entry of a table with this key, if there is one. It is error 1 where there is no such table, and where the
     /// value may be no key.
     pub fn find(&self, table: ObjId, key: &Value) -> Result<Option<Name>, Exit>
-        ensures { Does itself any (asks (λ objects. find_entry notions objects table (shown self.now.nodes key.now))) self.now self.now result }
+        ensures { Does itself any (asks (λ objects. find_entry notions objects table (shown self.now.nodes key.now)))
+            self.now self.now result }
     {
         let name = self.store.find(table, key)?;
         Ok(name)
@@ -59,7 +62,8 @@ impl Machine {
     /// `find` is, and error 9 where there are 1,000,000 entries.
     pub fn entry(&mut self, table: ObjId, key: Value) -> Result<Name, Exit>
         requires { IsValueOf self.old.nodes key }
-        ensures { Does itself any (does (make_entry notions table (shown self.old.nodes key))) self.old self.new result }
+        ensures { Does itself any (does (make_entry notions table (shown self.old.nodes key)))
+            self.old self.new result }
     {
         let name = self.store.entry(table, key)?;
         Ok(name)

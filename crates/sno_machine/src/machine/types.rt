@@ -65,7 +65,8 @@ impl Machine {
     /// objects it is error 9.
     pub fn new_data(&mut self, number: u32, fields: Vec<Value>) -> Result<ObjId, Exit>
         requires { AllByRecursion (IsValueOf self.old.nodes) fields.items }
-        ensures { Does itself any (makes_object number (map (shown self.old.nodes) fields.items)) self.old self.new result }
+        ensures { Does itself any (makes_object number (map (shown self.old.nodes) fields.items))
+            self.old self.new result }
     {
         let id = self.store.new_data(number, fields)?;
         Ok(id)

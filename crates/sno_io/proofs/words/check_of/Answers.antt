@@ -9,5 +9,10 @@ returns-in_err-file-clause-none c =
     rw c.from_residual.ensures (λ file h. let is = h.file_is in absurd (cc))
 
 pub returns-clause-some : goal.returns-clause-some
-returns-clause-some c =
-    (refl, record { file_is = text_found (λ s. s.now) (found_of c.args.found.now) (codes "FILE") c.get_str.result c.in_ok-file.file c.get_str.ensures c.in_ok-file.was })
+returns-clause-some c = (
+  refl,
+  record {
+    file_is = text_found (λ s. s.now) (found_of c.args.found.now) (codes "FILE") c.get_str.result c.in_ok-file.file
+        c.get_str.ensures c.in_ok-file.was;
+  },
+)

@@ -7,7 +7,8 @@ returns-in-run-clause-none c =
 
 pub returns-in-check-clause-none : goal.returns-in-check-clause-none
 returns-in-check-clause-none c =
-    rw (found_is c.args.matches.now _ _ c.in_ok-name.ensures.name c.in_ok-name.ensures.rows, c.in-check.is) (no_check _ c.check_of.result c.check_of.ensures.none)
+    rw (found_is c.args.matches.now _ _ c.in_ok-name.ensures.name c.in_ok-name.ensures.rows, c.in-check.is)
+    (no_check _ c.check_of.result c.check_of.ensures.none)
 
 pub returns-in-ways-clause-none : goal.returns-in-ways-clause-none
 returns-in-ways-clause-none c =

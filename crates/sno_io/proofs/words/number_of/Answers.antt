@@ -21,7 +21,8 @@ returns-then-number-most-clause-some c =
     let found = found_of c.args.found.now in
     let text = is_there (λ s. s.now) found c.args.id.now c.get_str.result c.get_str.ensures c.if-is_none.ensures in
     let read = (c.in_ok-number.ensures.value text.0 text.2).0 in
-    read_number c.args.least c.args.most c.args.default c.args.id.now (rows_of found) text.0 text.1 c.in_ok-number.number read.0.0 read.1 c.if-least-number.true c.if-number-most.true
+    read_number c.args.least c.args.most c.args.default c.args.id.now (rows_of found) text.0 text.1 c.in_ok-number.number read.0.0 read.1
+    c.if-least-number.true c.if-number-most.true
 
 pub returns-else-least-number-clause-none : goal.returns-else-least-number-clause-none
 returns-else-least-number-clause-none c =

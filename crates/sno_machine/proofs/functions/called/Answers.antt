@@ -33,13 +33,25 @@ pub returns-in-Some-Convert : goal.returns-in-Some-Convert
 returns-in-Some-Convert c =
     let nodes = c.args.machine.now.nodes in
     let convert = rw c.in-Some-Convert.is at c.in-Some-Convert.field-0-is in
-    rw (c.in-Some-Convert.is, convert, ← c.argument-x.ensures.value nodes, ← second_stays nodes _ _ _ c.argument-x.ensures.rest, ← c.argument-t.ensures.value nodes) c.convert.ensures
+    rw (
+      c.in-Some-Convert.is,
+      convert,
+      ← c.argument-x.ensures.value nodes,
+      ← second_stays nodes _ _ _ c.argument-x.ensures.rest,
+      ← c.argument-t.ensures.value nodes,
+    ) c.convert.ensures
 
 pub returns-in-Some-MakeArray : goal.returns-in-Some-MakeArray
 returns-in-Some-MakeArray c =
     let nodes = c.args.machine.now.nodes in
     let make = rw c.in-Some-MakeArray.is at c.in-Some-MakeArray.field-0-is in
-    rw (c.in-Some-MakeArray.is, make, ← c.argument-p.ensures.value nodes, ← second_stays nodes _ _ _ c.argument-p.ensures.rest, ← c.argument-v.ensures.value nodes) c.array.ensures
+    rw (
+      c.in-Some-MakeArray.is,
+      make,
+      ← c.argument-p.ensures.value nodes,
+      ← second_stays nodes _ _ _ c.argument-p.ensures.rest,
+      ← c.argument-v.ensures.value nodes,
+    ) c.array.ensures
 
 pub returns-in-Some-Define : goal.returns-in-Some-Define
 returns-in-Some-Define c =
@@ -66,4 +78,13 @@ returns-in-Some-Plain c =
     let nodes = c.args.machine.now.nodes in
     let plain = rw c.in-Some-Plain.is at c.in-Some-Plain.field-0-is in
     let x = c.argument-x-in-Some-Plain.ensures in
-    rw (c.in-Some-Plain.is, plain, ← x.value nodes, ← second_stays nodes _ _ _ x.rest, ← c.argument-y.ensures.value nodes, ← third_stays nodes _ _ _ _ _ x.rest c.argument-y.ensures.rest, ← c.argument-z.ensures.value nodes) (c.plain.ensures c.args.machine.now (x.known nodes c.requires))
+    rw (
+      c.in-Some-Plain.is,
+      plain,
+      ← x.value nodes,
+      ← second_stays nodes _ _ _ x.rest,
+      ← c.argument-y.ensures.value nodes,
+      ← third_stays nodes _ _ _ _ _ x.rest c.argument-y.ensures.rest,
+      ← c.argument-z.ensures.value nodes,
+    )
+    (c.plain.ensures c.args.machine.now (x.known nodes c.requires))

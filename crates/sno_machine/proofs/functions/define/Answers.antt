@@ -15,7 +15,8 @@ pub returns-in_err-entry : goal.returns-in_err-entry
 returns-in_err-entry c =
     let p = err_from_is_err_and c.from_residual-in_err-entry.result c.from_residual-in_err-entry.ensures.1 in
     let machine = c.args.machine.now in
-    rw (p.1, p.2, c.in_ok-prototype.ensures.text machine.nodes) (missing {X = Vec ℕ Global} (λ t. t.items) _ _ machine _ (absent _ _) (c.in_err-entry.ensures.text machine.nodes))
+    rw (p.1, p.2, c.in_ok-prototype.ensures.text machine.nodes)
+    (missing {X = Vec ℕ Global} (λ t. t.items) _ _ machine _ (absent _ _) (c.in_err-entry.ensures.text machine.nodes))
 
 pub define-requires : goal.define-requires
 define-requires c = rw c.deref.ensures.value (c.in_ok-prototype.ensures.short c.args.machine.now.nodes c.requires)
@@ -24,9 +25,11 @@ pub returns-in_err-define : goal.returns-in_err-define
 returns-in_err-define c =
     let p = err_from_is_err_and c.from_residual-in_err-define.result c.from_residual-in_err-define.ensures.1 in
     let nodes = c.args.machine.now.nodes in
-    rw (p.1, p.2, c.in_ok-prototype.ensures.text nodes, c.in_ok-entry.ensures.text nodes, ← c.deref.ensures.value, ← c.deref-2.ensures.value) (not_defined_null _ _ _ _ c.in_err-define.ensures)
+    rw (p.1, p.2, c.in_ok-prototype.ensures.text nodes, c.in_ok-entry.ensures.text nodes, ← c.deref.ensures.value, ← c.deref-2.ensures.value)
+    (not_defined_null _ _ _ _ c.in_err-define.ensures)
 
 pub returns : goal.returns
 returns c =
     let nodes = c.args.machine.now.nodes in
-    rw (c.in_ok-prototype.ensures.text nodes, c.in_ok-entry.ensures.text nodes, ← c.deref.ensures.value, ← c.deref-2.ensures.value, c.null.ensures) (defined_null _ _ _ _ c.in_ok-define.ensures)
+    rw (c.in_ok-prototype.ensures.text nodes, c.in_ok-entry.ensures.text nodes, ← c.deref.ensures.value, ← c.deref-2.ensures.value, c.null.ensures)
+    (defined_null _ _ _ _ c.in_ok-define.ensures)

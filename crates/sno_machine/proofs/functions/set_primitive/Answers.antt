@@ -8,7 +8,8 @@ use Rattle.sno_machine.proofs.functions.set_primitive.Goals as goal
 pub returns-in_err-set : goal.returns-in_err-set
 returns-in_err-set c =
     let p = err_from_is_err_and c.from_residual.result c.from_residual.ensures.1 in
-    rw (p.1, p.2) (missing_in {X = Vec ℕ Global} (λ t. t.items) tree_of IsPatternOf _ _ c.args.machine.now _ (set_none _ _) (c.in_err-set.ensures.text c.args.machine.now.nodes))
+    rw (p.1, p.2) (missing_in {X = Vec ℕ Global} (λ t. t.items) tree_of IsPatternOf _ _ c.args.machine.now _ (set_none _ _)
+    (c.in_err-set.ensures.text c.args.machine.now.nodes))
 
 pub returns-in_err-id : goal.returns-in_err-id
 returns-in_err-id c =

@@ -9,7 +9,8 @@ pub returns-in_err-numbers : goal.returns-in_err-numbers
 returns-in_err-numbers c =
     let p = err_from_is_err_and c.from_residual.result c.from_residual.ensures.1 in
     let machine = c.args.machine.now in
-    rw (p.1, p.2) (missing_in {X = Vec ℤ Global} (λ numbers. numbers.items) itself any _ _ machine _ (unnumbered c.args.array _) (c.in_err-numbers.ensures machine.nodes))
+    rw (p.1, p.2) (missing_in {X = Vec ℤ Global} (λ numbers. numbers.items) itself any _ _ machine _ (unnumbered c.args.array _)
+    (c.in_err-numbers.ensures machine.nodes))
 
 pub returns-in_err-name : goal.returns-in_err-name
 returns-in_err-name c =

@@ -13,5 +13,6 @@ returns c =
     elim c.match-holder.branch [
       | in-Array w ↦ rw (w.result-is, w.machine-is, w.in-Array.is) w.element.ensures
       | in-Table+in_ok-key-in-Table w ↦ rw (w.result-is, w.machine-is, w.in-Table.is, w.in_ok-key-in-Table.ensures.one) w.entry.ensures
-      | in_default w ↦ rw (w.result-is, w.machine-is, w.error.ensures, no_item_name nodes _ subscripts w.in_default.not-Array w.in_default.not-Table) (stops_does itself any c.args.machine.now 1)
+      | in_default w ↦ rw (w.result-is, w.machine-is, w.error.ensures, no_item_name nodes _ subscripts w.in_default.not-Array w.in_default.not-Table)
+          (stops_does itself any c.args.machine.now 1)
     ]

@@ -17,8 +17,10 @@ returns-in_err-number_of c nodes =
 pub loop-subscript-preserved : goal.loop-subscript-preserved
 loop-subscript-preserved c nodes =
     let fits : SFits w64 c.in_ok-number_of.field-0 = search rules in
-    rw (c.in_ok-push.ensures.items, to_z-of_z w64 c.in_ok-number_of.field-0 fits) (numbers_next nodes _ _ _ _ _ c.loop-subscript-test.true c.subscript-item.is (c.in_ok-number_of.ensures nodes) (c.loop-subscript.invariant nodes))
+    rw (c.in_ok-push.ensures.items, to_z-of_z w64 c.in_ok-number_of.field-0 fits)
+    (numbers_next nodes _ _ _ _ _ c.loop-subscript-test.true c.subscript-item.is (c.in_ok-number_of.ensures nodes) (c.loop-subscript.invariant nodes))
 
 pub returns : goal.returns
 returns c nodes =
-    ap (λ xs. numbers_of (map (shown nodes) xs)) (sym (take_all c.loop-subscript.subscript-index c.args.subscripts.now c.loop-subscript-test.false)) ∙ c.loop-subscript.invariant nodes
+    ap (λ xs. numbers_of (map (shown nodes) xs)) (sym (take_all c.loop-subscript.subscript-index c.args.subscripts.now c.loop-subscript-test.false))
+    ∙ c.loop-subscript.invariant nodes

@@ -6,7 +6,8 @@ use Rattle.sno_machine.proofs.operators.concatenation.Goals.{else-has_text-via-t
 pub returns-then-has_text-2 : goal.returns-then-has_text-2
 returns-then-has_text-2 c =
     let nodes = c.args.machine.now.nodes in
-    rw (concatenation_else _ _ (sym (c.is_null.ensures nodes) ∙ c.if-is_null.false) (sym (c.is_null-2.ensures nodes) ∙ c.if-is_null-2.false)) (c.joined_texts.ensures c.args.machine.now c.requires.x c.requires.y)
+    rw (concatenation_else _ _ (sym (c.is_null.ensures nodes) ∙ c.if-is_null.false) (sym (c.is_null-2.ensures nodes) ∙ c.if-is_null-2.false))
+    (c.joined_texts.ensures c.args.machine.now c.requires.x c.requires.y)
 
 pub returns : goal.returns
 returns c =
@@ -14,6 +15,8 @@ returns c =
     let x = sym (c.is_null.ensures nodes) ∙ c.if-is_null.false in
     let y = sym (c.is_null-2.ensures nodes) ∙ c.if-is_null-2.false in
     elim c.else-has_text.branch [
-      | else-has_text-via-then-has_text+else-has_text-2 w ↦ rw (joined_second nodes c.args.x c.args.y x y (sym w.has_text-then-has_text.ensures ∙ w.if-has_text-2.false)) c.joined_patterns.ensures
-      | else-has_text-via-else-has_text w ↦ rw (joined_first nodes c.args.x c.args.y x y (sym c.has_text.ensures ∙ w.if-has_text.false)) c.joined_patterns.ensures
+      | else-has_text-via-then-has_text+else-has_text-2
+          w ↦ rw (joined_second nodes c.args.x c.args.y x y (sym w.has_text-then-has_text.ensures ∙ w.if-has_text-2.false)) c.joined_patterns.ensures
+      | else-has_text-via-else-has_text w ↦ rw (joined_first nodes c.args.x c.args.y x y (sym c.has_text.ensures ∙ w.if-has_text.false))
+          c.joined_patterns.ensures
     ]

@@ -11,7 +11,8 @@ pub returns-in_err-x-in-Add : goal.returns-in_err-x-in-Add
 returns-in_err-x-in-Add c =
     let p = err_from_is_err_and c.from_residual.result c.from_residual.ensures.1 in
     let is : is_arithmetic c.args.operator ≡ true = search rules in
-    rw (p.1, p.2, arithmetic_operation _ _ _ is) (missing {X = ℤ × ℤ} (λ p. p) _ _ c.args.machine.now _ (both_none _ _ _) (c.in_err-x-in-Add.ensures c.args.machine.now.nodes))
+    rw (p.1, p.2, arithmetic_operation _ _ _ is)
+    (missing {X = ℤ × ℤ} (λ p. p) _ _ c.args.machine.now _ (both_none _ _ _) (c.in_err-x-in-Add.ensures c.args.machine.now.nodes))
 
 pub returns-in_ok-x-in-Add : goal.returns-in_ok-x-in-Add
 returns-in_ok-x-in-Add c =

@@ -12,11 +12,13 @@ pub returns-in_err-put-clause-does : goal.returns-in_err-put-clause-does
 returns-in_err-put-clause-does g c =
     let p = err_from_is_err_and c.from_residual-in_err-put.result c.from_residual-in_err-put.ensures.1 in
     let b = c.in_err-put.ensures.bytes in
-    rw (p.1, p.2) (output_cut c.args.target c.args.value _ _ _ _ c.in_ok-line.line b.0 (sym c.is_output.ensures ∙ c.if-not-is_output.false) (ap untouched c.set-2.ensures ∙ set_untouched c.args.machine.now c.args.target c.args.value) c.in_ok-line.ensures (rw c.deref.ensures.value at b.1) b.2)
+    rw (p.1, p.2) (output_cut c.args.target c.args.value _ _ _ _ c.in_ok-line.line b.0 (sym c.is_output.ensures ∙ c.if-not-is_output.false)
+    (ap untouched c.set-2.ensures ∙ set_untouched c.args.machine.now c.args.target c.args.value) c.in_ok-line.ensures (rw c.deref.ensures.value at b.1) b.2)
 
 pub returns-clause-does : goal.returns-clause-does
 returns-clause-does g c =
-    output_written c.args.target c.args.value _ _ _ _ c.in_ok-line.line (sym c.is_output.ensures ∙ c.if-not-is_output.false) c.set-2.ensures c.in_ok-line.ensures (rw c.deref.ensures.value at c.in_ok-put.ensures.bytes)
+    output_written c.args.target c.args.value _ _ _ _ c.in_ok-line.line (sym c.is_output.ensures ∙ c.if-not-is_output.false) c.set-2.ensures
+    c.in_ok-line.ensures (rw c.deref.ensures.value at c.in_ok-put.ensures.bytes)
 
 pub returns-in_err-line-clause-does : goal.returns-in_err-line-clause-does
 returns-in_err-line-clause-does g c =

@@ -24,4 +24,5 @@ pub returns-in-Ok-Some : goal.returns-in-Ok-Some
 returns-in-Ok-Some c s =
     let fits : SFits w64 c.in_ok-count.count = search rules in
     let made : Ok (Some c.in-Ok-Some.copied.items) ≡ duplicate c.in_ok-text.text.items c.in_ok-count.count = search rules in
-    rw (c.in_ok-text.ensures.text s.nodes, c.in_ok-count.ensures s.nodes, ← made, c.new.ensures) (gives_does shown IsValueOf s (stored.Str c.in-Ok-Some.copied.items) (Str c.in-Ok-Some.copied.items) refl (length-duplicate _ _ _ (sym made)))
+    rw (c.in_ok-text.ensures.text s.nodes, c.in_ok-count.ensures s.nodes, ← made, c.new.ensures)
+    (gives_does shown IsValueOf s (stored.Str c.in-Ok-Some.copied.items) (Str c.in-Ok-Some.copied.items) refl (length-duplicate _ _ _ (sym made)))

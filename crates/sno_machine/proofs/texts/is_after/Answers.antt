@@ -15,4 +15,10 @@ returns-in_err-second c s =
     rw (p.1, p.2, c.in_ok-first.ensures.text s.nodes) (missing {X = Vec ℕ Global} (λ t. t.items) _ _ s _ (absent _ _) (c.in_err-second.ensures.text s.nodes))
 
 pub returns : goal.returns
-returns c s = rw (c.in_ok-first.ensures.text s.nodes, c.in_ok-second.ensures.text s.nodes, ← c.deref.ensures.value, ← c.deref-2.ensures.value, ← c.lgt.ensures) (c.null_where.ensures s)
+returns c s = rw (
+  c.in_ok-first.ensures.text s.nodes,
+  c.in_ok-second.ensures.text s.nodes,
+  ← c.deref.ensures.value,
+  ← c.deref-2.ensures.value,
+  ← c.lgt.ensures,
+) (c.null_where.ensures s)

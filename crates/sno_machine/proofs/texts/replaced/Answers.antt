@@ -21,11 +21,13 @@ returns-in_err-from c s k =
 pub returns-in_err-to : goal.returns-in_err-to
 returns-in_err-to c s k =
     let p = err_from_is_err_and c.from_residual-in_err-to.result c.from_residual-in_err-to.ensures.1 in
-    rw (p.1, p.2, c.in_ok-text.ensures.text s.nodes, c.in_ok-from.ensures.text s.nodes) (missing {X = Vec ℕ Global} (λ t. t.items) _ _ s _ (absent _ _) (c.in_err-to.ensures.text s.nodes))
+    rw (p.1, p.2, c.in_ok-text.ensures.text s.nodes, c.in_ok-from.ensures.text s.nodes)
+    (missing {X = Vec ℕ Global} (λ t. t.items) _ _ s _ (absent _ _) (c.in_err-to.ensures.text s.nodes))
 
 pub returns-in-Some : goal.returns-in-Some
 returns-in-Some c s k =
     let made : Some c.in-Some.bytes.items ≡ replaced c.in_ok-text.text.items c.in_ok-from.from.items c.in_ok-to.to.items = search rules in
     let long = length-replaced _ _ _ _ (sym made) in
     let short = c.in_ok-text.ensures.short s.nodes k in
-    rw (c.in_ok-text.ensures.text s.nodes, c.in_ok-from.ensures.text s.nodes, c.in_ok-to.ensures.text s.nodes, ← made, c.new.ensures) (gives_does shown IsValueOf s (stored.Str c.in-Some.bytes.items) (Str c.in-Some.bytes.items) refl (rw long short))
+    rw (c.in_ok-text.ensures.text s.nodes, c.in_ok-from.ensures.text s.nodes, c.in_ok-to.ensures.text s.nodes, ← made, c.new.ensures)
+    (gives_does shown IsValueOf s (stored.Str c.in-Some.bytes.items) (Str c.in-Some.bytes.items) refl (rw long short))

@@ -18,4 +18,6 @@ returns c s k =
     let made : c.new.result ≡ trimmed c.in_ok-text.text.items = search rules in
     let shorter = length-trimmed c.in_ok-text.text.items in
     let short = c.in_ok-text.ensures.short s.nodes k in
-    rw (c.in_ok-text.ensures.text s.nodes, made) (gives_does shown IsValueOf s (stored.Str (trimmed c.in_ok-text.text.items)) (Str (trimmed c.in_ok-text.text.items)) refl (omega (arith, shorter, short)))
+    rw (c.in_ok-text.ensures.text s.nodes, made)
+    (gives_does shown IsValueOf s (stored.Str (trimmed c.in_ok-text.text.items)) (Str (trimmed c.in_ok-text.text.items)) refl
+    (omega (arith, shorter, short)))

@@ -20,4 +20,5 @@ returns-in_err-define_data c =
     rw (p.1, p.2, c.in_ok-prototype.ensures.text c.args.machine.now.nodes, ← c.deref.ensures.value) (not_defined_null _ _ _ _ c.in_err-define_data.ensures)
 
 pub returns : goal.returns
-returns c = rw (c.in_ok-prototype.ensures.text c.args.machine.now.nodes, ← c.deref.ensures.value, c.null.ensures) (defined_null _ _ _ _ c.in_ok-define_data.ensures)
+returns c = rw (c.in_ok-prototype.ensures.text c.args.machine.now.nodes, ← c.deref.ensures.value, c.null.ensures)
+    (defined_null _ _ _ _ c.in_ok-define_data.ensures)

@@ -9,4 +9,5 @@ pub returns-in_err-text : goal.returns-in_err-text
 returns-in_err-text c =
     let p = err_from_is_err_and c.from_residual.result c.from_residual.ensures.1 in
     let nodes = c.args.machine.now.nodes in
-    rw (p.1, p.2, named_by_text nodes c.args.x c.in_default.not-Name) (missing_in {X = Vec ℕ Global} (λ t. t.items) itself any _ _ c.args.machine.now _ (unnamed _) (c.in_err-text.ensures.text nodes))
+    rw (p.1, p.2, named_by_text nodes c.args.x c.in_default.not-Name) (missing_in {X = Vec ℕ Global} (λ t. t.items) itself any _ _ c.args.machine.now _
+    (unnamed _) (c.in_err-text.ensures.text nodes))

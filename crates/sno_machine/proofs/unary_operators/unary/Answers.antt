@@ -8,7 +8,8 @@ use Rattle.sno_machine.proofs.unary_operators.unary.Goals as goal
 pub returns-in_err-target-in-Indirect : goal.returns-in_err-target-in-Indirect
 returns-in_err-target-in-Indirect g c =
     let p = err_from_is_err_and c.from_residual.result c.from_residual.ensures.1 in
-    rw (p.1, p.2, c.in-Indirect.is) (reads_nothing shown IsValueOf _ _ _ _ _ c.requires.ready (then_err itself any shown IsValueOf _ _ _ _ _ c.in_err-target-in-Indirect.ensures))
+    rw (p.1, p.2, c.in-Indirect.is)
+    (reads_nothing shown IsValueOf _ _ _ _ _ c.requires.ready (then_err itself any shown IsValueOf _ _ _ _ _ c.in_err-target-in-Indirect.ensures))
 
 pub returns-in-Plus : goal.returns-in-Plus
 returns-in-Plus g c = rw c.in-Plus.is (reads_nothing shown IsValueOf _ _ _ _ _ c.requires.ready (c.plus.ensures c.args.machine.now))
@@ -18,7 +19,8 @@ returns-in-Minus g c = rw c.in-Minus.is (reads_nothing shown IsValueOf _ _ _ _ _
 
 pub returns-in_ok-target-in-Indirect : goal.returns-in_ok-target-in-Indirect
 returns-in_ok-target-in-Indirect g c =
-    rw c.in-Indirect.is (then_reads itself any shown IsValueOf _ _ _ _ _ _ _ _ _ _ (reads_nothing itself any _ _ _ _ _ c.requires.ready c.in_ok-target-in-Indirect.ensures) c.read.ensures)
+    rw c.in-Indirect.is (then_reads itself any shown IsValueOf _ _ _ _ _ _ _ _ _ _
+    (reads_nothing itself any _ _ _ _ _ c.requires.ready c.in_ok-target-in-Indirect.ensures) c.read.ensures)
 
 pub read-requires : goal.read-requires
 read-requires g c = ready_unread _ _ _ c.in_ok-target-in-Indirect.ensures.unread c.requires.ready

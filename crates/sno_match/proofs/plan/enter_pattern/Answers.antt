@@ -24,7 +24,8 @@ returns-in-Alt-clause-plan c =
       plans.due-enter c.args.patterns.now c.args.subject.now (N.Match c.args.id) c.args.cursor,
       (p, tt),
       c.requires.inside,
-      plans.next_in c.args.patterns.now c.args.id.0 (Alt (tree c.args.patterns.now c.in-Alt.p.0) (tree c.args.patterns.now c.in-Alt._q.0)) c.args.subject.now c.args.cursor c.args.cursor c.in-Alt.ensures.2 tt,
+      plans.next_in c.args.patterns.now c.args.id.0 (Alt (tree c.args.patterns.now c.in-Alt.p.0) (tree c.args.patterns.now c.in-Alt._q.0)) c.args.subject.now
+          c.args.cursor c.args.cursor c.in-Alt.ensures.2 tt,
     )
 
 pub returns-in-Arbno-clause-plan : goal.returns-in-Arbno-clause-plan
@@ -33,7 +34,8 @@ returns-in-Arbno-clause-plan c = (
   plans.due-enter c.args.patterns.now c.args.subject.now (N.Match c.args.id) c.args.cursor,
   tt,
   c.requires.inside,
-  plans.next_in c.args.patterns.now c.args.id.0 (Arbno (tree c.args.patterns.now c.in-Arbno._p.0)) c.args.subject.now c.args.cursor c.args.cursor c.in-Arbno.ensures.1 tt,
+  plans.next_in c.args.patterns.now c.args.id.0 (Arbno (tree c.args.patterns.now c.in-Arbno._p.0)) c.args.subject.now c.args.cursor
+      c.args.cursor c.in-Arbno.ensures.1 tt,
 )
 
 pub returns-in-Cond-clause-plan : goal.returns-in-Cond-clause-plan
@@ -99,7 +101,8 @@ returns-in-DeferPrim-clause-plan c = (
 pub returns-in-Cut-clause-plan : goal.returns-in-Cut-clause-plan
 returns-in-Cut-clause-plan c =
     let p : c.in-Cut.p.0 < length c.args.patterns.now = omega (arith, c.in-Cut.ensures.0) in (
-      λ start rest pending below answers left. enter-cut c.args.subject.now start c.args.patterns.now c.args.id c.in-Cut.p rest c.args.cursor pending below answers left c.in-Cut.ensures.1,
+      λ start rest pending below answers left. enter-cut c.args.subject.now start c.args.patterns.now c.args.id c.in-Cut.p rest c.args.cursor pending below
+          answers left c.in-Cut.ensures.1,
       plans.due-enter c.args.patterns.now c.args.subject.now (N.Match c.args.id) c.args.cursor,
       p,
       (c.args.id, refl, c.in-Cut.ensures.1),

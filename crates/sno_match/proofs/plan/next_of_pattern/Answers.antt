@@ -10,7 +10,8 @@ pub returns-in-Alt-clause-plan : goal.returns-in-Alt-clause-plan
 returns-in-Alt-clause-plan c =
     let q : c.in-Alt.q.0 < length c.args.patterns.now = omega (arith, c.in-Alt.ensures.1) in (
       plans.alt_next c.args.patterns.now c.args.subject.now c.args.id c.args.cursor c.args.at c.in-Alt._p c.in-Alt.q c.in-Alt.ensures.2,
-      plans.alt_due c.args.patterns.now c.args.subject.now c.args.id c.args.cursor c.args.at (tree c.args.patterns.now c.in-Alt._p.0) (tree c.args.patterns.now c.in-Alt.q.0) c.in-Alt.ensures.2,
+      plans.alt_due c.args.patterns.now c.args.subject.now c.args.id c.args.cursor c.args.at (tree c.args.patterns.now c.in-Alt._p.0)
+          (tree c.args.patterns.now c.in-Alt.q.0) c.in-Alt.ensures.2,
       (q, tt),
       c.requires.inside,
     )
@@ -44,21 +45,27 @@ unreachable-requires c =
     c.in_default.not-Primitive c.in_default.not-Alt c.in_default.not-Arbno c.in_default.not-Succeed c.in_default.not-Fence c.in_default.not-Cut
 
 pub take_end-requires-clause-end : goal.take_end-requires-clause-end
-take_end-requires-clause-end c = plans.ends_in c.args.patterns.now c.args.id.0 c.in-Primitive.ensures.0 c.args.subject.now c.args.cursor c.args.at c.in-Primitive.ensures.1 c.requires.next
+take_end-requires-clause-end c =
+    plans.ends_in c.args.patterns.now c.args.id.0 c.in-Primitive.ensures.0 c.args.subject.now c.args.cursor c.args.at c.in-Primitive.ensures.1 c.requires.next
 
 pub returns-in-Primitive-clause-plan : goal.returns-in-Primitive-clause-plan
 returns-in-Primitive-clause-plan c =
-    let is_end = plans.ends_in c.args.patterns.now c.args.id.0 c.in-Primitive.ensures.0 c.args.subject.now c.args.cursor c.args.at c.in-Primitive.ensures.1 c.requires.next in
+    let is_end = plans.ends_in c.args.patterns.now c.args.id.0 c.in-Primitive.ensures.0 c.args.subject.now c.args.cursor c.args.at
+    c.in-Primitive.ensures.1 c.requires.next in
     let number = plans.number_of c.args.patterns.now c.args.id.0 c.args.subject.now c.args.cursor c.args.at is_end in
     rw (c.take_end.ensures.plan number.0 number.1)
-    (plans.leaf_next c.args.patterns.now c.args.subject.now c.args.id c.in-Primitive.ensures.0 c.args.cursor c.in-Primitive.ensures.1 c.requires.inside number.0 c.args.at number.1 _ refl)
+    (plans.leaf_next c.args.patterns.now c.args.subject.now c.args.id c.in-Primitive.ensures.0 c.args.cursor c.in-Primitive.ensures.1 c.requires.inside number.0
+    c.args.at number.1 _ refl)
 
 pub returns-in-Cut-clause-plan : goal.returns-in-Cut-clause-plan
 returns-in-Cut-clause-plan c = λ start rest pending below answers marked left.
-    drop-cut c.args.subject.now start c.args.patterns.now c.args.id (tree c.args.patterns.now c.in-Cut._p.0) rest c.args.cursor c.args.at pending below answers left c.in-Cut.ensures.1 marked
+    drop-cut c.args.subject.now start c.args.patterns.now c.args.id (tree c.args.patterns.now c.in-Cut._p.0) rest c.args.cursor c.args.at pending below answers
+    left c.in-Cut.ensures.1 marked
 
 pub returns-in-Primitive-clause-scopes : goal.returns-in-Primitive-clause-scopes
 returns-in-Primitive-clause-scopes c =
-    let is_end = plans.ends_in c.args.patterns.now c.args.id.0 c.in-Primitive.ensures.0 c.args.subject.now c.args.cursor c.args.at c.in-Primitive.ensures.1 c.requires.next in
+    let is_end = plans.ends_in c.args.patterns.now c.args.id.0 c.in-Primitive.ensures.0 c.args.subject.now c.args.cursor c.args.at
+    c.in-Primitive.ensures.1 c.requires.next in
     let number = plans.number_of c.args.patterns.now c.args.id.0 c.args.subject.now c.args.cursor c.args.at is_end in
-    rw (c.take_end.ensures.plan number.0 number.1) (plans.leaf_scopes c.args.patterns.now c.args.id c.in-Primitive.ensures.0 c.in-Primitive.ensures.1 c.args.at _)
+    rw (c.take_end.ensures.plan number.0 number.1)
+    (plans.leaf_scopes c.args.patterns.now c.args.id c.in-Primitive.ensures.0 c.in-Primitive.ensures.1 c.args.at _)

@@ -8,6 +8,7 @@ chain-preserved c =
     let nodes = c.args.patterns.now in
     record {
       known = omega (arith, c.in-Cat.ensures.0, c.chain.invariant.known);
-      fails = first_fails (tree nodes c.args.pattern.0) (tree nodes c.chain.head.id.0) (tree nodes c.in-Cat.first.0) (tree nodes c.in-Cat._second.0) c.chain.head.above c.chain.invariant.fails c.in-Cat.ensures.2;
+      fails = first_fails (tree nodes c.args.pattern.0) (tree nodes c.chain.head.id.0) (tree nodes c.in-Cat.first.0) (tree nodes c.in-Cat._second.0)
+          c.chain.head.above c.chain.invariant.fails c.in-Cat.ensures.2;
       near = omega arith;
     }

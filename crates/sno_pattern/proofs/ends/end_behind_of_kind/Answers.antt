@@ -16,4 +16,5 @@ returns-in-Bal c =
     (λ from k h at. let more : k + 1 ≡ suc k = omega arith in rw more (c.balanced_end.ensures ∙ sym (balanced_next c.args.subject.now from k c.args.last h at)))
 
 pub returns-in_default : goal.returns-in_default
-returns-in_default c = λ from k h at. one_end c.args.kind.now c.args.subject.now from (k + 1) c.in_default.not-Arb c.in_default.not-Bal c.in_default.not-BreakX (λ e. omega arith)
+returns-in_default c = λ from k h at. one_end c.args.kind.now c.args.subject.now from (k + 1) c.in_default.not-Arb c.in_default.not-Bal
+    c.in_default.not-BreakX (λ e. omega arith)

@@ -8,4 +8,5 @@ pub returns-else-i-subject : goal.returns-else-i-subject
 returns-else-i-subject c = rw c.in-Arb.is (arb_no_end c.args.subject.now c.args.at c.args.i c.requires c.if-i-subject.false)
 
 pub returns-in_default : goal.returns-in_default
-returns-in_default c = one_end c.args.kind.now c.args.subject.now c.args.at c.args.i c.in_default.not-Arb c.in_default.not-Bal c.in_default.not-BreakX c.if-i-eq0.false
+returns-in_default c = one_end c.args.kind.now c.args.subject.now c.args.at c.args.i c.in_default.not-Arb c.in_default.not-Bal
+    c.in_default.not-BreakX c.if-i-eq0.false

@@ -6,7 +6,8 @@ pub returns-in-Some : goal.returns-in-Some
 returns-in-Some c =
     let at = c.requires in
     rw (c.in-Span.is, c.in-Some.is)
-    (λ d low high. span_run c.in-Span._set c.args.subject.now c.args.at c.in-Some.end d (sym (rw (c.in-Span.is, c.in-Some.is) at at)) low (rw c.saturating_sub.ensures at high))
+    (λ d low high. span_run c.in-Span._set c.args.subject.now c.args.at c.in-Some.end d (sym (rw (c.in-Span.is, c.in-Some.is) at at)) low
+    (rw c.saturating_sub.ensures at high))
 
 pub returns-in-Break : goal.returns-in-Break
 returns-in-Break c =
@@ -18,4 +19,5 @@ pub returns-in-BreakX : goal.returns-in-BreakX
 returns-in-BreakX c =
     let at = c.requires in
     rw c.in-BreakX.is
-    (λ d low high. stop_look c.in-BreakX._set c.args.subject.now c.args.at d c.args.end (rw c.in-BreakX.is at at) low (rw c.unwrap_or-in-BreakX.ensures at high))
+    (λ d low high. stop_look c.in-BreakX._set c.args.subject.now c.args.at d c.args.end (rw c.in-BreakX.is at at) low
+    (rw c.unwrap_or-in-BreakX.ensures at high))

@@ -6,7 +6,8 @@ pub places-init : goal.places-init
 places-init c = record {
   behind = c.place_of_byte-place.ensures.behind;
   before = c.place_of_byte-place.ensures.before;
-  none = text_first c.args.text.now c.args.subject.now (sym c.is_empty.ensures ∙ c.if-is_empty.false) c.args.until c.args.from c.place_of_byte-place.result c.place_of_byte-place.ensures;
+  none = text_first c.args.text.now c.args.subject.now (sym c.is_empty.ensures ∙ c.if-is_empty.false) c.args.until c.args.from c.place_of_byte-place.result
+      c.place_of_byte-place.ensures;
   found = c.place_of_byte-place.ensures.found;
 }
 
@@ -14,7 +15,9 @@ pub places-preserved : goal.places-preserved
 places-preserved c = record {
   behind = omega arith;
   before = c.place_of_byte-place-in-places.ensures.before;
-  none = text_next c.args.text.now c.args.subject.now (sym c.is_empty.ensures ∙ c.if-is_empty.false) c.args.until c.args.from c.places.place c.place_of_byte-place-in-places.result c.places.invariant.none (not_there c.args.text.now c.args.subject.now c.places.place (sym c.starts_with.ensures.value ∙ c.if-not-starts_with.true))
+  none = text_next c.args.text.now c.args.subject.now (sym c.is_empty.ensures ∙ c.if-is_empty.false) c.args.until c.args.from c.places.place
+      c.place_of_byte-place-in-places.result c.places.invariant.none
+      (not_there c.args.text.now c.args.subject.now c.places.place (sym c.starts_with.ensures.value ∙ c.if-not-starts_with.true))
       c.place_of_byte-place-in-places.ensures;
   found = c.place_of_byte-place-in-places.ensures.found;
 }

@@ -4,7 +4,9 @@ use Rattle.sno_pattern.proofs.PlaceLaws.{place_some, place_none}
 use Rattle.sno_pattern.proofs.places.place_outside_set.Goals as goal
 
 pub returns-in-Some : goal.returns-in-Some
-returns-in-Some c = place_some (λ byte. not (is_in c.args.set.now byte)) c.args.subject.now c.args.from c.args.until c.in-Some.before (c.in-Some.ensures ∙ ap (position (λ byte. not (is_in c.args.set.now byte))) c.bytes_between.ensures)
+returns-in-Some c = place_some (λ byte. not (is_in c.args.set.now byte)) c.args.subject.now c.args.from c.args.until c.in-Some.before
+    (c.in-Some.ensures ∙ ap (position (λ byte. not (is_in c.args.set.now byte))) c.bytes_between.ensures)
 
 pub returns-in-None : goal.returns-in-None
-returns-in-None c = place_none (λ byte. not (is_in c.args.set.now byte)) c.args.subject.now c.args.from c.args.until c.requires.range (c.in-None.ensures ∙ ap (position (λ byte. not (is_in c.args.set.now byte))) c.bytes_between.ensures)
+returns-in-None c = place_none (λ byte. not (is_in c.args.set.now byte)) c.args.subject.now c.args.from c.args.until c.requires.range
+    (c.in-None.ensures ∙ ap (position (λ byte. not (is_in c.args.set.now byte))) c.bytes_between.ensures)

@@ -11,6 +11,7 @@ pub returns-else-is_empty : goal.returns-else-is_empty
 returns-else-is_empty c =
     let some : 0 < length c.args.list.now = search rules in
     all_from_yields_List is_name _ _ c.all.result c.all.ensures.ran
-    (YieldsList-from_slice_split {s = c.split.result} _ is_comma c.args.list.now (search rules) (search rules) (search rules) (λ x r q k. search (rules, tests)))
+    (YieldsList-from_slice_split {s = c.split.result} _ is_comma c.args.list.now (search rules) (search rules) (search rules)
+    (λ x r q k. search (rules, tests)))
     (λ x b q k. search (rules, tests))
     ∙ ap (list_all is_name) (sym (listed_some c.args.list.now some))

@@ -9,5 +9,6 @@ pub returns : goal.returns
 returns c =
     let some : 0 < length c.args.list.now = search rules in
     count_from_yields_List c.split.result _ c.count.ensures.ran
-    (YieldsList-from_slice_split {s = c.split.result} _ is_comma c.args.list.now (search rules) (search rules) (search rules) (λ x r q k. search (rules, tests)))
+    (YieldsList-from_slice_split {s = c.split.result} _ is_comma c.args.list.now (search rules) (search rules) (search rules)
+    (λ x r q k. search (rules, tests)))
     ∙ ap length (sym (listed_some c.args.list.now some))

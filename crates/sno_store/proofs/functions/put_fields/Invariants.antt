@@ -7,5 +7,6 @@ abbrev pub invariant-fields : goal.invariant-fields
 invariant-fields l =
     record {
       room : reach (drop l.field-index l.fields) ≤ vec_capacity l.functions;
-      items : with_fields (map (λ id. id.0) (drop l.field-index l.fields)) l.functions.items ≡ with_fields (map (λ id. id.0) l.fields) l.initial.functions.items;
+      items : with_fields (map (λ id. id.0) (drop l.field-index l.fields)) l.functions.items
+          ≡ with_fields (map (λ id. id.0) l.fields) l.initial.functions.items;
     }

@@ -17,11 +17,13 @@ fields-preserved c =
     let step : field_values (Str []) n old ≡ value ∷ field_values (Str []) m new =
     elim c.match-next.branch [
       | in-Some w ↦ (let taken : old ≡ value ∷ new = search rules in field_taken (Str []) n m value old new one taken)
-      | in-None w ↦ (let none : old ≡ [] = search rules in let end : new ≡ [] = search rules in let null : value ≡ Str [] = search rules in field_missing (Str []) n m value old new one none end null)
+      | in-None w ↦ (let none : old ≡ [] = search rules in let end : new ≡ [] = search rules in let null : value ≡ Str [] = search rules in
+          field_missing (Str []) n m value old new one none end null)
     ]
     in
     let pushed : c.push.new.self.items ≡ c.fields.fields.items ++ value ∷ [] = search rules in
     record {
       room = search (rules, arith);
-      items = ap (λ xs. xs ++ field_values (Str []) m new) pushed ∙ append_assoc c.fields.fields.items (value ∷ []) (field_values (Str []) m new) ∙ ap (λ xs. c.fields.fields.items ++ xs) (sym step) ∙ c.fields.invariant.items;
+      items = ap (λ xs. xs ++ field_values (Str []) m new) pushed ∙ append_assoc c.fields.fields.items (value ∷ []) (field_values (Str []) m new)
+          ∙ ap (λ xs. c.fields.fields.items ++ xs) (sym step) ∙ c.fields.invariant.items;
     }

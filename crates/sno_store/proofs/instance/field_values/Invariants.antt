@@ -8,5 +8,6 @@ abbrev pub invariant-fields : goal.invariant-fields
 invariant-fields l =
     record {
       room : vec_len l.fields + (l.count - l._field) ≤ vec_capacity l.fields;
-      items : l.fields.items ++ field_values (Str []) (l.count - l._field) (into_iter_items l.values) ≡ field_values (Str []) l.count (into_iter_items l.initial.values);
+      items : l.fields.items ++ field_values (Str []) (l.count - l._field) (into_iter_items l.values)
+          ≡ field_values (Str []) l.count (into_iter_items l.initial.values);
     }

@@ -8,5 +8,6 @@ invariant-texts l =
     record {
       can_next : (goal.iterator-texts).can_next l.text-iterator;
       is_finite : (goal.iterator-texts).is_finite l.text-iterator;
-      read : l.dimensions.items ++ filter_map dimension_of (drop (length l.yielded) (slice_split is_comma l.prototype)) ≡ filter_map dimension_of (slice_split is_comma l.prototype);
+      read : l.dimensions.items ++ filter_map dimension_of (drop (length l.yielded) (slice_split is_comma l.prototype))
+          ≡ filter_map dimension_of (slice_split is_comma l.prototype);
     }

@@ -13,7 +13,8 @@ use Rattle.sno_store.proofs.type_prototype.are_different.Goals as goal
 
 pub returns-then-stands_before : goal.returns-then-stands_before
 returns-then-stands_before c =
-    let t = YieldsList-turn (YieldsList-from_slice_split {s = c.into_iter-name-iterator.result} _ is_comma c.args.list.now (search rules) (search rules) (search rules) (λ x r q k. search (rules, tests))) c.names.yielded _ c.names.yielded_by _ _ c.in-Some.name c.in-Some.is c.next.ensures.steps in
+    let t = YieldsList-turn (YieldsList-from_slice_split {s = c.into_iter-name-iterator.result} _ is_comma c.args.list.now (search rules) (search rules)
+    (search rules) (λ x r q k. search (rules, tests))) c.names.yielded _ c.names.yielded_by _ _ c.in-Some.name c.in-Some.is c.next.ensures.steps in
     let texts = slice_split is_comma c.args.list.now in
     let name = c.in-Some.name.now in
     let first = c.args.first.now in
@@ -21,12 +22,14 @@ returns-then-stands_before c =
     let known : c.stands_before.result ≡ true = search rules in
     let twice : (bytes_eq name first || list_any (bytes_eq name) (take (length c.names.yielded) texts)) ≡ true =
     sym (ap (λ ns. bytes_eq name first || list_any (bytes_eq name) (take (length c.names.yielded) ns)) (listed_some c.args.list.now some))
-    ∙ sym (ap (λ k. bytes_eq name first || list_any (bytes_eq name) (take k (listed c.args.list.now))) c.names.invariant.place) ∙ sym c.stands_before.ensures ∙ known in
+    ∙ sym (ap (λ k. bytes_eq name first || list_any (bytes_eq name) (take k (listed c.args.list.now))) c.names.invariant.place)
+    ∙ sym c.stands_before.ensures ∙ known in
     step_twice first texts (length c.names.yielded) name t twice c.names.invariant.new ∙ ap (are_new (first ∷ [])) (sym (listed_some c.args.list.now some))
 
 pub names-preserved : goal.names-preserved
 names-preserved c =
-    let t = YieldsList-turn (YieldsList-from_slice_split {s = c.into_iter-name-iterator.result} _ is_comma c.args.list.now (search rules) (search rules) (search rules) (λ x r q k. search (rules, tests))) c.names.yielded _ c.names.yielded_by _ _ c.in-Some.name c.in-Some.is c.next.ensures.steps in
+    let t = YieldsList-turn (YieldsList-from_slice_split {s = c.into_iter-name-iterator.result} _ is_comma c.args.list.now (search rules) (search rules)
+    (search rules) (λ x r q k. search (rules, tests))) c.names.yielded _ c.names.yielded_by _ _ c.in-Some.name c.in-Some.is c.next.ensures.steps in
     let texts = slice_split is_comma c.args.list.now in
     let name = c.in-Some.name.now in
     let first = c.args.first.now in
@@ -35,7 +38,8 @@ names-preserved c =
     let known : c.stands_before.result ≡ false = search rules in
     let none : (bytes_eq name first || list_any (bytes_eq name) (take (length c.names.yielded) texts)) ≡ false =
     sym (ap (λ ns. bytes_eq name first || list_any (bytes_eq name) (take (length c.names.yielded) ns)) (listed_some c.args.list.now some))
-    ∙ sym (ap (λ k. bytes_eq name first || list_any (bytes_eq name) (take k (listed c.args.list.now))) c.names.invariant.place) ∙ sym c.stands_before.ensures ∙ known in
+    ∙ sym (ap (λ k. bytes_eq name first || list_any (bytes_eq name) (take k (listed c.args.list.now))) c.names.invariant.place)
+    ∙ sym c.stands_before.ensures ∙ known in
     record {
       can_next = search rules;
       is_finite = search rules;
@@ -46,7 +50,9 @@ names-preserved c =
 
 pub returns : goal.returns
 returns c =
-    let t = YieldsList-end (YieldsList-from_slice_split {s = c.into_iter-name-iterator.result} _ is_comma c.args.list.now (search rules) (search rules) (search rules) (λ x r q k. search (rules, tests))) c.names.yielded _ c.names.yielded_by _ _ c.in-None.is c.next.ensures.steps in
+    let t = YieldsList-end (YieldsList-from_slice_split {s = c.into_iter-name-iterator.result} _ is_comma c.args.list.now (search rules) (search rules)
+    (search rules) (λ x r q k. search (rules, tests))) c.names.yielded _ c.names.yielded_by _ _ c.in-None.is c.next.ensures.steps in
     let texts = slice_split is_comma c.args.list.now in
     let some : 0 < length c.args.list.now = search rules in
-    new_ends c.args.first.now texts (length c.names.yielded) (omega (arith, t.1)) c.names.invariant.new ∙ ap (are_new (c.args.first.now ∷ [])) (sym (listed_some c.args.list.now some))
+    new_ends c.args.first.now texts (length c.names.yielded) (omega (arith, t.1)) c.names.invariant.new ∙ ap (are_new (c.args.first.now ∷ []))
+    (sym (listed_some c.args.list.now some))

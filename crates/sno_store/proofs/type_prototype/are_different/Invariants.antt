@@ -11,5 +11,6 @@ invariant-names l =
       is_finite : (goal.iterator-names).is_finite l.name-iterator;
       place : l.place ≡ length l.yielded;
       within : length l.yielded ≤ length (slice_split is_comma l.list);
-      new : are_new (l.first ∷ take (length l.yielded) (slice_split is_comma l.list)) (drop (length l.yielded) (slice_split is_comma l.list)) ≡ are_new (l.first ∷ []) (slice_split is_comma l.list);
+      new : are_new (l.first ∷ take (length l.yielded) (slice_split is_comma l.list)) (drop (length l.yielded) (slice_split is_comma l.list))
+          ≡ are_new (l.first ∷ []) (slice_split is_comma l.list);
     }

@@ -14,7 +14,8 @@ returns-in_default-2-clause-extends c = extends_trans _ _ _ _ c.in_ok-first.ensu
 
 pub returns-clause-read : goal.returns-clause-read
 returns-clause-read c =
-    rw c.both-fits.ensures (gives_targets _ _ _ _ _ _ c.in-Some.first c.in-Some-2.second (rw c.in-Some.is at c.in_ok-first.ensures.read) (rw c.in-Some-2.is at c.in_ok-second.ensures.read) c.in_ok-second.ensures.extends)
+    rw c.both-fits.ensures (gives_targets _ _ _ _ _ _ c.in-Some.first c.in-Some-2.second (rw c.in-Some.is at c.in_ok-first.ensures.read)
+    (rw c.in-Some-2.is at c.in_ok-second.ensures.read) c.in_ok-second.ensures.extends)
 
 pub returns-clause-extends : goal.returns-clause-extends
 returns-clause-extends c = extends_trans _ _ _ _ c.in_ok-first.ensures.extends c.in_ok-second.ensures.extends

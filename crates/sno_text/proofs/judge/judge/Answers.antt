@@ -10,32 +10,41 @@ returns-in-Some-clause-refused c = inr (λ before k. shape_refused _ _ _ _ befor
 
 pub returns-in_default-2-clause-refused : goal.returns-in_default-2-clause-refused
 returns-in_default-2-clause-refused c = inr (λ before k.
-    let none : (u : StatementTree) → IsStatementAt c.args.text.now c.args.extent u → ⊥ = rw (c.in_default-2.is, c.requires.joined) at c.in_ok-phrase.ensures.read in
+    let none : (u : StatementTree) → IsStatementAt c.args.text.now c.args.extent u → ⊥ =
+    rw (c.in_default-2.is, c.requires.joined) at c.in_ok-phrase.ensures.read in
     grammar_refused _ _ _ before _ _ _ refl c.requires.line k (shaped _ _ _ _ c.requires.joined c.in_default.ensures.fits) none)
 
 pub returns-then-not-phrase-clause-refused : goal.returns-then-not-phrase-clause-refused
 returns-then-not-phrase-clause-refused c = inr (λ before k.
-    let found : GivesPhrase (IsStatementAt c.args.text.now c.args.extent) _ _ c.args.nodes.now.items c.read_statement.new.nodes.items c.in-Some-2.phrase = rw (c.in-Some-2.is, c.requires.joined) at c.in_ok-phrase.ensures.read in
-    integer_refused _ _ _ before _ _ _ _ _ _ _ c.in-Some-2.phrase refl c.requires.line k (shaped _ _ _ _ c.requires.joined c.in_default.ensures.fits) found (search rules))
+    let found : GivesPhrase (IsStatementAt c.args.text.now c.args.extent) _ _ c.args.nodes.now.items c.read_statement.new.nodes.items c.in-Some-2.phrase =
+    rw (c.in-Some-2.is, c.requires.joined) at c.in_ok-phrase.ensures.read in
+    integer_refused _ _ _ before _ _ _ _ _ _ _ c.in-Some-2.phrase refl c.requires.line k
+    (shaped _ _ _ _ c.requires.joined c.in_default.ensures.fits) found (search rules))
 
 pub refuse_labels-requires-clause-label : goal.refuse_labels-requires-clause-label
 refuse_labels-requires-clause-label c =
-    let found : GivesPhrase (IsStatementAt c.args.text.now c.args.extent) _ _ c.args.nodes.now.items c.read_statement.new.nodes.items c.in-Some-2.phrase = rw (c.in-Some-2.is, c.requires.joined) at c.in_ok-phrase.ensures.read in
+    let found : GivesPhrase (IsStatementAt c.args.text.now c.args.extent) _ _ c.args.nodes.now.items c.read_statement.new.nodes.items c.in-Some-2.phrase =
+    rw (c.in-Some-2.is, c.requires.joined) at c.in_ok-phrase.ensures.read in
     given_label _ _ _ _ _ _ c.in-Some-2.phrase c.requires.joined c.requires.length found
 
 pub returns-in-Some-refuse_labels-clause-refused : goal.returns-in-Some-refuse_labels-clause-refused
 returns-in-Some-refuse_labels-clause-refused c = inr (λ before k.
-    let found : GivesPhrase (IsStatementAt c.args.text.now c.args.extent) _ _ c.args.nodes.now.items c.read_statement.new.nodes.items c.in-Some-2.phrase = rw (c.in-Some-2.is, c.requires.joined) at c.in_ok-phrase.ensures.read in
-    label_refused _ _ _ before _ _ _ _ _ _ _ c.in-Some-2.phrase c.requires.line k (shaped _ _ _ _ c.requires.joined c.in_default.ensures.fits) found (search rules) c.in-Some-refuse_labels.ensures.refused)
+    let found : GivesPhrase (IsStatementAt c.args.text.now c.args.extent) _ _ c.args.nodes.now.items c.read_statement.new.nodes.items c.in-Some-2.phrase =
+    rw (c.in-Some-2.is, c.requires.joined) at c.in_ok-phrase.ensures.read in
+    label_refused _ _ _ before _ _ _ _ _ _ _ c.in-Some-2.phrase c.requires.line k (shaped _ _ _ _ c.requires.joined c.in_default.ensures.fits) found
+    (search rules) c.in-Some-refuse_labels.ensures.refused)
 
 pub returns-clause-accepted : goal.returns-clause-accepted
 returns-clause-accepted c = λ before k.
-    let found : GivesPhrase (IsStatementAt c.args.text.now c.args.extent) _ _ c.args.nodes.now.items c.read_statement.new.nodes.items c.in-Some-2.phrase = rw (c.in-Some-2.is, c.requires.joined) at c.in_ok-phrase.ensures.read in
-    judged _ _ before _ _ _ _ _ _ c.in-Some-2.phrase k (shaped _ _ _ _ c.requires.joined c.in_default.ensures.fits) found (search rules) c.in_default-refuse_labels.ensures.fresh c.in_default-refuse_labels.ensures.known
+    let found : GivesPhrase (IsStatementAt c.args.text.now c.args.extent) _ _ c.args.nodes.now.items c.read_statement.new.nodes.items c.in-Some-2.phrase =
+    rw (c.in-Some-2.is, c.requires.joined) at c.in_ok-phrase.ensures.read in
+    judged _ _ before _ _ _ _ _ _ c.in-Some-2.phrase k (shaped _ _ _ _ c.requires.joined c.in_default.ensures.fits) found
+    (search rules) c.in_default-refuse_labels.ensures.fresh c.in_default-refuse_labels.ensures.known
 
 pub returns-clause-label : goal.returns-clause-label
 returns-clause-label c =
-    let found : GivesPhrase (IsStatementAt c.args.text.now c.args.extent) _ _ c.args.nodes.now.items c.read_statement.new.nodes.items c.in-Some-2.phrase = rw (c.in-Some-2.is, c.requires.joined) at c.in_ok-phrase.ensures.read in
+    let found : GivesPhrase (IsStatementAt c.args.text.now c.args.extent) _ _ c.args.nodes.now.items c.read_statement.new.nodes.items c.in-Some-2.phrase =
+    rw (c.in-Some-2.is, c.requires.joined) at c.in_ok-phrase.ensures.read in
     given_label _ _ _ _ _ _ c.in-Some-2.phrase c.requires.joined c.requires.length found
 
 pub returns-clause-extends : goal.returns-clause-extends

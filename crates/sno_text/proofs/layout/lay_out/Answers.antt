@@ -9,7 +9,12 @@ use Rattle.sno_text.proofs.layout.lay_out.Goals as goal
 
 pub loop-line-init : goal.loop-line-init
 loop-line-init c =
-    rw (c.new-joined.ensures.items, c.new-extents.ensures.items, c.into_iter-line-iterator.ensures.into_iter_gives, c.lines_with_terminator-line-items.ensures.value) (laid_first _)
+    rw (
+      c.new-joined.ensures.items,
+      c.new-extents.ensures.items,
+      c.into_iter-line-iterator.ensures.into_iter_gives,
+      c.lines_with_terminator-line-items.ensures.value,
+    ) (laid_first _)
 
 pub slice_bounds-push_statements-count : goal.slice_bounds-push_statements-count
 slice_bounds-push_statements-count c = rw c.as_slice.ensures.value (c.loop-line.invariant.order)
@@ -20,12 +25,15 @@ slice_bounds-push_statements-count-2 c = rw c.as_slice-2.ensures.value (c.loop-l
 pub loop-line-preserved : goal.loop-line-preserved
 loop-line-preserved c =
     let rest : c.loop-line.line-iterator ≡ c.in-Some.line.now ∷ c.next.new.self = search rules in
-    let laid : Laid c.args.text.now c.loop-line.begun c.loop-line.start c.loop-line.joined.items c.loop-line.extents.items (c.in-Some.line.now ∷ c.next.new.self) = rw rest at c.loop-line.invariant in
-    let kind : c.line_kind-kind.result ≡ kind_of c.loop-line.begun (without_terminator c.in-Some.line.now) = rw (← c.content.ensures) c.line_kind-kind.ensures in
+    let laid : Laid c.args.text.now c.loop-line.begun c.loop-line.start c.loop-line.joined.items c.loop-line.extents.items
+    (c.in-Some.line.now ∷ c.next.new.self) = rw rest at c.loop-line.invariant in
+    let kind : c.line_kind-kind.result ≡ kind_of c.loop-line.begun (without_terminator c.in-Some.line.now) =
+    rw (← c.content.ensures) c.line_kind-kind.ensures in
     elim c.match-kind.branch [
       | in-Card+in_ok-push_statements w ↦
           let len : c.match-kind.start ≡ length c.loop-line.joined.items = w.start-is ∙ search rules in
-          let more : w.push_statements.new.extents.items ≡ c.loop-line.extents.items ++ map (moved c.loop-line.start) (statements_of (take (length c.loop-line.joined.items - c.loop-line.start) (drop c.loop-line.start c.loop-line.joined.items))) =
+          let more : w.push_statements.new.extents.items ≡ c.loop-line.extents.items ++ map (moved c.loop-line.start)
+          (statements_of (take (length c.loop-line.joined.items - c.loop-line.start) (drop c.loop-line.start c.loop-line.joined.items))) =
           rw w.as_slice.ensures.value at w.in_ok-push_statements.ensures in
           rw (w.extents-is, w.begun-is, len) (laid_card _ _ _ _ _ _ _ _ _ _ kind w.in-Card.is c.in_ok-push_line.ensures more laid)
       | in_default w ↦ rw (w.extents-is, w.begun-is, w.start-is) (laid_line _ _ _ _ _ _ _ _ _ kind w.in_default.not-Card c.in_ok-push_line.ensures laid)
@@ -47,4 +55,5 @@ returns-clause-extents c =
 pub returns-clause-order : goal.returns-clause-order
 returns-clause-order c =
     let rest : c.loop-line.line-iterator ≡ [] = search rules in
-    rw (laid_extents c.args.text.now _ _ _ _ _ _ rest (rw c.as_slice-2.ensures.value at c.in_ok-push_statements-2.ensures) c.loop-line.invariant) (extents_in_order c.args.text.now)
+    rw (laid_extents c.args.text.now _ _ _ _ _ _ rest (rw c.as_slice-2.ensures.value at c.in_ok-push_statements-2.ensures) c.loop-line.invariant)
+    (extents_in_order c.args.text.now)

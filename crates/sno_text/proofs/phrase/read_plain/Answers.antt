@@ -26,14 +26,16 @@ returns-then-run_end-text-clause-extends c = extends_trans _ _ _ _ c.in_ok-body.
 pub returns-then-is_nothing-clause-read : goal.returns-then-is_nothing-clause-read
 returns-then-is_nothing-clause-read c = λ u r.
     let n = c.is_nothing.ensures.nothing c.if-is_nothing.true in
-    lacks_rest_some _ _ _ _ _ _ c.in-Some.body c.in-Some-2.jump (rw c.in-Some.is at c.in_ok-body.ensures.read) (rw c.in-Some-2.is at c.in_ok-jump.ensures.read) n.0 n.1 n.2 u r
+    lacks_rest_some _ _ _ _ _ _ c.in-Some.body c.in-Some-2.jump (rw c.in-Some.is at c.in_ok-body.ensures.read)
+    (rw c.in-Some-2.is at c.in_ok-jump.ensures.read) n.0 n.1 n.2 u r
 
 pub returns-then-is_nothing-clause-extends : goal.returns-then-is_nothing-clause-extends
 returns-then-is_nothing-clause-extends c = extends_trans _ _ _ _ c.in_ok-body.ensures.extends c.in_ok-jump.ensures.extends
 
 pub returns-clause-read : goal.returns-clause-read
 returns-clause-read c =
-    rw c.both-fits.ensures (gives_rest _ _ _ _ _ _ _ c.in-Some.body c.in-Some-2.jump (rw c.in-Some.is at c.in_ok-body.ensures.read) (rw c.in-Some-2.is at c.in_ok-jump.ensures.read)
+    rw c.both-fits.ensures (gives_rest _ _ _ _ _ _ _ c.in-Some.body c.in-Some-2.jump (rw c.in-Some.is at c.in_ok-body.ensures.read)
+    (rw c.in-Some-2.is at c.in_ok-jump.ensures.read)
     c.in_ok-jump.ensures.extends c.run_end.ensures.run c.if-run_end-text.false (c.is_nothing.ensures.some c.if-is_nothing.false))
 
 pub returns-clause-extends : goal.returns-clause-extends

@@ -33,5 +33,6 @@ pub returns-clause-read : goal.returns-clause-read
 returns-clause-read c =
     let label : IsLabel c.args.text.now c.in-Some.label.start c.in-Some.label.end = rw c.in-Some.ensures.0 c.in-Some.ensures.1 in
     let some : c.in-Some.label.start < c.in-Some.label.end = rw c.in-Some.ensures.0 c.in-Some.ensures.2 in
-    rw (← c.in-Some.ensures.0) (statement_labelled _ _ _ _ _ _ label some (c.is_name.ensures.other c.if-is_name.false) (c.is_name-2.ensures.other c.if-is_name-2.false)
+    rw (← c.in-Some.ensures.0) (statement_labelled _ _ _ _ _ _ label some (c.is_name.ensures.other c.if-is_name.false)
+    (c.is_name-2.ensures.other c.if-is_name-2.false)
     (c.is_name-3.ensures.other c.if-is_name-3.false) c.in_ok-found-2.ensures.read)

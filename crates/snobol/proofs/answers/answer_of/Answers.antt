@@ -15,7 +15,9 @@ pub returns-in_ok-pattern-in-Ok : goal.returns-in_ok-pattern-in-Ok
 returns-in_ok-pattern-in-Ok c = λ act before old new did. answered _ _ _ _ _ _ _ c.in-Ok.value _ (rw c.in-Ok.is at did) c.in_ok-pattern-in-Ok.ensures
 
 pub returns-in-Err-Failure : goal.returns-in-Err-Failure
-returns-in-Err-Failure c = λ act before old new did. none_given _ _ _ _ _ _ (rw (c.in-Err-Failure.is ∙ ap Err (rw c.in-Err-Failure.is at c.in-Err-Failure.field-0-is)) at did)
+returns-in-Err-Failure c =
+    λ act before old new did. none_given _ _ _ _ _ _ (rw (c.in-Err-Failure.is ∙ ap Err (rw c.in-Err-Failure.is at c.in-Err-Failure.field-0-is)) at did)
 
 pub returns-in-Err-Halt : goal.returns-in-Err-Halt
-returns-in-Err-Halt c = λ act before old new did. halted _ _ _ _ _ _ c.in-Err-Halt.stop (rw (c.in-Err-Halt.is ∙ ap Err (rw c.in-Err-Halt.is at c.in-Err-Halt.field-0-is)) at did)
+returns-in-Err-Halt c = λ act before old new did. halted _ _ _ _ _ _ c.in-Err-Halt.stop
+    (rw (c.in-Err-Halt.is ∙ ap Err (rw c.in-Err-Halt.is at c.in-Err-Halt.field-0-is)) at did)

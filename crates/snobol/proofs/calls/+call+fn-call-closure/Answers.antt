@@ -16,7 +16,8 @@ pub returns-in_err-enter : goal.returns-in_err-enter
 returns-in_err-enter g t c =
     let p = err_from_is_err_and c.from_residual-in_err-enter.result c.from_residual-in_err-enter.ensures.1 in
     let e = c.in_ok-entry.ensures.entry in
-    rw (p.1, p.2) (not_begun c.args.code.now c.args.function.0 e.0 (map (shown c.args.machine.now.nodes) c.args.arguments.items) c.args.machine.now c.enter.new.self
+    rw (p.1, p.2) (not_begun c.args.code.now c.args.function.0 e.0 (map (shown c.args.machine.now.nodes) c.args.arguments.items)
+    c.args.machine.now c.enter.new.self
     (devices (g.R.Source.feed c.args.reader.now) (g.W.Sink.drain c.args.writer.now))
     c.in_err-enter.field-0.0 c.requires.ready c.in_ok-entry.ensures.room (c.in_err-enter.ensures e.0 e.1))
 
@@ -24,7 +25,8 @@ pub returns-in_err-success : goal.returns-in_err-success
 returns-in_err-success g t c =
     let p = err_from_is_err_and c.from_residual-in_err-success.result c.from_residual-in_err-success.ensures.1 in
     let e = c.in_ok-entry.ensures.entry in
-    rw (p.1, p.2) (call_ended c.args.code.now c.args.function.0 c.in_ok-entry.entry e.0 (map (shown c.args.machine.now.nodes) c.args.arguments.items) c.args.machine.now c.enter.new.self
+    rw (p.1, p.2) (call_ended c.args.code.now c.args.function.0 c.in_ok-entry.entry e.0 (map (shown c.args.machine.now.nodes) c.args.arguments.items)
+    c.args.machine.now c.enter.new.self
     (c.in_ok-enter.ensures e.0 e.1) e.1 (rw c.program.ensures.program at e.2) c.level-level.result c.chain.new.machine
     (devices (g.R.Source.feed c.args.reader.now) (g.W.Sink.drain c.args.writer.now))
     (devices (g.R.Source.feed c.chain.new.reader) (g.W.Sink.drain c.chain.new.writer))
@@ -33,8 +35,10 @@ returns-in_err-success g t c =
 pub returns-then-success : goal.returns-then-success
 returns-then-success g t c =
     let e = c.in_ok-entry.ensures.entry in
-    call_runs c.args.code.now c.args.function.0 c.in_ok-entry.entry e.0 (map (shown c.args.machine.now.nodes) c.args.arguments.items) c.args.machine.now c.enter.new.self
-    (c.in_ok-enter.ensures e.0 e.1) e.1 (rw c.program.ensures.program at e.2) c.level-level.result c.chain.new.machine c.leave-value.new.self c.leave-value.result true
+    call_runs c.args.code.now c.args.function.0 c.in_ok-entry.entry e.0 (map (shown c.args.machine.now.nodes) c.args.arguments.items)
+    c.args.machine.now c.enter.new.self
+    (c.in_ok-enter.ensures e.0 e.1) e.1 (rw c.program.ensures.program at e.2) c.level-level.result c.chain.new.machine c.leave-value.new.self
+    c.leave-value.result true
     (devices (g.R.Source.feed c.args.reader.now) (g.W.Sink.drain c.args.writer.now))
     (devices (g.R.Source.feed c.chain.new.reader) (g.W.Sink.drain c.chain.new.writer))
     c.level-level.ensures (rw c.if-success.true at c.in_ok-success.ensures.does) (rw c.statement-statement.ensures at c.leave-value.ensures)
@@ -42,8 +46,10 @@ returns-then-success g t c =
 pub returns-else-success : goal.returns-else-success
 returns-else-success g t c =
     let e = c.in_ok-entry.ensures.entry in
-    call_runs c.args.code.now c.args.function.0 c.in_ok-entry.entry e.0 (map (shown c.args.machine.now.nodes) c.args.arguments.items) c.args.machine.now c.enter.new.self
-    (c.in_ok-enter.ensures e.0 e.1) e.1 (rw c.program.ensures.program at e.2) c.level-level.result c.chain.new.machine c.leave-value.new.self c.leave-value.result false
+    call_runs c.args.code.now c.args.function.0 c.in_ok-entry.entry e.0 (map (shown c.args.machine.now.nodes) c.args.arguments.items)
+    c.args.machine.now c.enter.new.self
+    (c.in_ok-enter.ensures e.0 e.1) e.1 (rw c.program.ensures.program at e.2) c.level-level.result c.chain.new.machine c.leave-value.new.self
+    c.leave-value.result false
     (devices (g.R.Source.feed c.args.reader.now) (g.W.Sink.drain c.args.writer.now))
     (devices (g.R.Source.feed c.chain.new.reader) (g.W.Sink.drain c.chain.new.writer))
     c.level-level.ensures (rw c.if-success.false at c.in_ok-success.ensures.does) (rw c.statement-statement.ensures at c.leave-value.ensures)

@@ -9,8 +9,10 @@ use Rattle.snobol.proofs.calls.call_made.Goals as goal
 
 pub returns-in-Some : goal.returns-in-Some
 returns-in-Some g c =
-    constructed_runs (call_at c.args.scope.now.code.now (200 - c.args.scope.now.level)) c.args.function.0 (map (shown c.args.machine.now.nodes) c.args.arguments.items)
-    c.args.machine.now c.construct.new.machine _ c.construct.result c.in-Some.number c.requires.ready (sym c.constructor.ensures ∙ c.in-Some.is) c.construct.ensures
+    constructed_runs (call_at c.args.scope.now.code.now (200 - c.args.scope.now.level)) c.args.function.0
+    (map (shown c.args.machine.now.nodes) c.args.arguments.items)
+    c.args.machine.now c.construct.new.machine _ c.construct.result c.in-Some.number c.requires.ready
+    (sym c.constructor.ensures ∙ c.in-Some.is) c.construct.ensures
 
 pub returns-then-is_field : goal.returns-then-is_field
 returns-then-is_field g c =
@@ -18,10 +20,12 @@ returns-then-is_field g c =
     let object = c.argument-object.ensures.value nodes ∙ ap (λ items. argument (map (shown nodes) items) 0) c.as_mut_slice.ensures.value in
     field_runs (call_at c.args.scope.now.code.now (200 - c.args.scope.now.level)) c.args.function.0 (map (shown nodes) c.args.arguments.items)
     c.args.machine.now c.args.machine.now _ c.field_value.result c.requires.ready (sym c.is_field.ensures ∙ c.if-is_field.true)
-    (subst (λ (v : Shown). Does shown IsValueOf (field_value c.args.function.0 v) c.args.machine.now c.args.machine.now c.field_value.result) object c.field_value.ensures)
+    (subst (λ (v : Shown). Does shown IsValueOf (field_value c.args.function.0 v) c.args.machine.now c.args.machine.now c.field_value.result)
+    object c.field_value.ensures)
 
 pub returns : goal.returns
 returns g c =
-    defined_runs (call_at c.args.scope.now.code.now (200 - c.args.scope.now.level)) c.args.function.0 (map (shown c.args.machine.now.nodes) c.args.arguments.items)
+    defined_runs (call_at c.args.scope.now.code.now (200 - c.args.scope.now.level)) c.args.function.0
+    (map (shown c.args.machine.now.nodes) c.args.arguments.items)
     c.args.machine.now c.call.new.arg2 _ c.call.result _ (sym c.constructor.ensures ∙ c.in_default.is) (sym c.is_field.ensures ∙ c.if-is_field.false)
     (c.requires.calls.meant _ _ _ _ _ _ _ _ _ c.call.ensures)

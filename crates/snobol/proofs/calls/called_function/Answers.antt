@@ -5,7 +5,8 @@ use Rattle.snobol.specs.Forms.{node_at}
 use Rattle.snobol.proofs.CallLaws.{no_value_wanted, calls_none, unnamed, named, named_or_error}
 use Rattle.snobol.proofs.Holders.{no_form}
 use Rattle.snobol.proofs.calls.called_function.Goals as goal
-use Rattle.snobol.proofs.calls.called_function.Goals.{then-not-matches-via-then-not-matches, then-not-matches-via-else-not-matches+then-part-nodes, in-Value, in_default}
+use Rattle.snobol.proofs.calls.called_function.Goals.{then-not-matches-via-then-not-matches, then-not-matches-via-else-not-matches+then-part-nodes, in-Value}
+use Rattle.snobol.proofs.calls.called_function.Goals.{in_default}
 
 -- a call without a value wanted, or a number beyond the table
 pub returns-then-not-matches-clause-does : goal.returns-then-not-matches-clause-does
@@ -24,8 +25,10 @@ pub returns-in_err-name-clause-does : goal.returns-in_err-name-clause-does
 returns-in_err-name-clause-does c =
     let t = c.args.program.now in
     let p = err_from_is_err_and c.from_residual.result c.from_residual.ensures.1 in
-    let wants : c.args.part.wanted ≡ Value = elim c.match-matches.branch [ in-Value v ↦ v.in-Value.is | in_default v ↦ absurd (let a = c.if-not-matches.false in let b = v.matches-is in cc) ] in
-    rw (p.1, p.2) (unnamed t.text (node_at t c.args.part) c.node.result.now c.in-Call.name c.in-Call.field-1 c.args.part.wanted c.args.machine.now c.variable_at.new.self c.in_err-name.field-0.0
+    let wants : c.args.part.wanted ≡ Value =
+    elim c.match-matches.branch [ in-Value v ↦ v.in-Value.is | in_default v ↦ absurd (let a = c.if-not-matches.false in let b = v.matches-is in cc) ] in
+    rw (p.1, p.2) (unnamed t.text (node_at t c.args.part) c.node.result.now c.in-Call.name c.in-Call.field-1 c.args.part.wanted c.args.machine.now
+    c.variable_at.new.self c.in_err-name.field-0.0
     c.node.ensures.node c.in-Call.is wants (rw c.text.ensures at c.in_err-name.ensures))
 
 pub returns-in_err-name-clause-halts : goal.returns-in_err-name-clause-halts
@@ -36,6 +39,8 @@ returns-in_err-name-clause-halts c = λ is.
 pub returns-clause-does : goal.returns-clause-does
 returns-clause-does c =
     let t = c.args.program.now in
-    let wants : c.args.part.wanted ≡ Value = elim c.match-matches.branch [ in-Value v ↦ v.in-Value.is | in_default v ↦ absurd (let a = c.if-not-matches.false in let b = v.matches-is in cc) ] in
-    named t.text (node_at t c.args.part) c.node.result.now c.in-Call.name c.in-Call.field-1 c.args.part.wanted c.args.machine.now c.variable_at.new.self c.in_ok-name.name c.made_function.result
+    let wants : c.args.part.wanted ≡ Value =
+    elim c.match-matches.branch [ in-Value v ↦ v.in-Value.is | in_default v ↦ absurd (let a = c.if-not-matches.false in let b = v.matches-is in cc) ] in
+    named t.text (node_at t c.args.part) c.node.result.now c.in-Call.name c.in-Call.field-1 c.args.part.wanted c.args.machine.now c.variable_at.new.self
+    c.in_ok-name.name c.made_function.result
     c.node.ensures.node c.in-Call.is wants (rw c.text.ensures at c.in_ok-name.ensures) c.made_function.ensures

@@ -51,7 +51,8 @@ returns-in-Ok-pattern_of-clause-listing g c =
     let start = rw c.in-Ok.is at c.new.ensures in
     let did = c.pattern_of.ensures in
     let made = rw (c.in-Ok-pattern_of.is, c.in-Ok-of.ensures, start, c.for_listing-keywords.ensures) at did in
-    listed_as _ _ _ _ _ _ _ _ _ c.requires.subject refl (built_listed c.args.program.now c.args.expression c.args.subject.now c.args.anchored c.args.limit _ _ _ _ _ _ c.in-Ok-pattern_of.pattern _ made (rw c.in-Ok-of.ensures at c.list_ways.ensures))
+    listed_as _ _ _ _ _ _ _ _ _ c.requires.subject refl (built_listed c.args.program.now c.args.expression c.args.subject.now c.args.anchored c.args.limit _ _ _
+    _ _ _ c.in-Ok-pattern_of.pattern _ made (rw c.in-Ok-of.ensures at c.list_ways.ensures))
 
 pub returns-in-Ok-pattern_of-clause-fault : goal.returns-in-Ok-pattern_of-clause-fault
 returns-in-Ok-pattern_of-clause-fault g c = fault_told c.list_ways.result _ c.list_ways.ensures.cause
@@ -62,8 +63,10 @@ returns-in-Err-clause-listing g c =
     let did = c.pattern_of.ensures in
     let failed = rw (c.in-Err-Failure.is, c.in-Err-Failure.field-0-is, c.in-Ok-of.ensures, start, c.for_listing-keywords.ensures) at did in
     let cut = c.in-Err.ensures.bytes in
-    let line = performs_runs _ _ _ _ (g.W.Sink.drain c.pattern_of.new.writer) _ (Err WriteFault) failed.ready.reads refl tt (λ e. c.in-Err.ensures.fault) (line_cut (codes "exhausted\n") cut.0 c.pattern_of.new.machine _ _ cut.1 cut.2) in
-    listed_as _ _ _ _ _ _ _ _ _ c.requires.subject refl (failed_listed c.args.program.now c.args.expression c.args.subject.now c.args.anchored c.args.limit _ _ _ _ _ _ _ failed line)
+    let line = performs_runs _ _ _ _ (g.W.Sink.drain c.pattern_of.new.writer) _ (Err WriteFault) failed.ready.reads refl tt (λ e. c.in-Err.ensures.fault)
+    (line_cut (codes "exhausted\n") cut.0 c.pattern_of.new.machine _ _ cut.1 cut.2) in
+    listed_as _ _ _ _ _ _ _ _ _ c.requires.subject refl (failed_listed c.args.program.now c.args.expression c.args.subject.now c.args.anchored c.args.limit
+    _ _ _ _ _ _ _ failed line)
 
 pub returns-in-Err-Failure-clause-listing : goal.returns-in-Err-Failure-clause-listing
 returns-in-Err-Failure-clause-listing g c =
@@ -71,19 +74,25 @@ returns-in-Err-Failure-clause-listing g c =
     let did = c.pattern_of.ensures in
     let failed = rw (c.in-Err-Failure.is, c.in-Err-Failure.field-0-is, c.in-Ok-of.ensures, start, c.for_listing-keywords.ensures) at did in
     let put = c.in_default-put.ensures in
-    let line = performs_runs _ _ _ _ (g.W.Sink.drain c.pattern_of.new.writer) _ (Ok tt) failed.ready.reads refl put.sound (λ e. absurd (cc e)) (line_put (codes "exhausted\n") c.pattern_of.new.machine _ _ put.bytes) in
-    listed_as _ _ _ _ _ _ _ _ _ c.requires.subject refl (failed_listed c.args.program.now c.args.expression c.args.subject.now c.args.anchored c.args.limit _ _ _ _ _ _ _ failed line)
+    let line = performs_runs _ _ _ _ (g.W.Sink.drain c.pattern_of.new.writer) _ (Ok tt) failed.ready.reads refl put.sound (λ e. absurd (cc e))
+    (line_put (codes "exhausted\n") c.pattern_of.new.machine _ _ put.bytes) in
+    listed_as _ _ _ _ _ _ _ _ _ c.requires.subject refl (failed_listed c.args.program.now c.args.expression c.args.subject.now c.args.anchored c.args.limit
+    _ _ _ _ _ _ _ failed line)
 
 pub returns-clause-listing : goal.returns-clause-listing
 returns-clause-listing g c =
     let start = rw c.in-Ok.is at c.new.ensures in
     let did = c.pattern_of.ensures in
     let stopped = rw (c.in-Err-Halt.is, c.in-Err-Halt.field-0-is, c.in-Ok-of.ensures, start, c.for_listing-keywords.ensures) at did in
-    rw c.in-Err-Halt.field-0-is (listed_as _ _ _ _ _ _ _ _ _ c.requires.subject refl (stopped_listed c.args.program.now c.args.expression c.args.subject.now c.args.anchored c.args.limit _ _ _ _ c.in-Err-Halt.stop stopped))
+    rw c.in-Err-Halt.field-0-is
+    (listed_as _ _ _ _ _ _ _ _ _ c.requires.subject refl
+    (stopped_listed c.args.program.now c.args.expression c.args.subject.now c.args.anchored c.args.limit _ _ _ _ c.in-Err-Halt.stop stopped))
 
 pub returns-clause-fault : goal.returns-clause-fault
 returns-clause-fault g c =
     let start = rw c.in-Ok.is at c.new.ensures in
     let did = c.pattern_of.ensures in
     let stopped = rw (c.in-Err-Halt.is, c.in-Err-Halt.field-0-is, c.in-Ok-of.ensures, start, c.for_listing-keywords.ensures) at did in
-    rw c.in-Err-Halt.field-0-is (fault_told (Err (Halt c.in-Err-Halt.stop)) _ (stopped_listed c.args.program.now c.args.expression c.args.subject.now c.args.anchored c.args.limit _ _ _ _ c.in-Err-Halt.stop stopped).cause)
+    rw c.in-Err-Halt.field-0-is
+    (fault_told (Err (Halt c.in-Err-Halt.stop)) _ (stopped_listed c.args.program.now c.args.expression c.args.subject.now c.args.anchored c.args.limit _ _ _
+    _ c.in-Err-Halt.stop stopped).cause)

@@ -7,10 +7,21 @@ use Rattle.snobol.proofs.job.run_file.Goals as goal
 
 pub returns-in-Ok : goal.returns-in-Ok
 returns-in-Ok g c =
-    let h = c.in-Ok.ensures.accepted in let ran = c.run-outcome.ensures.meaning in
-    (ran.0, ran.1, ran.2, ran.3, was_run c.run-outcome.result (record { statements = h.0; program = h.1; source = c.in-Ok.program; stands = h.2; source_text = c.in-Ok.ensures.source; meets = ran.4 }) c.ran.ensures)
+    let h = c.in-Ok.ensures.accepted in let ran = c.run-outcome.ensures.meaning in (
+      ran.0,
+      ran.1,
+      ran.2,
+      ran.3,
+      was_run c.run-outcome.result
+          (record { statements = h.0; program = h.1; source = c.in-Ok.program; stands = h.2; source_text = c.in-Ok.ensures.source; meets = ran.4 }) c.ran.ensures,
+    )
 
 pub returns-in-Err : goal.returns-in-Err
 returns-in-Err g c =
-    let told = refusal_checked c.args.text.now c.in-Err.error c.in-Err.ensures.refused in
-    ([], [], consumes_nothing (g.R.Source.feed c.args.reader.now).left, appends_nothing (g.W.Sink.drain c.args.writer.now).taken, rw c.refused.ensures (not_read refl refl told.0 told.1))
+    let told = refusal_checked c.args.text.now c.in-Err.error c.in-Err.ensures.refused in (
+      [],
+      [],
+      consumes_nothing (g.R.Source.feed c.args.reader.now).left,
+      appends_nothing (g.W.Sink.drain c.args.writer.now).taken,
+      rw c.refused.ensures (not_read refl refl told.0 told.1),
+    )

@@ -16,7 +16,8 @@ invariant-events g l = record {
   can : CanRun l.machine (devices (g.R.Source.feed l.reader) (g.W.Sink.drain l.writer));
   calls : l.machine.store.calls ≡ l.fn.machine.store.calls;
   leads : (c : State) (z : Devices) (r : Result Unit Exit)
-      → Runs itself any (to_end l.scope.code.now (tree l.fn.machine.nodes l.fn.pattern.0) l.fn.subject l.fn.anchored l.fn.limit (given_to l.matcher) l.matcher.told) l.machine c
+      → Runs itself any (to_end l.scope.code.now (tree l.fn.machine.nodes l.fn.pattern.0) l.fn.subject l.fn.anchored l.fn.limit
+      (given_to l.matcher) l.matcher.told) l.machine c
       (devices (g.R.Source.feed l.reader) (g.W.Sink.drain l.writer)) z r
       → Runs itself any (to_end l.scope.code.now (tree l.fn.machine.nodes l.fn.pattern.0) l.fn.subject l.fn.anchored l.fn.limit [] 0) l.fn.machine c
       (devices (g.R.Source.feed l.fn.reader) (g.W.Sink.drain l.fn.writer)) z r;

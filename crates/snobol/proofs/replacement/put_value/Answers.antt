@@ -11,7 +11,8 @@ returns-in_err-new g c = λ f ready.
 pub returns-in_err-result : goal.returns-in_err-result
 returns-in_err-result g c = λ f ready.
     let p = err_from_is_err_and c.from_residual-in_err-result.result c.from_residual-in_err-result.ensures.1 in
-    rw (p.1, p.2) (text_runs _ _ c.in_ok-new.new (c.in_ok-new.ensures.text c.args.machine.now.nodes) (no_memory_runs itself any _ _ _ (can_run _ f _ c.requires.sound ready)))
+    rw (p.1, p.2) (text_runs _ _ c.in_ok-new.new (c.in_ok-new.ensures.text c.args.machine.now.nodes)
+    (no_memory_runs itself any _ _ _ (can_run _ f _ c.requires.sound ready)))
 
 pub returns : goal.returns
 returns g c = λ f ready.

@@ -1,7 +1,8 @@
 use Rattle.std.proofs.Common.{ap, ◌∙◌, length, Some, Err}
 use Rattle.std.proofs.lemmas.Result.{err_from_is_err_and}
 use Rattle.snobol.proofs.RunningLaws.{answered}
-use Rattle.snobol.proofs.StatementLaws.{of_part, of_subject, read_runs, part_runs, part_ended, name_runs, nameless_runs, text_runs, textless_runs, pattern_runs, patternless_runs}
+use Rattle.snobol.proofs.StatementLaws.{of_part, of_subject, read_runs, part_runs, part_ended, name_runs, nameless_runs, text_runs, textless_runs, pattern_runs}
+use Rattle.snobol.proofs.StatementLaws.{patternless_runs}
 use Rattle.snobol.proofs.replacement.replace.Goals as goal
 
 pub returns-in_err-name : goal.returns-in_err-name
@@ -24,7 +25,8 @@ returns-in_err-value g c =
     let p = err_from_is_err_and c.from_residual-in_err-value.result c.from_residual-in_err-value.ensures.1 in
     let named = of_part _ _ (ap Some c.name_of.ensures) c.in_ok-name.ensures in
     let lost = read_runs named.ready c.in_err-value.ensures in
-    answered (p.1 ∙ ap Err p.2) (part_runs _ named (name_runs _ _ c.in_ok-target.target (c.in_ok-target.ensures c.evaluate.new.machine.nodes) (part_ended _ lost)))
+    answered (p.1 ∙ ap Err p.2)
+    (part_runs _ named (name_runs _ _ c.in_ok-target.target (c.in_ok-target.ensures c.evaluate.new.machine.nodes) (part_ended _ lost)))
 
 pub returns-in_err-text : goal.returns-in_err-text
 returns-in_err-text g c =
@@ -87,7 +89,8 @@ returns-in_err-span g c =
 pub evaluate-requires-3-clause-level : goal.evaluate-requires-3-clause-level
 evaluate-requires-3-clause-level g c =
     let begun = pattern_runs _ _ c.args.pattern (of_part _ _ (ap Some c.value_of.ensures) c.in_ok-value-2.ensures) c.in_ok-matcher.ensures.does in
-    ap length c.in_ok-span.ensures.does.calls ∙ (ap length begun.calls ∙ (ap length c.in_ok-value.ensures.calls ∙ (ap length c.in_ok-name.ensures.calls ∙ c.requires.level)))
+    ap length c.in_ok-span.ensures.does.calls
+    ∙ (ap length begun.calls ∙ (ap length c.in_ok-value.ensures.calls ∙ (ap length c.in_ok-name.ensures.calls ∙ c.requires.level)))
 
 pub evaluate-requires-3-clause-ready : goal.evaluate-requires-3-clause-ready
 evaluate-requires-3-clause-ready g c = c.in_ok-span.ensures.does.ready
@@ -101,7 +104,8 @@ returns-in_err-value-3 g c =
     let found = of_subject _ _ _ c.in_ok-matcher.ensures.subject c.in_ok-span.ensures.does in
     let lost = of_part _ _ c.object_part.ensures c.in_err-value-3.ensures in
     answered (p.1 ∙ ap Err p.2) (part_runs _ named (name_runs _ _ c.in_ok-target.target (c.in_ok-target.ensures c.evaluate.new.machine.nodes)
-    (part_runs _ read (text_runs _ _ c.in_ok-text.text (c.in_ok-text.ensures.text c.read.new.self.nodes) (part_runs _ begun (part_runs _ found (part_ended _ lost)))))))
+    (part_runs _ read (text_runs _ _ c.in_ok-text.text (c.in_ok-text.ensures.text c.read.new.self.nodes)
+    (part_runs _ begun (part_runs _ found (part_ended _ lost)))))))
 
 pub put_value-requires-clause-order : goal.put_value-requires-clause-order
 put_value-requires-clause-order g c = c.in_ok-span.ensures.does.answer.0
@@ -110,7 +114,9 @@ pub put_value-requires-clause-within : goal.put_value-requires-clause-within
 put_value-requires-clause-within g c = rw (c.subject.ensures, c.in_ok-span.ensures.subject) c.in_ok-span.ensures.does.answer.1
 
 pub put_value-requires-clause-short : goal.put_value-requires-clause-short
-put_value-requires-clause-short g c = rw (c.subject.ensures, c.in_ok-span.ensures.subject, c.in_ok-matcher.ensures.subject) (c.in_ok-text.ensures.short c.read.new.self.nodes c.in_ok-value.ensures.answer)
+put_value-requires-clause-short g c =
+    rw (c.subject.ensures, c.in_ok-span.ensures.subject, c.in_ok-matcher.ensures.subject)
+    (c.in_ok-text.ensures.short c.read.new.self.nodes c.in_ok-value.ensures.answer)
 
 pub put_value-requires-clause-value : goal.put_value-requires-clause-value
 put_value-requires-clause-value g c = c.in_ok-value-3.ensures.answer
@@ -128,4 +134,5 @@ returns g c =
     let same = c.subject.ensures ∙ (c.in_ok-span.ensures.subject ∙ c.in_ok-matcher.ensures.subject) in
     let put = rw same at (c.put_value.ensures _ object.ready.reads) in
     (part_runs _ named (name_runs _ _ c.in_ok-target.target (c.in_ok-target.ensures c.evaluate.new.machine.nodes)
-    (part_runs _ read (text_runs _ _ c.in_ok-text.text (c.in_ok-text.ensures.text c.read.new.self.nodes) (part_runs _ begun (part_runs _ found (part_runs _ object put)))))))
+    (part_runs _ read (text_runs _ _ c.in_ok-text.text (c.in_ok-text.ensures.text c.read.new.self.nodes)
+    (part_runs _ begun (part_runs _ found (part_runs _ object put)))))))

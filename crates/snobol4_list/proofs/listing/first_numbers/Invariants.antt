@@ -3,7 +3,8 @@ use Rattle.snobol4_list.specs.Listing.{AreNumbers}
 use Rattle.snobol4_list.proofs.listing.first_numbers.Given as goal
 
 abbrev pub invariant-statements : goal.invariant-statements
-invariant-statements l = (l.number ≤ length l.fn.program.statements) × AreNumbers l.fn.lines (l.number + 1) (drop l.number l.fn.program.statements) l.numbers.items
+invariant-statements l = (l.number ≤ length l.fn.program.statements)
+    × AreNumbers l.fn.lines (l.number + 1) (drop l.number l.fn.program.statements) l.numbers.items
 
 abbrev pub decreases-statements : goal.decreases-statements
 decreases-statements l = l.number

@@ -15,7 +15,8 @@ returns-clause-line c =
     let filled : length c.held.result.now ≡ 0 → ⊥ = eqb-false (length c.held.result.now) 0 (sym c.if-is_empty.ensures) in
     let size : length c.held.result.now ≡ length reading.held = ap length (c.held.ensures ∙ held) in
     let some : 0 < length reading.held = omega arith in
-    λ more nothing. handed reading c.in_ok-line.line.items (held_in c.consume.new.self) more c.args.len c.requires.len c.requires.settled c.if-len-gt-LONGEST_LINE.false some
+    λ more nothing. handed reading c.in_ok-line.line.items (held_in c.consume.new.self) more c.args.len c.requires.len c.requires.settled
+    c.if-len-gt-LONGEST_LINE.false some
     (c.in_ok-line.ensures.items ∙ ap (take c.args.len) (c.held-2.ensures ∙ held))
     (c.consume.ensures ∙ ap (drop (c.args.len + 1)) held)
     nothing

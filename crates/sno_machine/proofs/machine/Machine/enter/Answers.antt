@@ -11,4 +11,5 @@ invariant_of-self-2 c =
     entered_known _ c.args.function.0 there.0 c.args.arguments.items _ _ (rw (← c.self.view_is) at c.requires) c.self.invariant did.1
 
 pub returns : goal.returns
-returns c d is = rw (← c.self.view_is) (enters _ _ c.args.function d c.args.arguments.items _ c.self.invariant (c.in_ok-enter.ensures d (rw (← c.self.view_is) at is)))
+returns c d is = rw (← c.self.view_is)
+    (enters _ _ c.args.function d c.args.arguments.items _ c.self.invariant (c.in_ok-enter.ensures d (rw (← c.self.view_is) at is)))

@@ -13,7 +13,8 @@ returns-in_err-id c =
     rw (← c.self.view_is, p.1, p.2) (done_err _ _ _ _ _ (new_table_map (shown c.self.inside.patterns)) c.in_err-id.ensures)
 
 pub invariant_of-self-2 : goal.invariant_of-self-2
-invariant_of-self-2 c = done_known _ _ _ new_table (Ok c.in_ok-id.id) c.self.invariant (new_table_leaves c.self.inside.patterns _ c.self.invariant.objects) c.in_ok-id.ensures
+invariant_of-self-2 c = done_known _ _ _ new_table (Ok c.in_ok-id.id) c.self.invariant
+    (new_table_leaves c.self.inside.patterns _ c.self.invariant.objects) c.in_ok-id.ensures
 
 pub returns : goal.returns
 returns c = rw (← c.self.view_is) (done_ok _ _ _ _ _ (new_table_map (shown c.self.inside.patterns)) c.in_ok-id.ensures)

@@ -9,9 +9,13 @@ use Rattle.sno_machine.proofs.machine.Machine.prototype.Goals as goal
 pub returns-in_err-prototype : goal.returns-in_err-prototype
 returns-in_err-prototype c =
     let p = err_from_is_err_and c.from_residual.result c.from_residual.ensures.1 in
-    rw (← c.self.view_is, p.1, p.2) (asked_text_err {Y = Bor (List ℕ)} (λ text. text.now) _ _ _ _ (prototype_of_map (shown c.self.inside.patterns) _ c.args.array) c.in_err-prototype.ensures)
+    rw (← c.self.view_is, p.1, p.2)
+    (asked_text_err {Y = Bor (List ℕ)} (λ text. text.now) _ _ _ _ (prototype_of_map (shown c.self.inside.patterns) _ c.args.array)
+    c.in_err-prototype.ensures)
 
 pub returns : goal.returns
 returns c =
     let is : c.new.result ≡ c.in_ok-prototype.field-0.now = search rules in
-    rw (← c.self.view_is, is) (asked_text _ _ c.in_ok-prototype.field-0.now (prototype_of_map (shown c.self.inside.patterns) _ c.args.array ∙ c.in_ok-prototype.ensures) (prototype_known c.self.inside.patterns _ c.args.array _ c.in_ok-prototype.ensures c.self.invariant.objects))
+    rw (← c.self.view_is, is)
+    (asked_text _ _ c.in_ok-prototype.field-0.now (prototype_of_map (shown c.self.inside.patterns) _ c.args.array ∙ c.in_ok-prototype.ensures)
+    (prototype_known c.self.inside.patterns _ c.args.array _ c.in_ok-prototype.ensures c.self.invariant.objects))

@@ -12,10 +12,15 @@ use Rattle.sno_machine.proofs.machine.Machine.table_to_array.Goals as goal
 pub returns-in_err-array : goal.returns-in_err-array
 returns-in_err-array c =
     let p = err_from_is_err_and c.from_residual.result c.from_residual.ensures.1 in
-    rw (← c.self.view_is, p.1, p.2) (done_err _ _ _ _ _ (table_to_array_map (shown c.self.inside.patterns) stored_notions notions (shown_agrees c.self.inside.patterns) c.args.table) c.in_err-array.ensures)
+    rw (← c.self.view_is, p.1, p.2)
+    (done_err _ _ _ _ _ (table_to_array_map (shown c.self.inside.patterns) stored_notions notions (shown_agrees c.self.inside.patterns)
+    c.args.table) c.in_err-array.ensures)
 
 pub invariant_of-self-2 : goal.invariant_of-self-2
-invariant_of-self-2 c = done_known _ _ _ (table_to_array stored_notions c.args.table) (Ok c.in_ok-array.array) c.self.invariant (table_to_array_leaves c.self.inside.patterns c.args.table _ c.self.invariant.objects) c.in_ok-array.ensures
+invariant_of-self-2 c = done_known _ _ _ (table_to_array stored_notions c.args.table) (Ok c.in_ok-array.array) c.self.invariant
+    (table_to_array_leaves c.self.inside.patterns c.args.table _ c.self.invariant.objects) c.in_ok-array.ensures
 
 pub returns : goal.returns
-returns c = rw (← c.self.view_is) (done_ok _ _ _ _ _ (table_to_array_map (shown c.self.inside.patterns) stored_notions notions (shown_agrees c.self.inside.patterns) c.args.table) c.in_ok-array.ensures)
+returns c = rw (← c.self.view_is)
+    (done_ok _ _ _ _ _ (table_to_array_map (shown c.self.inside.patterns) stored_notions notions (shown_agrees c.self.inside.patterns)
+    c.args.table) c.in_ok-array.ensures)

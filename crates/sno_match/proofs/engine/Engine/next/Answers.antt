@@ -10,52 +10,70 @@ use Rattle.sno_match.proofs.engine.Engine.next.Goals as goal
 
 pub invariant_of-self : goal.invariant_of-self
 invariant_of-self g c = (
-  laws.lent_match c.args.self.now c.self.inside.lent.value c.self.inside.pattern c.self.inside.subject.items c.self.inside.anchored c.self.inside.limit c.self.inside.answers.items c.self.inside.told c.self.inside.steps c.self.inside.state c.self.inside.way.items (g.P.Points.points c.self.inside.points) (g.P.Points.records c.self.inside.points) c.self.inside.start c.self.view_is c.self.invariant.0
+  laws.lent_match c.args.self.now c.self.inside.lent.value c.self.inside.pattern c.self.inside.subject.items c.self.inside.anchored c.self.inside.limit
+      c.self.inside.answers.items c.self.inside.told c.self.inside.steps c.self.inside.state c.self.inside.way.items (g.P.Points.points c.self.inside.points)
+      (g.P.Points.records c.self.inside.points) c.self.inside.start c.self.view_is c.self.invariant.0
       c.of-self-inside.result.value c.args.patterns.now c.of-self-inside.ensures c.requires.table,
-  lent_looks c.args.self.now c.self.inside.lent.value c.of-self-inside.result.value c.args.patterns.now c.self.inside.subject.items c.self.inside.looks (ap (λ (x : Session). x.nodes) c.self.view_is) c.of-self-inside.ensures c.requires.table c.self.invariant.1,
+  lent_looks c.args.self.now c.self.inside.lent.value c.of-self-inside.result.value c.args.patterns.now c.self.inside.subject.items c.self.inside.looks
+      (ap (λ (x : Session). x.nodes) c.self.view_is) c.of-self-inside.ensures c.requires.table c.self.invariant.1,
 )
 
 pub invariant_of-self-2 : goal.invariant_of-self-2
 invariant_of-self-2 g c = (
-  laws.lent_match c.args.self.now c.self.inside.lent.value c.self.inside.pattern c.self.inside.subject.items c.self.inside.anchored c.self.inside.limit c.self.inside.answers.items c.self.inside.told c.self.inside.steps c.self.inside.state c.self.inside.way.items (g.P.Points.points c.self.inside.points) (g.P.Points.records c.self.inside.points) c.self.inside.start c.self.view_is c.self.invariant.0
+  laws.lent_match c.args.self.now c.self.inside.lent.value c.self.inside.pattern c.self.inside.subject.items c.self.inside.anchored c.self.inside.limit
+      c.self.inside.answers.items c.self.inside.told c.self.inside.steps c.self.inside.state c.self.inside.way.items (g.P.Points.points c.self.inside.points)
+      (g.P.Points.records c.self.inside.points) c.self.inside.start c.self.view_is c.self.invariant.0
       c.of-self-inside.result.value c.args.patterns.now c.of-self-inside.ensures c.requires.table,
-  lent_looks c.args.self.now c.self.inside.lent.value c.of-self-inside.result.value c.args.patterns.now c.self.inside.subject.items c.self.inside.looks (ap (λ (x : Session). x.nodes) c.self.view_is) c.of-self-inside.ensures c.requires.table c.self.invariant.1,
+  lent_looks c.args.self.now c.self.inside.lent.value c.of-self-inside.result.value c.args.patterns.now c.self.inside.subject.items c.self.inside.looks
+      (ap (λ (x : Session). x.nodes) c.self.view_is) c.of-self-inside.ensures c.requires.table c.self.invariant.1,
 )
 
 pub returns-in-Ended-clause-same : goal.returns-in-Ended-clause-same
 returns-in-Ended-clause-same g c =
-    laws.lent_same c.args.self.now c.self.inside.lent.value c.self.inside.pattern c.self.inside.subject.items c.self.inside.anchored c.self.inside.limit c.self.inside.answers.items c.self.inside.told c.self.inside.steps c.self.inside.state c.self.inside.way.items (g.P.Points.points c.self.inside.points) (g.P.Points.records c.self.inside.points) c.self.inside.start c.self.view_is c.self.invariant.0
+    laws.lent_same c.args.self.now c.self.inside.lent.value c.self.inside.pattern c.self.inside.subject.items c.self.inside.anchored c.self.inside.limit
+    c.self.inside.answers.items c.self.inside.told c.self.inside.steps c.self.inside.state c.self.inside.way.items (g.P.Points.points c.self.inside.points)
+    (g.P.Points.records c.self.inside.points) c.self.inside.start c.self.view_is c.self.invariant.0
     c.of-self-inside.result.value c.args.patterns.now c.of-self-inside.ensures c.requires.table
 
 pub returns-in-Ended-clause-ok : goal.returns-in-Ended-clause-ok
 returns-in-Ended-clause-ok g c =
-    laws.lent_again c.args.self.now c.self.inside.lent.value c.self.inside.pattern c.self.inside.subject.items c.self.inside.anchored c.self.inside.limit c.self.inside.answers.items c.self.inside.told c.self.inside.steps c.self.inside.state c.self.inside.way.items (g.P.Points.points c.self.inside.points) (g.P.Points.records c.self.inside.points) c.self.inside.start c.self.view_is c.self.invariant.0
+    laws.lent_again c.args.self.now c.self.inside.lent.value c.self.inside.pattern c.self.inside.subject.items c.self.inside.anchored c.self.inside.limit
+    c.self.inside.answers.items c.self.inside.told c.self.inside.steps c.self.inside.state c.self.inside.way.items (g.P.Points.points c.self.inside.points)
+    (g.P.Points.records c.self.inside.points) c.self.inside.start c.self.view_is c.self.invariant.0
     c.of-self-inside.result.value c.args.patterns.now c.of-self-inside.ensures c.requires.table
     c.in-Ended.event c.in-Ended.is
 
 pub returns-in-Ended-clause-counts : goal.returns-in-Ended-clause-counts
 returns-in-Ended-clause-counts g c =
-    let kept = laws.lent_match c.args.self.now c.self.inside.lent.value c.self.inside.pattern c.self.inside.subject.items c.self.inside.anchored c.self.inside.limit c.self.inside.answers.items c.self.inside.told c.self.inside.steps c.self.inside.state c.self.inside.way.items (g.P.Points.points c.self.inside.points) (g.P.Points.records c.self.inside.points) c.self.inside.start c.self.view_is c.self.invariant.0
+    let kept = laws.lent_match c.args.self.now c.self.inside.lent.value c.self.inside.pattern c.self.inside.subject.items c.self.inside.anchored
+    c.self.inside.limit c.self.inside.answers.items c.self.inside.told c.self.inside.steps c.self.inside.state c.self.inside.way.items
+    (g.P.Points.points c.self.inside.points) (g.P.Points.records c.self.inside.points) c.self.inside.start c.self.view_is c.self.invariant.0
     c.of-self-inside.result.value c.args.patterns.now c.of-self-inside.ensures c.requires.table in
     match_counted _ _ _ _ kept refl
 
 pub returns-in-Ended-clause-ways : goal.returns-in-Ended-clause-ways
 returns-in-Ended-clause-ways g c =
-    let told = laws.lent_again c.args.self.now c.self.inside.lent.value c.self.inside.pattern c.self.inside.subject.items c.self.inside.anchored c.self.inside.limit c.self.inside.answers.items c.self.inside.told c.self.inside.steps c.self.inside.state c.self.inside.way.items (g.P.Points.points c.self.inside.points) (g.P.Points.records c.self.inside.points) c.self.inside.start c.self.view_is c.self.invariant.0
+    let told = laws.lent_again c.args.self.now c.self.inside.lent.value c.self.inside.pattern c.self.inside.subject.items c.self.inside.anchored
+    c.self.inside.limit c.self.inside.answers.items c.self.inside.told c.self.inside.steps c.self.inside.state c.self.inside.way.items
+    (g.P.Points.points c.self.inside.points) (g.P.Points.records c.self.inside.points) c.self.inside.start c.self.view_is c.self.invariant.0
     c.of-self-inside.result.value c.args.patterns.now c.of-self-inside.ensures c.requires.table
     c.in-Ended.event c.in-Ended.is in
     told-ways _ _ _ told
 
 pub returns-in_err-event-clause-same : goal.returns-in_err-event-clause-same
 returns-in_err-event-clause-same g c =
-    let same = laws.lent_same c.args.self.now c.self.inside.lent.value c.self.inside.pattern c.self.inside.subject.items c.self.inside.anchored c.self.inside.limit c.self.inside.answers.items c.self.inside.told c.self.inside.steps c.self.inside.state c.self.inside.way.items (g.P.Points.points c.self.inside.points) (g.P.Points.records c.self.inside.points) c.self.inside.start c.self.view_is c.self.invariant.0
+    let same = laws.lent_same c.args.self.now c.self.inside.lent.value c.self.inside.pattern c.self.inside.subject.items c.self.inside.anchored
+    c.self.inside.limit c.self.inside.answers.items c.self.inside.told c.self.inside.steps c.self.inside.state c.self.inside.way.items
+    (g.P.Points.points c.self.inside.points) (g.P.Points.records c.self.inside.points) c.self.inside.start c.self.view_is c.self.invariant.0
     c.of-self-inside.result.value c.args.patterns.now c.of-self-inside.ensures c.requires.table in
     let goes = c.loop-event.invariant in
     rw c.in_err-event.ensures.err (laws.same_then _ _ _ same goes.same)
 
 pub returns-in_err-event-clause-err : goal.returns-in_err-event-clause-err
 returns-in_err-event-clause-err g c =
-    let stays = laws.lent_stays c.args.self.now c.self.inside.lent.value c.self.inside.pattern c.self.inside.subject.items c.self.inside.anchored c.self.inside.limit c.self.inside.answers.items c.self.inside.told c.self.inside.steps c.self.inside.state c.self.inside.way.items (g.P.Points.points c.self.inside.points) (g.P.Points.records c.self.inside.points) c.self.inside.start c.self.view_is c.self.invariant.0
+    let stays = laws.lent_stays c.args.self.now c.self.inside.lent.value c.self.inside.pattern c.self.inside.subject.items c.self.inside.anchored
+    c.self.inside.limit c.self.inside.answers.items c.self.inside.told c.self.inside.steps c.self.inside.state c.self.inside.way.items
+    (g.P.Points.points c.self.inside.points) (g.P.Points.records c.self.inside.points) c.self.inside.start c.self.view_is c.self.invariant.0
     c.of-self-inside.result.value c.args.patterns.now c.of-self-inside.ensures c.requires.table
     c.requires.asked c.in_default.not-Ended in
     let goes = c.loop-event.invariant in
@@ -65,7 +83,9 @@ returns-in_err-event-clause-err g c =
 
 pub returns-in_err-event-clause-again : goal.returns-in_err-event-clause-again
 returns-in_err-event-clause-again g c =
-    λ h. absurd (laws.never_again c.args.self.now c.self.inside.lent.value c.self.inside.pattern c.self.inside.subject.items c.self.inside.anchored c.self.inside.limit c.self.inside.answers.items c.self.inside.told c.self.inside.steps c.self.inside.state c.self.inside.way.items (g.P.Points.points c.self.inside.points) (g.P.Points.records c.self.inside.points) c.self.inside.start c.self.view_is c.self.invariant.0
+    λ h. absurd (laws.never_again c.args.self.now c.self.inside.lent.value c.self.inside.pattern c.self.inside.subject.items c.self.inside.anchored
+    c.self.inside.limit c.self.inside.answers.items c.self.inside.told c.self.inside.steps c.self.inside.state c.self.inside.way.items
+    (g.P.Points.points c.self.inside.points) (g.P.Points.records c.self.inside.points) c.self.inside.start c.self.view_is c.self.invariant.0
     c.of-self-inside.result.value c.args.patterns.now c.of-self-inside.ensures c.requires.table
     c.requires.asked c.in_default.not-Ended h)
 
@@ -77,9 +97,13 @@ returns-in_err-event-clause-ways g c =
 pub returns-in-Some : goal.returns-in-Some
 returns-in-Some g c =
     let moves = rw c.in-Some.is at c.in_ok-event.ensures.ok in
-    let same = laws.lent_same c.args.self.now c.self.inside.lent.value c.self.inside.pattern c.self.inside.subject.items c.self.inside.anchored c.self.inside.limit c.self.inside.answers.items c.self.inside.told c.self.inside.steps c.self.inside.state c.self.inside.way.items (g.P.Points.points c.self.inside.points) (g.P.Points.records c.self.inside.points) c.self.inside.start c.self.view_is c.self.invariant.0
+    let same = laws.lent_same c.args.self.now c.self.inside.lent.value c.self.inside.pattern c.self.inside.subject.items c.self.inside.anchored
+    c.self.inside.limit c.self.inside.answers.items c.self.inside.told c.self.inside.steps c.self.inside.state c.self.inside.way.items
+    (g.P.Points.points c.self.inside.points) (g.P.Points.records c.self.inside.points) c.self.inside.start c.self.view_is c.self.invariant.0
     c.of-self-inside.result.value c.args.patterns.now c.of-self-inside.ensures c.requires.table in
-    let stays = laws.lent_stays c.args.self.now c.self.inside.lent.value c.self.inside.pattern c.self.inside.subject.items c.self.inside.anchored c.self.inside.limit c.self.inside.answers.items c.self.inside.told c.self.inside.steps c.self.inside.state c.self.inside.way.items (g.P.Points.points c.self.inside.points) (g.P.Points.records c.self.inside.points) c.self.inside.start c.self.view_is c.self.invariant.0
+    let stays = laws.lent_stays c.args.self.now c.self.inside.lent.value c.self.inside.pattern c.self.inside.subject.items c.self.inside.anchored
+    c.self.inside.limit c.self.inside.answers.items c.self.inside.told c.self.inside.steps c.self.inside.state c.self.inside.way.items
+    (g.P.Points.points c.self.inside.points) (g.P.Points.records c.self.inside.points) c.self.inside.start c.self.view_is c.self.invariant.0
     c.of-self-inside.result.value c.args.patterns.now c.of-self-inside.ensures c.requires.table
     c.requires.asked c.in_default.not-Ended in
     let goes = c.loop-event.invariant in
@@ -90,7 +114,9 @@ returns-in-Some g c =
       same = laws.same_then _ _ _ (laws.same_then _ _ _ same goes.same) moves.1;
       ok = told;
       err = tt;
-      again = λ h. absurd (laws.never_again c.args.self.now c.self.inside.lent.value c.self.inside.pattern c.self.inside.subject.items c.self.inside.anchored c.self.inside.limit c.self.inside.answers.items c.self.inside.told c.self.inside.steps c.self.inside.state c.self.inside.way.items (g.P.Points.points c.self.inside.points) (g.P.Points.records c.self.inside.points) c.self.inside.start c.self.view_is c.self.invariant.0
+      again = λ h. absurd (laws.never_again c.args.self.now c.self.inside.lent.value c.self.inside.pattern c.self.inside.subject.items c.self.inside.anchored
+          c.self.inside.limit c.self.inside.answers.items c.self.inside.told c.self.inside.steps c.self.inside.state c.self.inside.way.items
+          (g.P.Points.points c.self.inside.points) (g.P.Points.records c.self.inside.points) c.self.inside.start c.self.view_is c.self.invariant.0
           c.of-self-inside.result.value c.args.patterns.now c.of-self-inside.ensures c.requires.table
           c.requires.asked c.in_default.not-Ended h);
       counts = c.in_ok-event.ensures.counts;

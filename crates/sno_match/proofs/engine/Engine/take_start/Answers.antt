@@ -21,13 +21,24 @@ invariant_of-self g c =
     let none : later_starts c.self.inside.anchored c.self.inside.subject.items c.pass_failing_starts-passed.result.start ≡ [] =
     elim c.then-self.branch [
       | then-self-via-then-self w ↦ anchored_once c.self.inside.anchored c.self.inside.subject.items c.pass_failing_starts-passed.result.start w.if-self.true
-      | then-self-via-else-self+then-passed-len w ↦ last_start c.self.inside.anchored c.self.inside.subject.items c.pass_failing_starts-passed.result.start (w.if-passed-len.true ∙ w.len.ensures ∙ c.self.inside.subject.ok.0)
+      | then-self-via-else-self+then-passed-len w ↦ last_start c.self.inside.anchored c.self.inside.subject.items c.pass_failing_starts-passed.result.start
+          (w.if-passed-len.true ∙ w.len.ensures ∙ c.self.inside.subject.ok.0)
     ] in
-    let l = laws.over_leads c.args.self.now c.self.inside.lent.value c.self.inside.pattern c.self.inside.subject.items c.self.inside.anchored c.self.inside.limit c.self.inside.answers.items c.self.inside.told c.self.inside.steps c.self.inside.state c.self.inside.way.items (g.P.Points.points c.self.inside.points) (g.P.Points.records c.self.inside.points) c.self.inside.start c.self.view_is c.self.invariant.0 c.requires.going c.requires.on c.requires.none
-    c.args.patterns.now c.deref.result.now c.requires.table c.deref.ensures.value c.pass_failing_starts-passed.result.start c.pass_failing_starts-passed.result.steps c.pass_failing_starts-passed.ensures.inside c.pass_failing_starts-passed.ensures.enough c.pass_failing_starts-passed.ensures.passes none in (
-      (laws.tells_all c.args.self.now c.self.inside.lent.value c.self.inside.pattern c.self.inside.subject.items c.self.inside.anchored c.self.inside.limit c.self.inside.answers.items c.self.inside.told c.self.inside.steps c.self.inside.state c.self.inside.way.items (g.P.Points.points c.self.inside.points) (g.P.Points.records c.self.inside.points) c.self.inside.start c.self.view_is c.self.invariant.0 c.requires.going c.requires.on
-          V.Exhausted (c.self.inside.steps + c.pass_failing_starts-passed.result.steps) c.pass_failing_starts-passed.result.start (g.P.Points.points c.self.inside.points) c.self.inside.way.items (g.P.Points.records c.self.inside.points) l (S.Ended V.Exhausted) refl).0,
-      same_looks c.self.inside.lent.value c.args.patterns.now c.self.inside.subject.items c.deref.result.now c.pass_failing_starts-passed.new.looks (ap (λ (x : Session). x.nodes) c.self.view_is ∙ c.requires.table) c.deref.ensures.value c.pass_failing_starts-passed.ensures.looks,
+    let l = laws.over_leads c.args.self.now c.self.inside.lent.value c.self.inside.pattern c.self.inside.subject.items c.self.inside.anchored
+    c.self.inside.limit c.self.inside.answers.items c.self.inside.told c.self.inside.steps c.self.inside.state c.self.inside.way.items
+    (g.P.Points.points c.self.inside.points) (g.P.Points.records c.self.inside.points) c.self.inside.start c.self.view_is c.self.invariant.0
+    c.requires.going c.requires.on c.requires.none
+    c.args.patterns.now c.deref.result.now c.requires.table c.deref.ensures.value c.pass_failing_starts-passed.result.start
+    c.pass_failing_starts-passed.result.steps c.pass_failing_starts-passed.ensures.inside c.pass_failing_starts-passed.ensures.enough
+    c.pass_failing_starts-passed.ensures.passes none in (
+      (laws.tells_all c.args.self.now c.self.inside.lent.value c.self.inside.pattern c.self.inside.subject.items c.self.inside.anchored c.self.inside.limit
+          c.self.inside.answers.items c.self.inside.told c.self.inside.steps c.self.inside.state c.self.inside.way.items
+          (g.P.Points.points c.self.inside.points) (g.P.Points.records c.self.inside.points) c.self.inside.start c.self.view_is c.self.invariant.0
+          c.requires.going c.requires.on
+          V.Exhausted (c.self.inside.steps + c.pass_failing_starts-passed.result.steps) c.pass_failing_starts-passed.result.start
+          (g.P.Points.points c.self.inside.points) c.self.inside.way.items (g.P.Points.records c.self.inside.points) l (S.Ended V.Exhausted) refl).0,
+      same_looks c.self.inside.lent.value c.args.patterns.now c.self.inside.subject.items c.deref.result.now c.pass_failing_starts-passed.new.looks
+          (ap (λ (x : Session). x.nodes) c.self.view_is ∙ c.requires.table) c.deref.ensures.value c.pass_failing_starts-passed.ensures.looks,
     )
 
 pub returns-then-self-clause-ok : goal.returns-then-self-clause-ok
@@ -35,56 +46,103 @@ returns-then-self-clause-ok g c =
     let none : later_starts c.self.inside.anchored c.self.inside.subject.items c.pass_failing_starts-passed.result.start ≡ [] =
     elim c.then-self.branch [
       | then-self-via-then-self w ↦ anchored_once c.self.inside.anchored c.self.inside.subject.items c.pass_failing_starts-passed.result.start w.if-self.true
-      | then-self-via-else-self+then-passed-len w ↦ last_start c.self.inside.anchored c.self.inside.subject.items c.pass_failing_starts-passed.result.start (w.if-passed-len.true ∙ w.len.ensures ∙ c.self.inside.subject.ok.0)
+      | then-self-via-else-self+then-passed-len w ↦ last_start c.self.inside.anchored c.self.inside.subject.items c.pass_failing_starts-passed.result.start
+          (w.if-passed-len.true ∙ w.len.ensures ∙ c.self.inside.subject.ok.0)
     ] in
-    let l = laws.over_leads c.args.self.now c.self.inside.lent.value c.self.inside.pattern c.self.inside.subject.items c.self.inside.anchored c.self.inside.limit c.self.inside.answers.items c.self.inside.told c.self.inside.steps c.self.inside.state c.self.inside.way.items (g.P.Points.points c.self.inside.points) (g.P.Points.records c.self.inside.points) c.self.inside.start c.self.view_is c.self.invariant.0 c.requires.going c.requires.on c.requires.none
-    c.args.patterns.now c.deref.result.now c.requires.table c.deref.ensures.value c.pass_failing_starts-passed.result.start c.pass_failing_starts-passed.result.steps c.pass_failing_starts-passed.ensures.inside c.pass_failing_starts-passed.ensures.enough c.pass_failing_starts-passed.ensures.passes none in
-    (laws.tells_all c.args.self.now c.self.inside.lent.value c.self.inside.pattern c.self.inside.subject.items c.self.inside.anchored c.self.inside.limit c.self.inside.answers.items c.self.inside.told c.self.inside.steps c.self.inside.state c.self.inside.way.items (g.P.Points.points c.self.inside.points) (g.P.Points.records c.self.inside.points) c.self.inside.start c.self.view_is c.self.invariant.0 c.requires.going c.requires.on
-    V.Exhausted (c.self.inside.steps + c.pass_failing_starts-passed.result.steps) c.pass_failing_starts-passed.result.start (g.P.Points.points c.self.inside.points) c.self.inside.way.items (g.P.Points.records c.self.inside.points) l (S.Ended V.Exhausted) refl).1
+    let l = laws.over_leads c.args.self.now c.self.inside.lent.value c.self.inside.pattern c.self.inside.subject.items c.self.inside.anchored
+    c.self.inside.limit c.self.inside.answers.items c.self.inside.told c.self.inside.steps c.self.inside.state c.self.inside.way.items
+    (g.P.Points.points c.self.inside.points) (g.P.Points.records c.self.inside.points) c.self.inside.start c.self.view_is c.self.invariant.0
+    c.requires.going c.requires.on c.requires.none
+    c.args.patterns.now c.deref.result.now c.requires.table c.deref.ensures.value c.pass_failing_starts-passed.result.start
+    c.pass_failing_starts-passed.result.steps c.pass_failing_starts-passed.ensures.inside c.pass_failing_starts-passed.ensures.enough
+    c.pass_failing_starts-passed.ensures.passes none in
+    (laws.tells_all c.args.self.now c.self.inside.lent.value c.self.inside.pattern c.self.inside.subject.items c.self.inside.anchored c.self.inside.limit
+    c.self.inside.answers.items c.self.inside.told c.self.inside.steps c.self.inside.state c.self.inside.way.items (g.P.Points.points c.self.inside.points)
+    (g.P.Points.records c.self.inside.points) c.self.inside.start c.self.view_is c.self.invariant.0 c.requires.going c.requires.on
+    V.Exhausted (c.self.inside.steps + c.pass_failing_starts-passed.result.steps) c.pass_failing_starts-passed.result.start
+    (g.P.Points.points c.self.inside.points) c.self.inside.way.items (g.P.Points.records c.self.inside.points) l (S.Ended V.Exhausted) refl).1
 
 pub returns-then-self-clause-counts : goal.returns-then-self-clause-counts
 returns-then-self-clause-counts g c =
     let none : later_starts c.self.inside.anchored c.self.inside.subject.items c.pass_failing_starts-passed.result.start ≡ [] =
     elim c.then-self.branch [
       | then-self-via-then-self w ↦ anchored_once c.self.inside.anchored c.self.inside.subject.items c.pass_failing_starts-passed.result.start w.if-self.true
-      | then-self-via-else-self+then-passed-len w ↦ last_start c.self.inside.anchored c.self.inside.subject.items c.pass_failing_starts-passed.result.start (w.if-passed-len.true ∙ w.len.ensures ∙ c.self.inside.subject.ok.0)
+      | then-self-via-else-self+then-passed-len w ↦ last_start c.self.inside.anchored c.self.inside.subject.items c.pass_failing_starts-passed.result.start
+          (w.if-passed-len.true ∙ w.len.ensures ∙ c.self.inside.subject.ok.0)
     ] in
-    let l = laws.over_leads c.args.self.now c.self.inside.lent.value c.self.inside.pattern c.self.inside.subject.items c.self.inside.anchored c.self.inside.limit c.self.inside.answers.items c.self.inside.told c.self.inside.steps c.self.inside.state c.self.inside.way.items (g.P.Points.points c.self.inside.points) (g.P.Points.records c.self.inside.points) c.self.inside.start c.self.view_is c.self.invariant.0 c.requires.going c.requires.on c.requires.none
-    c.args.patterns.now c.deref.result.now c.requires.table c.deref.ensures.value c.pass_failing_starts-passed.result.start c.pass_failing_starts-passed.result.steps c.pass_failing_starts-passed.ensures.inside c.pass_failing_starts-passed.ensures.enough c.pass_failing_starts-passed.ensures.passes none in
-    (laws.tells_all c.args.self.now c.self.inside.lent.value c.self.inside.pattern c.self.inside.subject.items c.self.inside.anchored c.self.inside.limit c.self.inside.answers.items c.self.inside.told c.self.inside.steps c.self.inside.state c.self.inside.way.items (g.P.Points.points c.self.inside.points) (g.P.Points.records c.self.inside.points) c.self.inside.start c.self.view_is c.self.invariant.0 c.requires.going c.requires.on
-    V.Exhausted (c.self.inside.steps + c.pass_failing_starts-passed.result.steps) c.pass_failing_starts-passed.result.start (g.P.Points.points c.self.inside.points) c.self.inside.way.items (g.P.Points.records c.self.inside.points) l (S.Ended V.Exhausted) refl).2
+    let l = laws.over_leads c.args.self.now c.self.inside.lent.value c.self.inside.pattern c.self.inside.subject.items c.self.inside.anchored
+    c.self.inside.limit c.self.inside.answers.items c.self.inside.told c.self.inside.steps c.self.inside.state c.self.inside.way.items
+    (g.P.Points.points c.self.inside.points) (g.P.Points.records c.self.inside.points) c.self.inside.start c.self.view_is c.self.invariant.0
+    c.requires.going c.requires.on c.requires.none
+    c.args.patterns.now c.deref.result.now c.requires.table c.deref.ensures.value c.pass_failing_starts-passed.result.start
+    c.pass_failing_starts-passed.result.steps c.pass_failing_starts-passed.ensures.inside c.pass_failing_starts-passed.ensures.enough
+    c.pass_failing_starts-passed.ensures.passes none in
+    (laws.tells_all c.args.self.now c.self.inside.lent.value c.self.inside.pattern c.self.inside.subject.items c.self.inside.anchored c.self.inside.limit
+    c.self.inside.answers.items c.self.inside.told c.self.inside.steps c.self.inside.state c.self.inside.way.items (g.P.Points.points c.self.inside.points)
+    (g.P.Points.records c.self.inside.points) c.self.inside.start c.self.view_is c.self.invariant.0 c.requires.going c.requires.on
+    V.Exhausted (c.self.inside.steps + c.pass_failing_starts-passed.result.steps) c.pass_failing_starts-passed.result.start
+    (g.P.Points.points c.self.inside.points) c.self.inside.way.items (g.P.Points.records c.self.inside.points) l (S.Ended V.Exhausted) refl).2
 
 pub invariant_of-self-then-steps-self : goal.invariant_of-self-then-steps-self
 invariant_of-self-then-steps-self g c =
     let size : c.len.result ≡ length c.self.inside.subject.items = c.len.ensures ∙ c.self.inside.subject.ok.0 in
     let same = ap length c.deref.ensures.value in
-    let room : c.pass_failing_starts-passed.result.start < length c.self.inside.subject.items = omega (arith, size, same, c.pass_failing_starts-passed.ensures.inside, c.if-passed-len.false) in
-    let l = laws.short_leads c.args.self.now c.self.inside.lent.value c.self.inside.pattern c.self.inside.subject.items c.self.inside.anchored c.self.inside.limit c.self.inside.answers.items c.self.inside.told c.self.inside.steps c.self.inside.state c.self.inside.way.items (g.P.Points.points c.self.inside.points) (g.P.Points.records c.self.inside.points) c.self.inside.start c.self.view_is c.self.invariant.0 c.requires.going c.requires.on c.requires.none
-    c.args.patterns.now c.deref.result.now c.requires.table c.deref.ensures.value c.pass_failing_starts-passed.result.start c.pass_failing_starts-passed.result.steps c.pass_failing_starts-passed.ensures.inside c.pass_failing_starts-passed.ensures.enough c.pass_failing_starts-passed.ensures.passes c.if-self.false room c.if-steps-self.true in (
-      (laws.tells_all c.args.self.now c.self.inside.lent.value c.self.inside.pattern c.self.inside.subject.items c.self.inside.anchored c.self.inside.limit c.self.inside.answers.items c.self.inside.told c.self.inside.steps c.self.inside.state c.self.inside.way.items (g.P.Points.points c.self.inside.points) (g.P.Points.records c.self.inside.points) c.self.inside.start c.self.view_is c.self.invariant.0 c.requires.going c.requires.on
-          V.Limit (c.self.inside.steps + c.pass_failing_starts-passed.result.steps) c.pass_failing_starts-passed.result.start (g.P.Points.points c.self.inside.points) c.self.inside.way.items (g.P.Points.records c.self.inside.points) l (S.Ended V.Limit) refl).0,
-      same_looks c.self.inside.lent.value c.args.patterns.now c.self.inside.subject.items c.deref.result.now c.pass_failing_starts-passed.new.looks (ap (λ (x : Session). x.nodes) c.self.view_is ∙ c.requires.table) c.deref.ensures.value c.pass_failing_starts-passed.ensures.looks,
+    let room : c.pass_failing_starts-passed.result.start < length c.self.inside.subject.items =
+    omega (arith, size, same, c.pass_failing_starts-passed.ensures.inside, c.if-passed-len.false) in
+    let l = laws.short_leads c.args.self.now c.self.inside.lent.value c.self.inside.pattern c.self.inside.subject.items c.self.inside.anchored
+    c.self.inside.limit c.self.inside.answers.items c.self.inside.told c.self.inside.steps c.self.inside.state c.self.inside.way.items
+    (g.P.Points.points c.self.inside.points) (g.P.Points.records c.self.inside.points) c.self.inside.start c.self.view_is c.self.invariant.0
+    c.requires.going c.requires.on c.requires.none
+    c.args.patterns.now c.deref.result.now c.requires.table c.deref.ensures.value c.pass_failing_starts-passed.result.start
+    c.pass_failing_starts-passed.result.steps c.pass_failing_starts-passed.ensures.inside c.pass_failing_starts-passed.ensures.enough
+    c.pass_failing_starts-passed.ensures.passes c.if-self.false room c.if-steps-self.true in (
+      (laws.tells_all c.args.self.now c.self.inside.lent.value c.self.inside.pattern c.self.inside.subject.items c.self.inside.anchored c.self.inside.limit
+          c.self.inside.answers.items c.self.inside.told c.self.inside.steps c.self.inside.state c.self.inside.way.items
+          (g.P.Points.points c.self.inside.points) (g.P.Points.records c.self.inside.points) c.self.inside.start c.self.view_is c.self.invariant.0
+          c.requires.going c.requires.on
+          V.Limit (c.self.inside.steps + c.pass_failing_starts-passed.result.steps) c.pass_failing_starts-passed.result.start
+          (g.P.Points.points c.self.inside.points) c.self.inside.way.items (g.P.Points.records c.self.inside.points) l (S.Ended V.Limit) refl).0,
+      same_looks c.self.inside.lent.value c.args.patterns.now c.self.inside.subject.items c.deref.result.now c.pass_failing_starts-passed.new.looks
+          (ap (λ (x : Session). x.nodes) c.self.view_is ∙ c.requires.table) c.deref.ensures.value c.pass_failing_starts-passed.ensures.looks,
     )
 
 pub returns-then-steps-self-clause-ok : goal.returns-then-steps-self-clause-ok
 returns-then-steps-self-clause-ok g c =
     let size : c.len.result ≡ length c.self.inside.subject.items = c.len.ensures ∙ c.self.inside.subject.ok.0 in
     let same = ap length c.deref.ensures.value in
-    let room : c.pass_failing_starts-passed.result.start < length c.self.inside.subject.items = omega (arith, size, same, c.pass_failing_starts-passed.ensures.inside, c.if-passed-len.false) in
-    let l = laws.short_leads c.args.self.now c.self.inside.lent.value c.self.inside.pattern c.self.inside.subject.items c.self.inside.anchored c.self.inside.limit c.self.inside.answers.items c.self.inside.told c.self.inside.steps c.self.inside.state c.self.inside.way.items (g.P.Points.points c.self.inside.points) (g.P.Points.records c.self.inside.points) c.self.inside.start c.self.view_is c.self.invariant.0 c.requires.going c.requires.on c.requires.none
-    c.args.patterns.now c.deref.result.now c.requires.table c.deref.ensures.value c.pass_failing_starts-passed.result.start c.pass_failing_starts-passed.result.steps c.pass_failing_starts-passed.ensures.inside c.pass_failing_starts-passed.ensures.enough c.pass_failing_starts-passed.ensures.passes c.if-self.false room c.if-steps-self.true in
-    (laws.tells_all c.args.self.now c.self.inside.lent.value c.self.inside.pattern c.self.inside.subject.items c.self.inside.anchored c.self.inside.limit c.self.inside.answers.items c.self.inside.told c.self.inside.steps c.self.inside.state c.self.inside.way.items (g.P.Points.points c.self.inside.points) (g.P.Points.records c.self.inside.points) c.self.inside.start c.self.view_is c.self.invariant.0 c.requires.going c.requires.on
-    V.Limit (c.self.inside.steps + c.pass_failing_starts-passed.result.steps) c.pass_failing_starts-passed.result.start (g.P.Points.points c.self.inside.points) c.self.inside.way.items (g.P.Points.records c.self.inside.points) l (S.Ended V.Limit) refl).1
+    let room : c.pass_failing_starts-passed.result.start < length c.self.inside.subject.items =
+    omega (arith, size, same, c.pass_failing_starts-passed.ensures.inside, c.if-passed-len.false) in
+    let l = laws.short_leads c.args.self.now c.self.inside.lent.value c.self.inside.pattern c.self.inside.subject.items c.self.inside.anchored
+    c.self.inside.limit c.self.inside.answers.items c.self.inside.told c.self.inside.steps c.self.inside.state c.self.inside.way.items
+    (g.P.Points.points c.self.inside.points) (g.P.Points.records c.self.inside.points) c.self.inside.start c.self.view_is c.self.invariant.0
+    c.requires.going c.requires.on c.requires.none
+    c.args.patterns.now c.deref.result.now c.requires.table c.deref.ensures.value c.pass_failing_starts-passed.result.start
+    c.pass_failing_starts-passed.result.steps c.pass_failing_starts-passed.ensures.inside c.pass_failing_starts-passed.ensures.enough
+    c.pass_failing_starts-passed.ensures.passes c.if-self.false room c.if-steps-self.true in
+    (laws.tells_all c.args.self.now c.self.inside.lent.value c.self.inside.pattern c.self.inside.subject.items c.self.inside.anchored c.self.inside.limit
+    c.self.inside.answers.items c.self.inside.told c.self.inside.steps c.self.inside.state c.self.inside.way.items (g.P.Points.points c.self.inside.points)
+    (g.P.Points.records c.self.inside.points) c.self.inside.start c.self.view_is c.self.invariant.0 c.requires.going c.requires.on
+    V.Limit (c.self.inside.steps + c.pass_failing_starts-passed.result.steps) c.pass_failing_starts-passed.result.start (g.P.Points.points c.self.inside.points)
+    c.self.inside.way.items (g.P.Points.records c.self.inside.points) l (S.Ended V.Limit) refl).1
 
 pub returns-then-steps-self-clause-counts : goal.returns-then-steps-self-clause-counts
 returns-then-steps-self-clause-counts g c =
     let size : c.len.result ≡ length c.self.inside.subject.items = c.len.ensures ∙ c.self.inside.subject.ok.0 in
     let same = ap length c.deref.ensures.value in
-    let room : c.pass_failing_starts-passed.result.start < length c.self.inside.subject.items = omega (arith, size, same, c.pass_failing_starts-passed.ensures.inside, c.if-passed-len.false) in
-    let l = laws.short_leads c.args.self.now c.self.inside.lent.value c.self.inside.pattern c.self.inside.subject.items c.self.inside.anchored c.self.inside.limit c.self.inside.answers.items c.self.inside.told c.self.inside.steps c.self.inside.state c.self.inside.way.items (g.P.Points.points c.self.inside.points) (g.P.Points.records c.self.inside.points) c.self.inside.start c.self.view_is c.self.invariant.0 c.requires.going c.requires.on c.requires.none
-    c.args.patterns.now c.deref.result.now c.requires.table c.deref.ensures.value c.pass_failing_starts-passed.result.start c.pass_failing_starts-passed.result.steps c.pass_failing_starts-passed.ensures.inside c.pass_failing_starts-passed.ensures.enough c.pass_failing_starts-passed.ensures.passes c.if-self.false room c.if-steps-self.true in
-    (laws.tells_all c.args.self.now c.self.inside.lent.value c.self.inside.pattern c.self.inside.subject.items c.self.inside.anchored c.self.inside.limit c.self.inside.answers.items c.self.inside.told c.self.inside.steps c.self.inside.state c.self.inside.way.items (g.P.Points.points c.self.inside.points) (g.P.Points.records c.self.inside.points) c.self.inside.start c.self.view_is c.self.invariant.0 c.requires.going c.requires.on
-    V.Limit (c.self.inside.steps + c.pass_failing_starts-passed.result.steps) c.pass_failing_starts-passed.result.start (g.P.Points.points c.self.inside.points) c.self.inside.way.items (g.P.Points.records c.self.inside.points) l (S.Ended V.Limit) refl).2
+    let room : c.pass_failing_starts-passed.result.start < length c.self.inside.subject.items =
+    omega (arith, size, same, c.pass_failing_starts-passed.ensures.inside, c.if-passed-len.false) in
+    let l = laws.short_leads c.args.self.now c.self.inside.lent.value c.self.inside.pattern c.self.inside.subject.items c.self.inside.anchored
+    c.self.inside.limit c.self.inside.answers.items c.self.inside.told c.self.inside.steps c.self.inside.state c.self.inside.way.items
+    (g.P.Points.points c.self.inside.points) (g.P.Points.records c.self.inside.points) c.self.inside.start c.self.view_is c.self.invariant.0
+    c.requires.going c.requires.on c.requires.none
+    c.args.patterns.now c.deref.result.now c.requires.table c.deref.ensures.value c.pass_failing_starts-passed.result.start
+    c.pass_failing_starts-passed.result.steps c.pass_failing_starts-passed.ensures.inside c.pass_failing_starts-passed.ensures.enough
+    c.pass_failing_starts-passed.ensures.passes c.if-self.false room c.if-steps-self.true in
+    (laws.tells_all c.args.self.now c.self.inside.lent.value c.self.inside.pattern c.self.inside.subject.items c.self.inside.anchored c.self.inside.limit
+    c.self.inside.answers.items c.self.inside.told c.self.inside.steps c.self.inside.state c.self.inside.way.items (g.P.Points.points c.self.inside.points)
+    (g.P.Points.records c.self.inside.points) c.self.inside.start c.self.view_is c.self.invariant.0 c.requires.going c.requires.on
+    V.Limit (c.self.inside.steps + c.pass_failing_starts-passed.result.steps) c.pass_failing_starts-passed.result.start (g.P.Points.points c.self.inside.points)
+    c.self.inside.way.items (g.P.Points.records c.self.inside.points) l (S.Ended V.Limit) refl).2
 
 pub returns-in_err-begin-clause-counts : goal.returns-in_err-begin-clause-counts
 returns-in_err-begin-clause-counts g c =
@@ -96,39 +154,74 @@ pub invariant_of-self-2 : goal.invariant_of-self-2
 invariant_of-self-2 g c =
     let size : c.len.result ≡ length c.self.inside.subject.items = c.len.ensures ∙ c.self.inside.subject.ok.0 in
     let same = ap length c.deref.ensures.value in
-    let room : c.pass_failing_starts-passed.result.start < length c.self.inside.subject.items = omega (arith, size, same, c.pass_failing_starts-passed.ensures.inside, c.if-passed-len.false) in
-    let l = laws.begun_leads c.args.self.now c.self.inside.lent.value c.self.inside.pattern c.self.inside.subject.items c.self.inside.anchored c.self.inside.limit c.self.inside.answers.items c.self.inside.told c.self.inside.steps c.self.inside.state c.self.inside.way.items (g.P.Points.points c.self.inside.points) (g.P.Points.records c.self.inside.points) c.self.inside.start c.self.view_is c.self.invariant.0 c.requires.going c.requires.on c.requires.none
-    c.args.patterns.now c.deref.result.now c.requires.table c.deref.ensures.value c.pass_failing_starts-passed.result.start c.pass_failing_starts-passed.result.steps c.pass_failing_starts-passed.ensures.inside c.pass_failing_starts-passed.ensures.enough c.pass_failing_starts-passed.ensures.passes c.if-self.false room (g.P.Points.points c.begin.new.self) (g.P.Points.records c.begin.new.self) c.if-steps-self.false c.in_ok-begin.ensures.ok c.in_ok-begin.ensures.records in
+    let room : c.pass_failing_starts-passed.result.start < length c.self.inside.subject.items =
+    omega (arith, size, same, c.pass_failing_starts-passed.ensures.inside, c.if-passed-len.false) in
+    let l = laws.begun_leads c.args.self.now c.self.inside.lent.value c.self.inside.pattern c.self.inside.subject.items c.self.inside.anchored
+    c.self.inside.limit c.self.inside.answers.items c.self.inside.told c.self.inside.steps c.self.inside.state c.self.inside.way.items
+    (g.P.Points.points c.self.inside.points) (g.P.Points.records c.self.inside.points) c.self.inside.start c.self.view_is c.self.invariant.0
+    c.requires.going c.requires.on c.requires.none
+    c.args.patterns.now c.deref.result.now c.requires.table c.deref.ensures.value c.pass_failing_starts-passed.result.start
+    c.pass_failing_starts-passed.result.steps c.pass_failing_starts-passed.ensures.inside c.pass_failing_starts-passed.ensures.enough
+    c.pass_failing_starts-passed.ensures.passes c.if-self.false room (g.P.Points.points c.begin.new.self) (g.P.Points.records c.begin.new.self)
+    c.if-steps-self.false c.in_ok-begin.ensures.ok c.in_ok-begin.ensures.records in
     let size_new = ap length c.in_ok-begin.ensures.ok in
     let empty = ap (λ (x : Session). x.points) c.self.view_is ∙ c.requires.none in
-    let due : c.self.inside.steps + c.pass_failing_starts-passed.result.steps < c.self.inside.limit = omega (arith, c.self.invariant.0.steps_in, c.pass_failing_starts-passed.ensures.enough, c.if-steps-self.false) in (
-      (laws.goes_all c.args.self.now c.self.inside.lent.value c.self.inside.pattern c.self.inside.subject.items c.self.inside.anchored c.self.inside.limit c.self.inside.answers.items c.self.inside.told c.self.inside.steps c.self.inside.state c.self.inside.way.items (g.P.Points.points c.self.inside.points) (g.P.Points.records c.self.inside.points) c.self.inside.start c.self.view_is c.self.invariant.0 c.requires.going c.requires.on
-          (c.self.inside.steps + c.pass_failing_starts-passed.result.steps + 1) (c.pass_failing_starts-passed.result.start + 1) (g.P.Points.points c.begin.new.self) c.self.inside.way.items (g.P.Points.records c.begin.new.self) l (omega (arith, size_new, empty, due))).0,
-      same_looks c.self.inside.lent.value c.args.patterns.now c.self.inside.subject.items c.deref.result.now c.pass_failing_starts-passed.new.looks (ap (λ (x : Session). x.nodes) c.self.view_is ∙ c.requires.table) c.deref.ensures.value c.pass_failing_starts-passed.ensures.looks,
+    let due : c.self.inside.steps + c.pass_failing_starts-passed.result.steps < c.self.inside.limit =
+    omega (arith, c.self.invariant.0.steps_in, c.pass_failing_starts-passed.ensures.enough, c.if-steps-self.false) in (
+      (laws.goes_all c.args.self.now c.self.inside.lent.value c.self.inside.pattern c.self.inside.subject.items c.self.inside.anchored c.self.inside.limit
+          c.self.inside.answers.items c.self.inside.told c.self.inside.steps c.self.inside.state c.self.inside.way.items
+          (g.P.Points.points c.self.inside.points) (g.P.Points.records c.self.inside.points) c.self.inside.start c.self.view_is c.self.invariant.0
+          c.requires.going c.requires.on
+          (c.self.inside.steps + c.pass_failing_starts-passed.result.steps + 1) (c.pass_failing_starts-passed.result.start + 1)
+          (g.P.Points.points c.begin.new.self) c.self.inside.way.items (g.P.Points.records c.begin.new.self) l (omega (arith, size_new, empty, due))).0,
+      same_looks c.self.inside.lent.value c.args.patterns.now c.self.inside.subject.items c.deref.result.now c.pass_failing_starts-passed.new.looks
+          (ap (λ (x : Session). x.nodes) c.self.view_is ∙ c.requires.table) c.deref.ensures.value c.pass_failing_starts-passed.ensures.looks,
     )
 
 pub returns-clause-ok : goal.returns-clause-ok
 returns-clause-ok g c =
     let size : c.len.result ≡ length c.self.inside.subject.items = c.len.ensures ∙ c.self.inside.subject.ok.0 in
     let same = ap length c.deref.ensures.value in
-    let room : c.pass_failing_starts-passed.result.start < length c.self.inside.subject.items = omega (arith, size, same, c.pass_failing_starts-passed.ensures.inside, c.if-passed-len.false) in
-    let l = laws.begun_leads c.args.self.now c.self.inside.lent.value c.self.inside.pattern c.self.inside.subject.items c.self.inside.anchored c.self.inside.limit c.self.inside.answers.items c.self.inside.told c.self.inside.steps c.self.inside.state c.self.inside.way.items (g.P.Points.points c.self.inside.points) (g.P.Points.records c.self.inside.points) c.self.inside.start c.self.view_is c.self.invariant.0 c.requires.going c.requires.on c.requires.none
-    c.args.patterns.now c.deref.result.now c.requires.table c.deref.ensures.value c.pass_failing_starts-passed.result.start c.pass_failing_starts-passed.result.steps c.pass_failing_starts-passed.ensures.inside c.pass_failing_starts-passed.ensures.enough c.pass_failing_starts-passed.ensures.passes c.if-self.false room (g.P.Points.points c.begin.new.self) (g.P.Points.records c.begin.new.self) c.if-steps-self.false c.in_ok-begin.ensures.ok c.in_ok-begin.ensures.records in
+    let room : c.pass_failing_starts-passed.result.start < length c.self.inside.subject.items =
+    omega (arith, size, same, c.pass_failing_starts-passed.ensures.inside, c.if-passed-len.false) in
+    let l = laws.begun_leads c.args.self.now c.self.inside.lent.value c.self.inside.pattern c.self.inside.subject.items c.self.inside.anchored
+    c.self.inside.limit c.self.inside.answers.items c.self.inside.told c.self.inside.steps c.self.inside.state c.self.inside.way.items
+    (g.P.Points.points c.self.inside.points) (g.P.Points.records c.self.inside.points) c.self.inside.start c.self.view_is c.self.invariant.0
+    c.requires.going c.requires.on c.requires.none
+    c.args.patterns.now c.deref.result.now c.requires.table c.deref.ensures.value c.pass_failing_starts-passed.result.start
+    c.pass_failing_starts-passed.result.steps c.pass_failing_starts-passed.ensures.inside c.pass_failing_starts-passed.ensures.enough
+    c.pass_failing_starts-passed.ensures.passes c.if-self.false room (g.P.Points.points c.begin.new.self) (g.P.Points.records c.begin.new.self)
+    c.if-steps-self.false c.in_ok-begin.ensures.ok c.in_ok-begin.ensures.records in
     let size_new = ap length c.in_ok-begin.ensures.ok in
     let empty = ap (λ (x : Session). x.points) c.self.view_is ∙ c.requires.none in
-    let due : c.self.inside.steps + c.pass_failing_starts-passed.result.steps < c.self.inside.limit = omega (arith, c.self.invariant.0.steps_in, c.pass_failing_starts-passed.ensures.enough, c.if-steps-self.false) in
-    (laws.goes_all c.args.self.now c.self.inside.lent.value c.self.inside.pattern c.self.inside.subject.items c.self.inside.anchored c.self.inside.limit c.self.inside.answers.items c.self.inside.told c.self.inside.steps c.self.inside.state c.self.inside.way.items (g.P.Points.points c.self.inside.points) (g.P.Points.records c.self.inside.points) c.self.inside.start c.self.view_is c.self.invariant.0 c.requires.going c.requires.on
-    (c.self.inside.steps + c.pass_failing_starts-passed.result.steps + 1) (c.pass_failing_starts-passed.result.start + 1) (g.P.Points.points c.begin.new.self) c.self.inside.way.items (g.P.Points.records c.begin.new.self) l (omega (arith, size_new, empty, due))).1
+    let due : c.self.inside.steps + c.pass_failing_starts-passed.result.steps < c.self.inside.limit =
+    omega (arith, c.self.invariant.0.steps_in, c.pass_failing_starts-passed.ensures.enough, c.if-steps-self.false) in
+    (laws.goes_all c.args.self.now c.self.inside.lent.value c.self.inside.pattern c.self.inside.subject.items c.self.inside.anchored c.self.inside.limit
+    c.self.inside.answers.items c.self.inside.told c.self.inside.steps c.self.inside.state c.self.inside.way.items (g.P.Points.points c.self.inside.points)
+    (g.P.Points.records c.self.inside.points) c.self.inside.start c.self.view_is c.self.invariant.0 c.requires.going c.requires.on
+    (c.self.inside.steps + c.pass_failing_starts-passed.result.steps + 1) (c.pass_failing_starts-passed.result.start + 1) (g.P.Points.points c.begin.new.self)
+    c.self.inside.way.items (g.P.Points.records c.begin.new.self) l (omega (arith, size_new, empty, due))).1
 
 pub returns-clause-counts : goal.returns-clause-counts
 returns-clause-counts g c =
     let size : c.len.result ≡ length c.self.inside.subject.items = c.len.ensures ∙ c.self.inside.subject.ok.0 in
     let same = ap length c.deref.ensures.value in
-    let room : c.pass_failing_starts-passed.result.start < length c.self.inside.subject.items = omega (arith, size, same, c.pass_failing_starts-passed.ensures.inside, c.if-passed-len.false) in
-    let l = laws.begun_leads c.args.self.now c.self.inside.lent.value c.self.inside.pattern c.self.inside.subject.items c.self.inside.anchored c.self.inside.limit c.self.inside.answers.items c.self.inside.told c.self.inside.steps c.self.inside.state c.self.inside.way.items (g.P.Points.points c.self.inside.points) (g.P.Points.records c.self.inside.points) c.self.inside.start c.self.view_is c.self.invariant.0 c.requires.going c.requires.on c.requires.none
-    c.args.patterns.now c.deref.result.now c.requires.table c.deref.ensures.value c.pass_failing_starts-passed.result.start c.pass_failing_starts-passed.result.steps c.pass_failing_starts-passed.ensures.inside c.pass_failing_starts-passed.ensures.enough c.pass_failing_starts-passed.ensures.passes c.if-self.false room (g.P.Points.points c.begin.new.self) (g.P.Points.records c.begin.new.self) c.if-steps-self.false c.in_ok-begin.ensures.ok c.in_ok-begin.ensures.records in
+    let room : c.pass_failing_starts-passed.result.start < length c.self.inside.subject.items =
+    omega (arith, size, same, c.pass_failing_starts-passed.ensures.inside, c.if-passed-len.false) in
+    let l = laws.begun_leads c.args.self.now c.self.inside.lent.value c.self.inside.pattern c.self.inside.subject.items c.self.inside.anchored
+    c.self.inside.limit c.self.inside.answers.items c.self.inside.told c.self.inside.steps c.self.inside.state c.self.inside.way.items
+    (g.P.Points.points c.self.inside.points) (g.P.Points.records c.self.inside.points) c.self.inside.start c.self.view_is c.self.invariant.0
+    c.requires.going c.requires.on c.requires.none
+    c.args.patterns.now c.deref.result.now c.requires.table c.deref.ensures.value c.pass_failing_starts-passed.result.start
+    c.pass_failing_starts-passed.result.steps c.pass_failing_starts-passed.ensures.inside c.pass_failing_starts-passed.ensures.enough
+    c.pass_failing_starts-passed.ensures.passes c.if-self.false room (g.P.Points.points c.begin.new.self) (g.P.Points.records c.begin.new.self)
+    c.if-steps-self.false c.in_ok-begin.ensures.ok c.in_ok-begin.ensures.records in
     let size_new = ap length c.in_ok-begin.ensures.ok in
     let empty = ap (λ (x : Session). x.points) c.self.view_is ∙ c.requires.none in
-    let due : c.self.inside.steps + c.pass_failing_starts-passed.result.steps < c.self.inside.limit = omega (arith, c.self.invariant.0.steps_in, c.pass_failing_starts-passed.ensures.enough, c.if-steps-self.false) in
-    (laws.goes_all c.args.self.now c.self.inside.lent.value c.self.inside.pattern c.self.inside.subject.items c.self.inside.anchored c.self.inside.limit c.self.inside.answers.items c.self.inside.told c.self.inside.steps c.self.inside.state c.self.inside.way.items (g.P.Points.points c.self.inside.points) (g.P.Points.records c.self.inside.points) c.self.inside.start c.self.view_is c.self.invariant.0 c.requires.going c.requires.on
-    (c.self.inside.steps + c.pass_failing_starts-passed.result.steps + 1) (c.pass_failing_starts-passed.result.start + 1) (g.P.Points.points c.begin.new.self) c.self.inside.way.items (g.P.Points.records c.begin.new.self) l (omega (arith, size_new, empty, due))).2
+    let due : c.self.inside.steps + c.pass_failing_starts-passed.result.steps < c.self.inside.limit =
+    omega (arith, c.self.invariant.0.steps_in, c.pass_failing_starts-passed.ensures.enough, c.if-steps-self.false) in
+    (laws.goes_all c.args.self.now c.self.inside.lent.value c.self.inside.pattern c.self.inside.subject.items c.self.inside.anchored c.self.inside.limit
+    c.self.inside.answers.items c.self.inside.told c.self.inside.steps c.self.inside.state c.self.inside.way.items (g.P.Points.points c.self.inside.points)
+    (g.P.Points.records c.self.inside.points) c.self.inside.start c.self.view_is c.self.invariant.0 c.requires.going c.requires.on
+    (c.self.inside.steps + c.pass_failing_starts-passed.result.steps + 1) (c.pass_failing_starts-passed.result.start + 1) (g.P.Points.points c.begin.new.self)
+    c.self.inside.way.items (g.P.Points.records c.begin.new.self) l (omega (arith, size_new, empty, due))).2

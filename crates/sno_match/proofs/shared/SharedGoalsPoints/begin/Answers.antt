@@ -4,4 +4,5 @@ use Rattle.sno_match.proofs.shared.SharedGoalsPoints.begin.Goals as goal
 pub returns-clause-ok : goal.returns-clause-ok
 returns-clause-ok c =
     let s = c.self.inside in
-    begun_points s.records.items c.put_front.new.records.items s.pending.items c.clear.new.self.items c.args.goal c.args.cursor c.in_ok-goals.goals c.clear.ensures.items c.in_ok-goals.ensures.ok
+    begun_points s.records.items c.put_front.new.records.items s.pending.items c.clear.new.self.items c.args.goal c.args.cursor c.in_ok-goals.goals
+    c.clear.ensures.items c.in_ok-goals.ensures.ok

@@ -12,6 +12,8 @@ returns-in-Some-clause-points c =
     let goals = c.behind_first-goals.result in
     let under = (fits s.records.items s.pending.items s.top s.below.items point c.in-Some.is c.self.invariant).3 in
     let low = c.drop_newer-floor.ensures.floor point.assigned under in
-    cut_points s.records.items s.pending.items s.top s.below.items c.drop_newer-floor.new.below.items point c.in-Some.is c.self.invariant goals c.drop_newer-floor.result c.args.depth
-    (subst (λ rs. goals_of rs goals ≡ rest_of (goals_of rs point.goals)) c.deref.ensures.value c.behind_first-goals.ensures.value) c.behind_first-goals.ensures.smaller c.drop_newer-floor.ensures.points low.0 low.1 ∙
+    cut_points s.records.items s.pending.items s.top s.below.items c.drop_newer-floor.new.below.items point c.in-Some.is c.self.invariant goals
+    c.drop_newer-floor.result c.args.depth
+    (subst (λ rs. goals_of rs goals ≡ rest_of (goals_of rs point.goals)) c.deref.ensures.value c.behind_first-goals.ensures.value)
+    c.behind_first-goals.ensures.smaller c.drop_newer-floor.ensures.points low.0 low.1 ∙
     ap (λ v. cut_back c.args.depth v.points) c.self.view_is

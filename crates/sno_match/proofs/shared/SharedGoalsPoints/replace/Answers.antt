@@ -11,7 +11,8 @@ returns-clause-ok c =
     let behind = c.behind_first-behind.result in
     let within = fits s.records.items s.pending.items s.top s.below.items point c.in-Some.is c.self.invariant in
     let larger = c.larger-keep.ensures in
-    replaced_points s.records.items s.pending.items s.top s.below.items point c.in-Some.is c.self.invariant c.put_front.new.records.items c.args.front.now c.args.cursor behind c.larger-keep.result c.in_ok-goals.goals
+    replaced_points s.records.items s.pending.items s.top s.below.items point c.in-Some.is c.self.invariant c.put_front.new.records.items c.args.front.now
+    c.args.cursor behind c.larger-keep.result c.in_ok-goals.goals
     (subst (λ rs. goals_of rs behind ≡ rest_of (goals_of rs point.goals)) c.deref.ensures.value c.behind_first-behind.ensures.value) larger.first
     (larger.least (length s.records.items) (omega (arith, c.behind_first-behind.ensures.smaller, within.0)) within.1) c.in_ok-goals.ensures.ok larger.second ∙
     ap (λ v. replaced c.args.front.now c.args.cursor v.points) c.self.view_is

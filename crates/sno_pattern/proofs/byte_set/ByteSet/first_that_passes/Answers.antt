@@ -8,8 +8,10 @@ returns-in-Some c = found_near (passes c.args.inside c.args.self.now) c.args.byt
 
 pub returns-in-Some-first_far : goal.returns-in-Some-first_far
 returns-in-Some-first_far c =
-    passed_near (passes c.args.inside c.args.self.now) c.args.bytes.now c.min-near.result _ (omega (arith, c.min-near.ensures)) c.in_default.ensures c.in-Some-first_far.ensures
+    passed_near (passes c.args.inside c.args.self.now) c.args.bytes.now c.min-near.result _ (omega (arith, c.min-near.ensures)) c.in_default.ensures
+    c.in-Some-first_far.ensures
 
 pub returns-in-None : goal.returns-in-None
 returns-in-None c =
-    passed_near (passes c.args.inside c.args.self.now) c.args.bytes.now c.min-near.result _ (omega (arith, c.min-near.ensures)) c.in_default.ensures c.in-None.ensures
+    passed_near (passes c.args.inside c.args.self.now) c.args.bytes.now c.min-near.result _ (omega (arith, c.min-near.ensures))
+    c.in_default.ensures c.in-None.ensures

@@ -9,7 +9,8 @@ pub places-preserved : goal.places-preserved
 places-preserved c = record {
   behind = omega (arith, c.places.invariant.behind);
   before = omega (arith, c.places-test.true);
-  none = no_place c.args.subject.now c.args.from c.places.place c.balanced_end.result c.places.invariant.none c.balanced_end.ensures.value (sym c.is_some.ensures ∙ c.if-is_some.false);
+  none = no_place c.args.subject.now c.args.from c.places.place c.balanced_end.result c.places.invariant.none c.balanced_end.ensures.value
+      (sym c.is_some.ensures ∙ c.if-is_some.false);
   balance = c.balanced_end.ensures.balance;
   looks = λ nodes are. c.balanced_end.ensures.looks nodes (c.places.invariant.looks nodes are);
 }

@@ -24,10 +24,12 @@ returns-clause-by_number c = λ i at. c.end_behind_of_kind.ensures c.args.at i c
 pub returns-clause-value : goal.returns-clause-value
 returns-clause-value c =
     let number = end_of-Contains (tree c.args.self.now c.args.id.0) c.args.subject.now c.args.at c.args.last c.requires.last in
-    returns-clause-by_number c number.0 number.1 ∙ sym (next_end-at (tree c.args.self.now c.args.id.0) c.args.subject.now c.args.at number.0 c.args.last c.requires.at number.1)
+    returns-clause-by_number c number.0 number.1
+    ∙ sym (next_end-at (tree c.args.self.now c.args.id.0) c.args.subject.now c.args.at number.0 c.args.last c.requires.at number.1)
 
 pub returns-clause-inside : goal.returns-clause-inside
 returns-clause-inside c =
     let number = end_of-Contains (tree c.args.self.now c.args.id.0) c.args.subject.now c.args.at c.args.last c.requires.last in
     IfSome-to _ _ c.end_behind_of_kind.result (λ e within. within.1)
-    (end_of-range (tree c.args.self.now c.args.id.0) c.args.subject.now c.args.at (number.0 + 1) c.end_behind_of_kind.result c.requires.at (returns-clause-by_number c number.0 number.1))
+    (end_of-range (tree c.args.self.now c.args.id.0) c.args.subject.now c.args.at (number.0 + 1) c.end_behind_of_kind.result c.requires.at
+    (returns-clause-by_number c number.0 number.1))

@@ -13,7 +13,8 @@ returns-then-stops_often-clause-by_number c = λ i at.
 pub returns-then-stops_often-clause-value : goal.returns-then-stops_often-clause-value
 returns-then-stops_often-clause-value c =
     let number = end_of-Contains (tree c.args.self.now c.args.id.0) c.args.subject.now c.args.at c.args.last c.requires.last in
-    returns-then-stops_often-clause-by_number c number.0 number.1 ∙ sym (next_end-at (tree c.args.self.now c.args.id.0) c.args.subject.now c.args.at number.0 c.args.last c.requires.at number.1)
+    returns-then-stops_often-clause-by_number c number.0 number.1
+    ∙ sym (next_end-at (tree c.args.self.now c.args.id.0) c.args.subject.now c.args.at number.0 c.args.last c.requires.at number.1)
 
 pub balanced_end-end-requires-clause-at : goal.balanced_end-end-requires-clause-at
 balanced_end-end-requires-clause-at c =
@@ -25,15 +26,18 @@ returns-then-is_bal-clause-looks c = c.balanced_end-end.ensures.looks c.args.sel
 
 pub returns-then-is_bal-clause-by_number : goal.returns-then-is_bal-clause-by_number
 returns-then-is_bal-clause-by_number c = λ i at.
-    bal_next (tree c.args.self.now c.args.id.0) c.args.subject.now c.args.at i c.args.last c.balanced_end-end.result c.requires.at (c.is_bal.ensures c.if-is_bal.true) c.balanced_end-end.ensures.value at
+    bal_next (tree c.args.self.now c.args.id.0) c.args.subject.now c.args.at i c.args.last c.balanced_end-end.result c.requires.at
+    (c.is_bal.ensures c.if-is_bal.true) c.balanced_end-end.ensures.value at
 
 pub returns-then-is_bal-clause-value : goal.returns-then-is_bal-clause-value
 returns-then-is_bal-clause-value c =
     let number = end_of-Contains (tree c.args.self.now c.args.id.0) c.args.subject.now c.args.at c.args.last c.requires.last in
-    returns-then-is_bal-clause-by_number c number.0 number.1 ∙ sym (next_end-at (tree c.args.self.now c.args.id.0) c.args.subject.now c.args.at number.0 c.args.last c.requires.at number.1)
+    returns-then-is_bal-clause-by_number c number.0 number.1
+    ∙ sym (next_end-at (tree c.args.self.now c.args.id.0) c.args.subject.now c.args.at number.0 c.args.last c.requires.at number.1)
 
 pub returns-then-is_bal-clause-inside : goal.returns-then-is_bal-clause-inside
 returns-then-is_bal-clause-inside c =
     let number = end_of-Contains (tree c.args.self.now c.args.id.0) c.args.subject.now c.args.at c.args.last c.requires.last in
     IfSome-to _ _ c.balanced_end-end.result (λ e within. within.1)
-    (end_of-range (tree c.args.self.now c.args.id.0) c.args.subject.now c.args.at (number.0 + 1) c.balanced_end-end.result c.requires.at (returns-then-is_bal-clause-by_number c number.0 number.1))
+    (end_of-range (tree c.args.self.now c.args.id.0) c.args.subject.now c.args.at (number.0 + 1) c.balanced_end-end.result c.requires.at
+    (returns-then-is_bal-clause-by_number c number.0 number.1))

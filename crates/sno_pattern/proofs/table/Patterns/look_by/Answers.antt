@@ -9,24 +9,28 @@ use Rattle.sno_pattern.proofs.table.Patterns.look_by.Goals as goal
 pub last_with_end-until-requires : goal.last_with_end-until-requires
 last_with_end-until-requires c =
     c.end_at-end-2.ensures.value ∙
-    sym (of_entry c.self.inside.entries.items c.args.self.now c.args.id.0 c.index.result.now c.args.subject.now c.args.at c.self.view_is c.self.invariant c.requires.id (sym c.index.ensures))
+    sym (of_entry c.self.inside.entries.items c.args.self.now c.args.id.0 c.index.result.now c.args.subject.now c.args.at c.self.view_is c.self.invariant
+    c.requires.id (sym c.index.ensures))
 
 pub returns-then-at-until-clause-looks : goal.returns-then-at-until-clause-looks
 returns-then-at-until-clause-looks c =
     c.remember.ensures c.args.self.now c.args.subject.now c.requires.looks
     (run_of_node c.args.self.now (node_of c.index.result.now.kind) c.args.subject.now _ c.requires.id
-    (λ d. of_entry c.self.inside.entries.items c.args.self.now c.args.id.0 c.index.result.now c.args.subject.now d c.self.view_is c.self.invariant c.requires.id (sym c.index.ensures))
+    (λ d. of_entry c.self.inside.entries.items c.args.self.now c.args.id.0 c.index.result.now c.args.subject.now d c.self.view_is c.self.invariant
+    c.requires.id (sym c.index.ensures))
     c.last_with_end-until.ensures)
 
 pub returns-in-Some-clause-ahead : goal.returns-in-Some-clause-ahead
 returns-in-Some-clause-ahead c =
-    let value : c.in-Some.end ≡ end_of (tree c.args.self.now c.args.id.0) c.args.subject.now c.args.at 0 = c.in-Some.ensures c.args.self.now c.args.subject.now c.requires.looks in
+    let value : c.in-Some.end ≡ end_of (tree c.args.self.now c.args.id.0) c.args.subject.now c.args.at 0 =
+    c.in-Some.ensures c.args.self.now c.args.subject.now c.requires.looks in
     IfSome-to _ _ c.in-Some.end (λ e within. omega (arith, within.0))
     (end_of-range (tree c.args.self.now c.args.id.0) c.args.subject.now c.args.at 0 c.in-Some.end c.requires.at value)
 
 pub returns-in-Some-clause-inside : goal.returns-in-Some-clause-inside
 returns-in-Some-clause-inside c =
-    let value : c.in-Some.end ≡ end_of (tree c.args.self.now c.args.id.0) c.args.subject.now c.args.at 0 = c.in-Some.ensures c.args.self.now c.args.subject.now c.requires.looks in
+    let value : c.in-Some.end ≡ end_of (tree c.args.self.now c.args.id.0) c.args.subject.now c.args.at 0 =
+    c.in-Some.ensures c.args.self.now c.args.subject.now c.requires.looks in
     IfSome-to _ _ c.in-Some.end (λ e within. within.1)
     (end_of-range (tree c.args.self.now c.args.id.0) c.args.subject.now c.args.at 0 c.in-Some.end c.requires.at value)
 

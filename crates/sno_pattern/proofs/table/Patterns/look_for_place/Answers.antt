@@ -7,4 +7,5 @@ returns-then-is_bal-clause-looks c = c.balanced_place-place.ensures.looks c.args
 
 pub returns-then-is_bal-clause-place : goal.returns-then-is_bal-clause-place
 returns-then-is_bal-clause-place c =
-    bal_place (tree c.args.self.now c.args.id.0) c.args.subject.now c.args.from c.args.until c.balanced_place-place.result (c.is_bal.ensures c.if-is_bal.true) c.balanced_place-place.ensures.place
+    bal_place (tree c.args.self.now c.args.id.0) c.args.subject.now c.args.from c.args.until c.balanced_place-place.result (c.is_bal.ensures c.if-is_bal.true)
+    c.balanced_place-place.ensures.place

@@ -30,7 +30,9 @@ returns-clause-values c =
     ∙ elim c.match-first.branch [
       | in-Some w ↦ ap (λ (v : Vec Value Global). restored (numbered c.self.inside.saved.items) v.items) w.values-is
           ∙ ap (restored (numbered c.self.inside.saved.items)) w.exchanged-result.ensures.values
-          ∙ restored_begun c.self.inside.saved.items w.in-Some.field-0.now c.args.values.now.items w.null.result (w.in-Some.ensures.value ∙ ap (λ ss. slice_get ss 0) c.deref.ensures.value)
-      | in-None w ↦ ap (λ (v : Vec Value Global). restored (numbered c.self.inside.saved.items) v.items) w.values-is ∙ sym (restored_seen c.self.inside.saved.items c.args.values.now.items)
+          ∙ restored_begun c.self.inside.saved.items w.in-Some.field-0.now c.args.values.now.items w.null.result
+          (w.in-Some.ensures.value ∙ ap (λ ss. slice_get ss 0) c.deref.ensures.value)
+      | in-None w ↦ ap (λ (v : Vec Value Global). restored (numbered c.self.inside.saved.items) v.items) w.values-is
+          ∙ sym (restored_seen c.self.inside.saved.items c.args.values.now.items)
     ]
     ∙ ap (λ call. restored call c.args.values.now.items) c.self.view_is

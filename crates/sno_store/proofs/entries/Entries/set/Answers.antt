@@ -14,4 +14,5 @@ returns-then-place-len c =
 
 pub returns-else-place-len : goal.returns-else-place-len
 returns-else-place-len c =
-    sym c.self.view_is ∙ set_past c.self.inside.map.entries c.args.entry c.args.value (omega arith) ∙ ap (with_value_at c.args.entry c.args.value) c.self.view_is
+    sym c.self.view_is ∙ set_past c.self.inside.map.entries c.args.entry c.args.value (omega arith)
+    ∙ ap (with_value_at c.args.entry c.args.value) c.self.view_is

@@ -3,4 +3,5 @@ use Rattle.sno_store.proofs.ObjectLaws.{field_is}
 use Rattle.sno_store.proofs.objects.Objects.field_value.Goals as goal
 
 pub returns : goal.returns
-returns c = field_is _ _ _ _ _ (ap (λ o. option_map (λ instance. instance.fields.items) (option_copied o)) (sym c.in_ok-instance.was) ∙ c.instance.ensures.fields) c.get.ensures
+returns c = field_is _ _ _ _ _ (ap (λ o. option_map (λ instance. instance.fields.items) (option_copied o)) (sym c.in_ok-instance.was)
+    ∙ c.instance.ensures.fields) c.get.ensures

@@ -14,6 +14,7 @@ returns-in-Err c =
     let same : length old.values ≡ length old.symbols =
     sym (ap (λ (x : Contents). length x.values) c.self.view_is) ∙ c.self.invariant.0 ∙ ap (λ (x : Contents). length x.symbols) c.self.view_is in
     let back = taken_back old new c.len-count.result _ _ c.in-Err.ensures.1 (search rules) same refl refl in (
-      define_refused c.args.prototype.now c.args.entry.now (prototype_seen c.in-Some.prototype) old.symbols old.functions c.in-Err.refusal (search rules) (search rules) (search rules) (search rules),
+      define_refused c.args.prototype.now c.args.entry.now (prototype_seen c.in-Some.prototype) old.symbols old.functions c.in-Err.refusal (search rules)
+          (search rules) (search rules) (search rules),
       c.take_back.ensures ∙ back,
     )

@@ -14,8 +14,10 @@ invariant-names l =
       is_finite : (goal.iterator-names).is_finite l.name-iterator;
       few : length l.self.symbols ≤ 1_000_000;
       more : HasMore l.initial.self l.self;
-      symbols : with_names (drop (length l.yielded) (slice_split is_comma l.list)) l.self.symbols ≡ with_names (slice_split is_comma l.list) l.initial.self.symbols;
+      symbols : with_names (drop (length l.yielded) (slice_split is_comma l.list)) l.self.symbols
+          ≡ with_names (slice_split is_comma l.list) l.initial.self.symbols;
       numbers :
-          numbers l.numbers.items ++ map (λ name. place name (with_names (slice_split is_comma l.list) l.initial.self.symbols)) (drop (length l.yielded) (slice_split is_comma l.list))
+          numbers l.numbers.items ++ map (λ name. place name (with_names (slice_split is_comma l.list) l.initial.self.symbols))
+          (drop (length l.yielded) (slice_split is_comma l.list))
           ≡ map (λ name. place name (with_names (slice_split is_comma l.list) l.initial.self.symbols)) (slice_split is_comma l.list);
     }

@@ -7,5 +7,6 @@ use Rattle.sno_store.proofs.symbols.Symbols.truncate.Goals as goal
 
 pub returns : goal.returns
 returns c =
-    ap (map (λ (text : Vec ℕ Global). text.items)) c.truncate.ensures.keys ∙ sym (take-map (λ (text : Vec ℕ Global). text.items) c.args.count c.self.inside.texts.keys)
+    ap (map (λ (text : Vec ℕ Global). text.items)) c.truncate.ensures.keys
+    ∙ sym (take-map (λ (text : Vec ℕ Global). text.items) c.args.count c.self.inside.texts.keys)
     ∙ ap (take c.args.count) c.self.view_is

@@ -11,28 +11,34 @@ pub waiting-preserved : goal.waiting-preserved
 waiting-preserved c =
     let source = c.args.program.now in
     goes_then source c.args.self.now c.waiting.self c.leave.new.self Failed Failed Failed c.waiting.invariant
-    (failed_goes source c.waiting.self c.leave.new.self c.in-Some.last (sym c.absorbs_failure.ensures ∙ c.if-absorbs_failure.false) c.in-Some.ensures.waiting c.in-Some.ensures.values)
+    (failed_goes source c.waiting.self c.leave.new.self c.in-Some.last (sym c.absorbs_failure.ensures ∙ c.if-absorbs_failure.false) c.in-Some.ensures.waiting
+    c.in-Some.ensures.values)
 
 pub returns-then-absorbs_failure-clause-rest : goal.returns-then-absorbs_failure-clause-rest
 returns-then-absorbs_failure-clause-rest c =
     let source = c.args.program.now in
     let goes = goes_then source c.args.self.now c.waiting.self c.leave.new.self Failed Failed (HasGot (Str [])) c.waiting.invariant
-    (absorbed_goes source c.waiting.self c.leave.new.self c.in-Some.last (sym c.absorbs_failure.ensures ∙ c.if-absorbs_failure.true) c.in-Some.ensures.waiting c.in-Some.ensures.values) in
-    goes_rest source c.args.self.now c.leave.new.self c.resume.new.self Failed (HasGot (Str [])) c.in_ok-next.next goes (rw c.null.ensures at c.in_ok-next.ensures.rest)
+    (absorbed_goes source c.waiting.self c.leave.new.self c.in-Some.last (sym c.absorbs_failure.ensures ∙ c.if-absorbs_failure.true) c.in-Some.ensures.waiting
+    c.in-Some.ensures.values) in
+    goes_rest source c.args.self.now c.leave.new.self c.resume.new.self Failed (HasGot (Str [])) c.in_ok-next.next goes
+    (rw c.null.ensures at c.in_ok-next.ensures.rest)
 
 pub returns-then-absorbs_failure-clause-work : goal.returns-then-absorbs_failure-clause-work
 returns-then-absorbs_failure-clause-work c =
     let source = c.args.program.now in
     let goes = goes_then source c.args.self.now c.waiting.self c.leave.new.self Failed Failed (HasGot (Str [])) c.waiting.invariant
-    (absorbed_goes source c.waiting.self c.leave.new.self c.in-Some.last (sym c.absorbs_failure.ensures ∙ c.if-absorbs_failure.true) c.in-Some.ensures.waiting c.in-Some.ensures.values) in
+    (absorbed_goes source c.waiting.self c.leave.new.self c.in-Some.last (sym c.absorbs_failure.ensures ∙ c.if-absorbs_failure.true) c.in-Some.ensures.waiting
+    c.in-Some.ensures.values) in
     goes_work source c.args.self.now c.leave.new.self c.resume.new.self Failed (HasGot (Str [])) c.in_ok-next.next goes c.in_ok-next.ensures.work
 
 pub returns-then-absorbs_failure-clause-known : goal.returns-then-absorbs_failure-clause-known
 returns-then-absorbs_failure-clause-known c =
     let source = c.args.program.now in
     let goes = goes_then source c.args.self.now c.waiting.self c.leave.new.self Failed Failed (HasGot (Str [])) c.waiting.invariant
-    (absorbed_goes source c.waiting.self c.leave.new.self c.in-Some.last (sym c.absorbs_failure.ensures ∙ c.if-absorbs_failure.true) c.in-Some.ensures.waiting c.in-Some.ensures.values) in
-    goes_known source c.args.self.now c.leave.new.self Failed (HasGot (Str [])) (still_at_hand c.resume.new.self.values c.in_ok-next.next) goes (rw c.null.ensures at c.in_ok-next.ensures.known)
+    (absorbed_goes source c.waiting.self c.leave.new.self c.in-Some.last (sym c.absorbs_failure.ensures ∙ c.if-absorbs_failure.true) c.in-Some.ensures.waiting
+    c.in-Some.ensures.values) in
+    goes_known source c.args.self.now c.leave.new.self Failed (HasGot (Str [])) (still_at_hand c.resume.new.self.values c.in_ok-next.next) goes
+    (rw c.null.ensures at c.in_ok-next.ensures.known)
 
 pub returns-clause-rest : goal.returns-clause-rest
 returns-clause-rest c = lost_rest c.args.program.now c.args.self.now c.waiting.self c.leave.new.self c.waiting.invariant c.in_default.ensures.values.0

@@ -5,5 +5,6 @@ use Rattle.snobol.proofs.pile.Pile.wait.Goals as goal
 
 pub invariant_of-self-2 : goal.invariant_of-self-2
 invariant_of-self-2 c =
-    held_if c.push.new.self.items c.self.inside.waiting.items (record { part = c.args.part; held = 0 }) (is_ok c.push.result) (length c.self.inside.values.items) c.push.ensures.items
+    held_if c.push.new.self.items c.self.inside.waiting.items (record { part = c.args.part; held = 0 }) (is_ok c.push.result)
+    (length c.self.inside.values.items) c.push.ensures.items
     (let i : holds c.self.inside.waiting.items ≤ length c.self.inside.values.items = c.self.invariant in omega arith)
