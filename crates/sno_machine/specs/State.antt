@@ -24,6 +24,7 @@ use Rattle.sno_machine.specs.declared.machine.Exit.TheVariants.{Failure, Halt}
 use Rattle.sno_machine.specs.declared.machine.Stop.TheVariants.{Error as HasError, ErrorIn as HasErrorIn, NoMemory}
 use Rattle.sno_machine.specs.declared.machine.Stop.TheVariants.{ReadFault, WriteFault, Ended as HasEnded}
 use Rattle.std.specs.Io.KnownBytes.{Consumes}
+use Rattle.sno_io.specs.Devices.{Feed}
 use Rattle.sno_io.specs.Lines.{Reading}
 use Rattle.sno_machine.specs.World.{World, Keywords}
 use Rattle.sno_machine.specs.Action.{Error, Got, Fails, Stops, Outcome, Action}

@@ -128,9 +128,9 @@ impl<'a> Ending<'a> {
     /// Writes the line, if there is one, and answers the status.
     /// That `errors` fails changes nothing. It takes no memory.
     pub fn tell<E: Sink>(&self, errors: &mut E) -> u8
-        requires { E.broken errors.old ≡ false }
+        requires { (E.drain errors.old).broken ≡ false }
         ensures status { result ≡ self.now.status }
-        ensures line { Tells (E.taken errors.old) (E.taken errors.new) (E.broken errors.new) self.now.line }
+        ensures line { Tells (E.drain errors.old).taken (E.drain errors.new).taken (E.drain errors.new).broken self.now.line }
     {
         if let Some(line) = self.line {
             let _ = put_line(errors, line);
@@ -141,10 +141,10 @@ impl<'a> Ending<'a> {
 
 /// Writes a line.
 fn put_line<E: Sink>(errors: &mut E, line: FaultLine<'_>) -> Result<(), DeviceFault>
-    requires { E.broken errors.old ≡ false }
-    ensures bytes { TakesBytes (E.taken errors.old) (E.taken errors.new) result
+    requires { (E.drain errors.old).broken ≡ false }
+    ensures bytes { TakesBytes (E.drain errors.old).taken (E.drain errors.new).taken result
         (line_of line.entry.text.now line.entry.number line.entry.more.now line.entry.last) }
-    ensures fault { OnErr result (E.broken errors.new ≡ true) }
+    ensures fault { OnErr result ((E.drain errors.new).broken ≡ true) }
 {
     put(errors, b"snobol4: ")?;
     put(errors, line.text.as_bytes())?;
@@ -157,10 +157,10 @@ fn put_line<E: Sink>(errors: &mut E, line: FaultLine<'_>) -> Result<(), DeviceFa
 
 /// Writes a number, if there is one.
 fn put_number<E: Sink>(errors: &mut E, number: Option<u32>) -> Result<(), DeviceFault>
-    requires { E.broken errors.old ≡ false }
-    ensures bytes { TakesBytes (E.taken errors.old) (E.taken errors.new) result (number_text number) }
-    ensures sound { OnOk result (E.broken errors.new ≡ false) }
-    ensures fault { OnErr result (E.broken errors.new ≡ true) }
+    requires { (E.drain errors.old).broken ≡ false }
+    ensures bytes { TakesBytes (E.drain errors.old).taken (E.drain errors.new).taken result (number_text number) }
+    ensures sound { OnOk result ((E.drain errors.new).broken ≡ false) }
+    ensures fault { OnErr result ((E.drain errors.new).broken ≡ true) }
 {
     if let Some(number) = number {
         put_digits(errors, number)?;
@@ -170,10 +170,10 @@ fn put_number<E: Sink>(errors: &mut E, number: Option<u32>) -> Result<(), Device
 
 /// Writes a number in decimal.
 fn put_digits<E: Sink>(errors: &mut E, number: u32) -> Result<(), DeviceFault>
-    requires { E.broken errors.old ≡ false }
-    ensures bytes { TakesBytes (E.taken errors.old) (E.taken errors.new) result (decimal number) }
-    ensures sound { OnOk result (E.broken errors.new ≡ false) }
-    ensures fault { OnErr result (E.broken errors.new ≡ true) }
+    requires { (E.drain errors.old).broken ≡ false }
+    ensures bytes { TakesBytes (E.drain errors.old).taken (E.drain errors.new).taken result (decimal number) }
+    ensures sound { OnOk result ((E.drain errors.new).broken ≡ false) }
+    ensures fault { OnErr result ((E.drain errors.new).broken ≡ true) }
 {
     if number < 10 {
         put_digit(errors, number)?;
@@ -186,11 +186,11 @@ fn put_digits<E: Sink>(errors: &mut E, number: u32) -> Result<(), DeviceFault>
 
 /// Writes a digit.
 fn put_digit<E: Sink>(errors: &mut E, digit: u32) -> Result<(), DeviceFault>
-    requires sound { E.broken errors.old ≡ false }
+    requires sound { (E.drain errors.old).broken ≡ false }
     requires digit { digit < 10 }
-    ensures bytes { TakesBytes (E.taken errors.old) (E.taken errors.new) result ((48 + digit) ∷ []) }
-    ensures sound { OnOk result (E.broken errors.new ≡ false) }
-    ensures fault { OnErr result (E.broken errors.new ≡ true) }
+    ensures bytes { TakesBytes (E.drain errors.old).taken (E.drain errors.new).taken result ((48 + digit) ∷ []) }
+    ensures sound { OnOk result ((E.drain errors.new).broken ≡ false) }
+    ensures fault { OnErr result ((E.drain errors.new).broken ≡ true) }
 {
     put(errors, &[b'0' + digit as u8])?;
     Ok(())

@@ -27,13 +27,13 @@ pub fn perform<R: Source, W: Sink, E: Sink>(
 ) -> u8
     requires reader { (R.feed reader.old).broken ≡ false }
     requires writer { (W.drain writer.old).broken ≡ false }
-    requires errors { E.broken errors.old ≡ false }
+    requires errors { (E.drain errors.old).broken ≡ false }
     requires limits { IsInRange job.now }
     ensures { (report : Report) × (given : List ℕ) × (wrote : List ℕ)
         × Consumes (R.feed reader.old).left (R.feed reader.new).left given
         × Appends (W.drain writer.old).taken (W.drain writer.new).taken wrote
         × IsDone job.now file.entry report given (R.feed reader.new).at_end wrote
-        × (result ≡ report.status) × Tells (E.taken errors.old) (E.taken errors.new) (E.broken errors.new) report.line }
+        × (result ≡ report.status) × Tells (E.drain errors.old).taken (E.drain errors.new).taken (E.drain errors.new).broken report.line }
 {
     let ending = end_of(alloc, job, file, reader, writer);
     ending.tell(errors)
