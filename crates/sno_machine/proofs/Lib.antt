@@ -25,3 +25,4 @@ pub mod Arguments
 pub mod FunctionLaws
 pub mod ItemLaws
 pub mod ContainerLaws
+pub mod Found

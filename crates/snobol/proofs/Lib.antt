@@ -1,7 +1,6 @@
 pub mod Expressions
-pub mod Piles
+pub mod FlatLaws
 pub mod Leads
-pub mod PileSteps
 pub mod ApplyLaws
 pub mod Holders
 pub mod Ordered

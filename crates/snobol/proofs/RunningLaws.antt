@@ -26,7 +26,7 @@ goes_twice a b c g h = let x = g.begun in let y = h.begun in record { cap = h.ca
 
 -- what holds wherever it ends
 
-on_going : {X : Type 0} (r : Result X Exit) (P : Type 0) → P → OnGoing r P
+pub on_going : {X : Type 0} (r : Result X Exit) (P : Type 0) → P → OnGoing r P
 on_going (Ok x) P h = h
 on_going (Err Failure) P h = h
 on_going (Err (Halt why)) P h = tt

@@ -1,7 +1,7 @@
 pub mod Forms
 pub mod Endings
 pub mod Evaluate
-pub mod Pile
+pub mod Flat
 pub mod Reading
 pub mod Sessions
 pub mod Given

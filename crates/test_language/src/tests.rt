@@ -10,6 +10,7 @@ mod errors;
 mod faults;
 mod forms;
 mod functions;
+mod guards;
 mod hostile;
 mod input;
 mod interpreter;
