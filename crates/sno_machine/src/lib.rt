@@ -30,6 +30,7 @@ pub use machine::{
     NO_VARIABLE, NULL_STRING, RETURN_OUTSIDE, Stop, TOO_LONG, UNDEFINED_FUNCTION, UNDEFINED_LABEL,
     error,
 };
+pub use numbers::stands;
 pub use operators::operation;
 pub use session::{assign, take_effect};
 pub use unary_operators::{unary, unary_name};

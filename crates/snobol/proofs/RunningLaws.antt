@@ -1,5 +1,5 @@
 -- How functions join that read and write what their actions do.
-use Rattle.std.proofs.Common.{◌≡◌, ℕ, Bool, true, false, List, [], ◌++◌, refl, ap, sym, ◌∙◌, subst, append_assoc, arith, Option, None, Some, Result, Ok, Err}
+use Rattle.std.proofs.Common.{◌≡◌, ℕ, true, false, List, [], ◌++◌, refl, ap, sym, ◌∙◌, subst, append_assoc, arith, Option, None, Some, Result, Ok, Err}
 use Rattle.std.proofs.Common.{OnOk}
 use Rattle.std.proofs.lemmas.List.{append-nil}
 use Rattle.sno_io.specs.Devices.{Begins, Drain, Feed}

@@ -19,6 +19,7 @@ mod job;
 mod listing;
 mod matching;
 mod no_input;
+mod quick;
 mod replacement;
 mod scope;
 mod statements;

@@ -13,6 +13,7 @@ mod functions;
 mod guards;
 mod hostile;
 mod input;
+mod integers;
 mod interpreter;
 mod items;
 mod keywords;
