@@ -84,20 +84,43 @@ fn build_over(table: &mut Patterns, builder: u32) -> Result<PatId, BuildError>
 
 /// Calls the builder with this number, which needs no parts.
 fn build_leaf(table: &mut Patterns, builder: u32) -> Result<PatId, BuildError> {
+    if builder < 12 {
+        build_with_argument(table, builder)
+    } else if builder < 19 {
+        build_plain(table, builder)
+    } else {
+        build_named(table, builder)
+    }
+}
+
+/// Calls the builder with this number, which takes a text, a count or a set.
+fn build_with_argument(table: &mut Patterns, builder: u32) -> Result<PatId, BuildError> {
     match builder {
         6 => table.text(b"a text of some length"),
         7 => table.text(b""),
         8 => table.prim(Prim::Len, Arg::Count(2)),
         9 => table.prim(Prim::Rtab, Arg::Count(1)),
         10 => table.prim(Prim::Span, Arg::Set(b"AB")),
-        11 => table.prim(Prim::BreakX, Arg::Set(b")")),
+        _ => table.prim(Prim::BreakX, Arg::Set(b")")),
+    }
+}
+
+/// Calls the builder with this number, which takes nothing.
+fn build_plain(table: &mut Patterns, builder: u32) -> Result<PatId, BuildError> {
+    match builder {
         12 => table.arb(),
         13 => table.bal(),
         14 => table.rem(),
         15 => table.fail(),
         16 => table.fence(),
         17 => table.abort(),
-        18 => table.succeed(),
+        _ => table.succeed(),
+    }
+}
+
+/// Calls the builder with this number, which takes a name or an expression.
+fn build_named(table: &mut Patterns, builder: u32) -> Result<PatId, BuildError> {
+    match builder {
         19 => table.cursor(X),
         20 => table.defer(ExprId(3)),
         _ => table.defer_prim(Prim::Any, ExprId(4)),

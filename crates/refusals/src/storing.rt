@@ -154,17 +154,34 @@ pub(crate) fn holds(alloc: Global) -> Result<bool, AllocError> {
 /// refused with ample memory.
 fn are_answered(alloc: Global, calls: &[Call]) -> Result<Option<u32>, AllocError> {
     let key = text(alloc, b"key")?;
-    let mut store = Store::new(alloc, &mut Patterns::new(alloc))?;
-    let mut twin = Store::new(alloc, &mut Patterns::new(alloc))?;
+    let mut store = new_store(alloc)?;
+    let mut twin = new_store(alloc)?;
+    count_refused(alloc, &mut store, &mut twin, calls, &key)
+}
+
+fn new_store(alloc: Global) -> Result<Store, AllocError> {
+    let mut table = Patterns::new(alloc);
+    let store = Store::new(alloc, &mut table)?;
+    Ok(store)
+}
+
+/// Makes calls of a store and of its twin, as `are_answered` says.
+fn count_refused(
+    alloc: Global,
+    store: &mut Store,
+    twin: &mut Store,
+    calls: &[Call],
+    key: &Value,
+) -> Result<Option<u32>, AllocError> {
     let mut refused = 0u32;
     for call in calls {
-        match answer_of_both(alloc, &mut store, &mut twin, *call, &key)? {
+        match answer_of_both(alloc, store, twin, *call, key)? {
             Some(Ok(_answer)) => {}
             Some(Err(_refusal)) => refused = refused.saturating_add(1),
             None => return Ok(None),
         }
     }
-    if are_same_stores(&store, &twin, &key) {
+    if are_same_stores(store, twin, key) {
         Ok(Some(refused))
     } else {
         Ok(None)

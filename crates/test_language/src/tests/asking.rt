@@ -1,7 +1,9 @@
 //! What the interpreter is asked: commands, programs, patterns and values.
+ghost use Rattle.snobol.specs.Jobs.{IsInRange};
+
 use super::rows::Question;
-use sno_text::read_program;
-use snobol::{Device, Limits, Outcome, command, perform, run, status_of};
+use sno_text::{Program, read_program};
+use snobol::{Device, Job, Limits, Outcome, command, perform, run, status_of};
 use std::alloc::{AllocError, Global};
 use std::str::from_utf8;
 use std::test::Fail;
@@ -79,19 +81,25 @@ impl Question for Values {
         program.extend_from_slice(text)?;
         program.extend_from_slice(b") '>' :S(END)\n OUTPUT = 'fails'\nEND\n")?;
         let program = read_program(alloc, &program)?;
-        let mut input = Device::new(b"".as_slice());
-        let mut output = Device::new(Vec::new(alloc));
-        let outcome = run(alloc, &program, &mut input, &mut output, LIMITS);
-        let output = output.into_inner();
-        let written = from_utf8(&output)?;
-        match outcome {
-            Outcome::Ended => Ok(String::from_str(
-                alloc,
-                written.strip_suffix("\n").unwrap_or(written),
-            )?),
-            Outcome::Error { code, .. } => Ok(format!(in alloc; "error {code}")?),
-            other => Ok(format!(in alloc; "{other:?}")?),
-        }
+        let (outcome, written) = ran(alloc, &program);
+        let answer = value_text(alloc, outcome, from_utf8(&written)?)?;
+        Ok(answer)
+    }
+}
+
+/// How a run without input ends, and what it writes.
+fn ran(alloc: Global, program: &Program) -> (Outcome, Vec<u8>) {
+    let mut input = Device::new(b"".as_slice());
+    let mut output = Device::new(Vec::new(alloc));
+    let outcome = run(alloc, program, &mut input, &mut output, LIMITS);
+    (outcome, output.into_inner())
+}
+
+fn value_text(alloc: Global, outcome: Outcome, written: &str) -> Result<String, AllocError> {
+    match outcome {
+        Outcome::Ended => String::from_str(alloc, written.strip_suffix("\n").unwrap_or(written)),
+        Outcome::Error { code, .. } => format!(in alloc; "error {code}"),
+        other => format!(in alloc; "{other:?}"),
     }
 }
 
@@ -120,12 +128,25 @@ fn told(alloc: Global, words: &[&str], file: Option<&[u8]>, input: &[u8]) -> Res
         Ok(job) => job,
         Err(error) => return Ok(format!(in alloc; "status {}", status_of(&error))?),
     };
+    let (status, output, errors) = performed(alloc, &job, file, input);
+    let answer = answer_of(alloc, &output, &errors, status)?;
+    Ok(answer)
+}
+
+/// The status of a job, what it writes to standard output, and what it writes to standard error.
+fn performed(
+    alloc: Global,
+    job: &Job<'_>,
+    file: Option<&[u8]>,
+    input: &[u8],
+) -> (u8, Vec<u8>, Vec<u8>)
+    requires { IsInRange job.now }
+{
     let mut input = Device::new(input);
     let mut output = Device::new(Vec::new(alloc));
     let mut errors = Device::new(Vec::new(alloc));
-    let status = perform(alloc, &job, file, &mut input, &mut output, &mut errors);
-    let answer = answer_of(alloc, &output.into_inner(), &errors.into_inner(), status)?;
-    Ok(answer)
+    let status = perform(alloc, job, file, &mut input, &mut output, &mut errors);
+    (status, output.into_inner(), errors.into_inner())
 }
 
 fn answer_of(alloc: Global, output: &[u8], errors: &[u8], status: u8) -> Result<String, Fail> {

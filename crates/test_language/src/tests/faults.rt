@@ -2,7 +2,7 @@
 ghost use Rattle.snobol.specs.Jobs.{IsInRange};
 
 use super::writers::Shut;
-use sno_text::read_program;
+use sno_text::{Program, read_program};
 use snobol::{Device, Job, Limits, Outcome, Sink, perform, run};
 use std::alloc::Global;
 use std::io::{self, ErrorKind, Read};
@@ -40,48 +40,73 @@ impl Read for Drip<'_> {
     }
 }
 
-/// What is written of the input by a reader that fails at the call behind so many.
-fn numbered<R: Abort + AllocGlobal>(rt: &R, calls: usize) -> Result<(Vec<u8>, Outcome), Fail> {
-    let alloc = rt.alloc();
-    let program = read_program(alloc, NUMBERS)?;
+/// How a run of NUMBERS ends on a reader that fails at the call behind so many, and what it writes.
+fn numbered(alloc: Global, program: &Program, calls: usize) -> (Outcome, Vec<u8>) {
     let mut input = Device::new(Drip {
         bytes: b"ab\n\ncd",
         at: 0,
         calls,
     });
     let mut output = Device::new(Vec::new(alloc));
-    let outcome = run(alloc, &program, &mut input, &mut output, LIMITS);
-    Ok((output.into_inner(), outcome))
+    let outcome = run(alloc, program, &mut input, &mut output, LIMITS);
+    (outcome, output.into_inner())
+}
+
+fn check_numbered<R: Abort + AllocGlobal>(
+    rt: &R,
+    calls: usize,
+    ending: Outcome,
+    lines: &[u8],
+) -> Result<(), Fail> {
+    let program = read_program(rt.alloc(), NUMBERS)?;
+    let (outcome, written) = numbered(rt.alloc(), &program, calls);
+    check_written(rt, outcome, ending, &written, lines);
+    Ok(())
+}
+
+/// Compares how a run ended, and what it has written, with what must be.
+fn check_written<R: Abort + AllocGlobal>(
+    rt: &R,
+    outcome: Outcome,
+    ending: Outcome,
+    written: &[u8],
+    lines: &[u8],
+) {
+    assert_eq!(rt; outcome, ending);
+    assert_eq!(rt; written, lines);
 }
 
 #[test]
 fn a_reader_of_single_bytes(rt: HostRuntime) -> Result<(), Fail> {
-    let (written, outcome) = numbered(&rt, 1000)?;
-    assert_eq!(rt; written.as_slice(), b"1 ab\n2 \n3 cd\n".as_slice());
-    assert_eq!(rt; outcome, Outcome::Ended);
-    Ok(())
+    check_numbered(&rt, 1000, Outcome::Ended, b"1 ab\n2 \n3 cd\n")
 }
 
+/// Six bytes and the end are seven calls. What was written are the lines whose bytes had come.
 #[test]
 fn a_reader_that_fails_at_each_call(rt: HostRuntime) -> Result<(), Fail> {
-    // Six bytes and the end are seven calls. What was written are the lines whose bytes had come.
-    let written: [&[u8]; 7] = [
-        b"",
-        b"",
-        b"",
-        b"1 ab\n",
-        b"1 ab\n2 \n",
-        b"1 ab\n2 \n",
-        b"1 ab\n2 \n",
-    ];
-    for (calls, expected) in written.iter().enumerate() {
-        let (written, outcome) = numbered(&rt, calls)?;
-        assert_eq!(rt; written.as_slice(), *expected, "{calls} calls");
-        assert_eq!(rt; outcome, Outcome::ReadFault, "{calls} calls");
+    for calls in 0..3 {
+        check_numbered(&rt, calls, Outcome::ReadFault, b"")?;
     }
-    let (_, outcome) = numbered(&rt, 7)?;
-    assert_eq!(rt; outcome, Outcome::Ended);
-    Ok(())
+    check_numbered(&rt, 3, Outcome::ReadFault, b"1 ab\n")?;
+    for calls in 4..7 {
+        check_numbered(&rt, calls, Outcome::ReadFault, b"1 ab\n2 \n")?;
+    }
+    check_numbered(&rt, 7, Outcome::Ended, b"1 ab\n2 \n3 cd\n")
+}
+
+/// How a run ends on a writer with so much room, whether the writer has failed, and what it has taken.
+fn ran_in_room(
+    alloc: Global,
+    program: &Program,
+    input: &[u8],
+    room: usize,
+) -> (Outcome, bool, Vec<u8>) {
+    let taken = Vec::new(alloc);
+    let mut output = Device::new(Shut { taken, room });
+    let outcome = run(alloc, program, &mut Device::new(input), &mut output, LIMITS);
+    let has_failed = output.failed();
+    let Shut { taken, room: _ } = output.into_inner();
+    (outcome, has_failed, taken)
 }
 
 /// Runs a program on writers with room for 0 bytes, 1 byte and so on.
@@ -91,29 +116,15 @@ fn check_room<R: Abort + AllocGlobal>(
     input: &[u8],
     lines: &[u8],
 ) -> Result<(), Fail> {
-    let alloc = rt.alloc();
-    let program = read_program(alloc, text)?;
-    for room in 0..=lines.len() {
-        let taken = Vec::new(alloc);
-        let mut output = Device::new(Shut { taken, room });
-        let outcome = run(
-            alloc,
-            &program,
-            &mut Device::new(input),
-            &mut output,
-            LIMITS,
-        );
-        let fits = room == lines.len();
-        let expected = if fits {
-            Outcome::Ended
-        } else {
-            Outcome::WriteFault
-        };
-        assert_eq!(rt; outcome, expected, "room for {room}");
-        assert_eq!(rt; output.failed(), !fits);
-        let Shut { taken, room: _ } = output.into_inner();
-        assert_eq!(rt; taken.as_slice(), &lines[..room]);
+    let program = read_program(rt.alloc(), text)?;
+    for room in 0..lines.len() {
+        let (outcome, has_failed, taken) = ran_in_room(rt.alloc(), &program, input, room);
+        check_written(rt, outcome, Outcome::WriteFault, &taken, &lines[..room]);
+        assert!(rt; has_failed, "room for {room}");
     }
+    let (outcome, has_failed, taken) = ran_in_room(rt.alloc(), &program, input, lines.len());
+    check_written(rt, outcome, Outcome::Ended, &taken, lines);
+    assert!(rt; !has_failed);
     Ok(())
 }
 
@@ -189,17 +200,21 @@ fn performed(
     }
 }
 
+/// Compares the status of a job and what it told with what must be.
+fn check_told<R: Abort + AllocGlobal>(rt: &R, done: &Done, status: u8, told: &[u8]) {
+    assert_eq!(rt; done.status, status);
+    assert_eq!(rt; done.told.as_slice(), told);
+}
+
 #[test]
 fn a_read_fault_has_its_status_and_its_line(rt: HostRuntime) {
     for calls in 0..7 {
         let fault = performed(rt.alloc(), &RUN, Some(NUMBERS), calls, 1000, 1000);
-        assert_eq!(rt; fault.status, 7, "{calls} calls");
-        assert_eq!(rt; fault.told.as_slice(), b"snobol4: read fault\n".as_slice());
+        check_told(&rt, &fault, 7, b"snobol4: read fault\n");
     }
     let well = performed(rt.alloc(), &RUN, Some(NUMBERS), 7, 1000, 1000);
-    assert_eq!(rt; well.status, 0);
+    check_told(&rt, &well, 0, b"");
     assert_eq!(rt; well.written.as_slice(), b"1 ab\n2 \n3 cd\n".as_slice());
-    assert!(rt; well.told.is_empty());
 }
 
 /// Does a job on writers with room for 0 bytes, 1 byte and so on, which do not suffice for these lines.
@@ -213,13 +228,11 @@ fn check_write_faults<R: Abort + AllocGlobal>(
 {
     for room in 0..lines.len() {
         let fault = performed(rt.alloc(), job, file, 1000, room, 1000);
-        assert_eq!(rt; fault.status, 7, "room for {room}");
+        check_told(rt, &fault, 7, b"snobol4: write fault\n");
         assert_eq!(rt; fault.written.as_slice(), &lines[..room]);
-        assert_eq!(rt; fault.told.as_slice(), b"snobol4: write fault\n".as_slice());
     }
     let well = performed(rt.alloc(), job, file, 1000, lines.len(), 1000);
-    assert_eq!(rt; well.status, 0);
-    assert!(rt; well.told.is_empty());
+    check_told(rt, &well, 0, b"");
 }
 
 #[test]
@@ -246,8 +259,7 @@ fn check_line<R: Abort + AllocGlobal>(
 {
     for room in 0..line.len() + 2 {
         let ended = performed(rt.alloc(), job, file, 1000, 1000, room);
-        assert_eq!(rt; ended.status, status, "room for {room}");
-        assert_eq!(rt; ended.told.as_slice(), &line[..line.len().min(room)]);
+        check_told(rt, &ended, status, &line[..line.len().min(room)]);
     }
 }
 

@@ -1,8 +1,9 @@
 //! Devices that fail in the middle of a match, recursion without an end, and inputs at their limits.
 use super::asking::{Checks, Programs};
 use super::rows::check_rows;
-use sno_text::read_program;
+use sno_text::{Program, read_program};
 use snobol::{Device, Limits, Outcome, run};
+use std::alloc::Global;
 use std::io::{self, ErrorKind, Read, Write};
 use std::process::Abort;
 use std::test::Fail;
@@ -62,33 +63,46 @@ impl Read for Once<'_> {
     }
 }
 
+/// How a run ends on a writer of so many bytes a call with so much room, and what the writer has taken.
+fn ran_narrow(alloc: Global, program: &Program, at_once: usize, room: usize) -> (Outcome, Vec<u8>) {
+    let taken = Vec::new(alloc);
+    let mut input = Device::new(b"".as_slice());
+    let mut output = Device::new(Narrow {
+        taken,
+        at_once,
+        room,
+    });
+    let outcome = run(alloc, program, &mut input, &mut output, LIMITS);
+    let Narrow { taken, .. } = output.into_inner();
+    (outcome, taken)
+}
+
 /// Runs the match inside each start over writers of so many bytes a call that fail behind 0 bytes, 1 byte and so on.
 fn check_writers<R: Abort + AllocGlobal>(
     rt: &R,
     at_once: usize,
     written: &[u8],
 ) -> Result<(), Fail> {
-    let alloc = rt.alloc();
-    let program = read_program(alloc, INNER_MATCHES)?;
-    for room in 0..=written.len() {
-        let taken = Vec::new(alloc);
-        let mut input = Device::new(b"".as_slice());
-        let mut output = Device::new(Narrow {
-            taken,
-            at_once,
-            room,
-        });
-        let outcome = run(alloc, &program, &mut input, &mut output, LIMITS);
-        let expected = if room == written.len() {
-            Outcome::Ended
-        } else {
-            Outcome::WriteFault
-        };
-        assert_eq!(rt; outcome, expected, "room for {room}");
-        let Narrow { taken, .. } = output.into_inner();
-        assert_eq!(rt; taken.as_slice(), &written[..room]);
+    let program = read_program(rt.alloc(), INNER_MATCHES)?;
+    for room in 0..written.len() {
+        let (outcome, taken) = ran_narrow(rt.alloc(), &program, at_once, room);
+        check_ended(rt, outcome, Outcome::WriteFault, &taken, &written[..room]);
     }
+    let (outcome, taken) = ran_narrow(rt.alloc(), &program, at_once, written.len());
+    check_ended(rt, outcome, Outcome::Ended, &taken, written);
     Ok(())
+}
+
+/// Compares how a run ended, and what its writer has taken, with what must be.
+fn check_ended<R: Abort + AllocGlobal>(
+    rt: &R,
+    outcome: Outcome,
+    ending: Outcome,
+    taken: &[u8],
+    written: &[u8],
+) {
+    assert_eq!(rt; outcome, ending);
+    assert_eq!(rt; taken, written);
 }
 
 #[test]
@@ -97,16 +111,19 @@ fn a_match_whose_writer_fails(rt: HostRuntime) -> Result<(), Fail> {
     check_writers(&rt, 1, b"X\nX\nX\nB\n")
 }
 
-/// Runs the deferred part that reads lines over a reader that fails behind these bytes.
-fn check_reader<R: Abort + AllocGlobal>(rt: &R, bytes: &[u8], written: &[u8]) -> Result<(), Fail> {
-    let alloc = rt.alloc();
-    let program = read_program(alloc, READS_IN_A_MATCH)?;
+/// How a run ends on a reader that fails behind these bytes, and what it has written.
+fn ran_once(alloc: Global, program: &Program, bytes: &[u8]) -> (Outcome, Vec<u8>) {
     let mut input = Device::new(Once { bytes });
     let mut output = Device::new(Vec::new(alloc));
-    let outcome = run(alloc, &program, &mut input, &mut output, LIMITS);
-    assert_eq!(rt; outcome, Outcome::ReadFault);
-    let taken = output.into_inner();
-    assert_eq!(rt; taken.as_slice(), written);
+    let outcome = run(alloc, program, &mut input, &mut output, LIMITS);
+    (outcome, output.into_inner())
+}
+
+/// Runs the deferred part that reads lines over a reader that fails behind these bytes.
+fn check_reader<R: Abort + AllocGlobal>(rt: &R, bytes: &[u8], written: &[u8]) -> Result<(), Fail> {
+    let program = read_program(rt.alloc(), READS_IN_A_MATCH)?;
+    let (outcome, taken) = ran_once(rt.alloc(), &program, bytes);
+    check_ended(rt, outcome, Outcome::ReadFault, &taken, written);
     Ok(())
 }
 

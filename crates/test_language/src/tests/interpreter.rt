@@ -4,7 +4,7 @@ ghost use Rattle.snobol.specs.Running.{CanRun, devices};
 
 use super::rows::{Question, check_rows};
 use sno_text::read_expression;
-use sno_value::ExprId;
+use sno_value::{ExprId, PatId};
 use snobol::{Device, Limits, Machine, Outcome, Sink, Source};
 use std::alloc::Global;
 use std::str::from_utf8;
@@ -51,16 +51,22 @@ pub struct PatternNumbers;
 
 impl Question for PatternNumbers {
     fn answer(alloc: Global, text: &[u8]) -> Result<String, Fail> {
-        let (program, expression) = read_expression(alloc, text)?;
-        let mut input = Device::new(b"".as_slice());
-        let mut output = Device::new(Vec::new(alloc));
-        let mut machine = Machine::new(alloc, &program, LIMITS)?;
-        match machine.pattern(&mut input, &mut output, expression) {
+        match pattern_of(alloc, text)? {
             Ok(Some(pattern)) => Ok(format!(in alloc; "pattern {}", pattern.0)?),
             Ok(None) => Ok(String::from_str(alloc, "fails")?),
             Err(outcome) => stop_text(alloc, outcome),
         }
     }
+}
+
+/// What a new machine answers for the pattern of an expression.
+fn pattern_of(alloc: Global, text: &[u8]) -> Result<Result<Option<PatId>, Outcome>, Fail> {
+    let (program, expression) = read_expression(alloc, text)?;
+    let mut input = Device::new(b"".as_slice());
+    let mut output = Device::new(Vec::new(alloc));
+    let mut machine = Machine::new(alloc, &program, LIMITS)?;
+    let pattern = machine.pattern(&mut input, &mut output, expression);
+    Ok(pattern)
 }
 
 /// `PATTERN ; SUBJECT ; SUBJECT`: what is found of an expression's pattern in a first and in a second subject, where INPUT
@@ -75,28 +81,35 @@ impl Question for Finds {
         if first.len() > MOST_BYTES || second.len() > MOST_BYTES {
             return Err(Fail::from("a subject is too long"));
         }
-        let (program, expression) = read_expression(alloc, pattern.as_bytes())?;
-        let mut input = Device::new(b"A\nB".as_slice());
-        let mut output = Device::new(Vec::new(alloc));
-        let mut machine = Machine::new(alloc, &program, LIMITS)?;
-        let first = find(
-            &mut machine,
-            &mut input,
-            &mut output,
-            expression,
+        let (first, second, written) = found_in_both(
+            alloc,
+            pattern.as_bytes(),
             first.as_bytes(),
-        );
-        let second = find(
-            &mut machine,
-            &mut input,
-            &mut output,
-            expression,
             second.as_bytes(),
-        );
-        let written = output.into_inner();
-        let (first, second) = (found_text(alloc, first)?, found_text(alloc, second)?);
+        )?;
+        let first = found_text(alloc, first)?;
+        let second = found_text(alloc, second)?;
         Ok(format!(in alloc; "{}{first}, {second}", from_utf8(&written)?)?)
     }
+}
+
+/// What one machine finds of an expression's pattern in a first and in a second subject, and what it writes.
+fn found_in_both(
+    alloc: Global,
+    pattern: &[u8],
+    first: &[u8],
+    second: &[u8],
+) -> Result<(Found, Found, Vec<u8>), Fail>
+    requires first { length first.now ≤ 1_000_000 }
+    requires second { length second.now ≤ 1_000_000 }
+{
+    let (program, expression) = read_expression(alloc, pattern)?;
+    let mut input = Device::new(b"A\nB".as_slice());
+    let mut output = Device::new(Vec::new(alloc));
+    let mut machine = Machine::new(alloc, &program, LIMITS)?;
+    let first = find(&mut machine, &mut input, &mut output, expression, first);
+    let second = find(&mut machine, &mut input, &mut output, expression, second);
+    Ok((first, second, output.into_inner()))
 }
 
 fn stop_text(alloc: Global, outcome: Outcome) -> Result<String, Fail> {

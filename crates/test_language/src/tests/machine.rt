@@ -11,6 +11,7 @@ use sno_text::{Operator, UnaryOperator};
 use sno_value::{ExprId, Name, ObjId, SymId, Text, Value};
 use snobol::{Device, Sink};
 use std::alloc::{AllocError, Global};
+use std::process::Abort;
 use std::str::from_utf8;
 use std::test::Fail;
 
@@ -167,19 +168,37 @@ fn answered(alloc: Global, function: &str, x: &str, y: &str) -> Result<String, F
     Ok(answer)
 }
 
+fn check_answered<R: Abort + AllocGlobal>(
+    rt: &R,
+    function: &str,
+    x: &str,
+    y: &str,
+    expected: &str,
+) -> Result<(), Fail> {
+    let answer = answered(rt.alloc(), function, x, y)?;
+    assert_eq!(rt; answer.as_str(), expected, "{function} {x} {y}");
+    Ok(())
+}
+
+/// Compares what IDENT and DIFFER give of two values with what they must.
+fn check_pair<R: Abort + AllocGlobal>(rt: &R, x: &str, y: &str) -> Result<(), Fail> {
+    let (ident, differ) = if x != y {
+        ("fails, 7 patterns", "'', 7 patterns")
+    } else if x == "*X" {
+        ("error 1, 7 patterns", "error 1, 7 patterns")
+    } else {
+        ("'', 7 patterns", "fails, 7 patterns")
+    };
+    check_answered(rt, "IDENT", x, y, ident)?;
+    check_answered(rt, "DIFFER", x, y, differ)
+}
+
 #[test]
 fn equal_and_other_values(rt: HostRuntime) -> Result<(), Fail> {
-    for pair in 0..OTHERS.len() * OTHERS.len() {
-        let (x, y) = (OTHERS[pair / OTHERS.len()], OTHERS[pair % OTHERS.len()]);
-        let expected = match x == y {
-            true if x == "*X" => ("error 1, 7 patterns", "error 1, 7 patterns"),
-            true => ("'', 7 patterns", "fails, 7 patterns"),
-            false => ("fails, 7 patterns", "'', 7 patterns"),
-        };
-        let ident = answered(rt.alloc(), "IDENT", x, y)?;
-        assert_eq!(rt; ident.as_str(), expected.0, "{x} {y}");
-        let differ = answered(rt.alloc(), "DIFFER", x, y)?;
-        assert_eq!(rt; differ.as_str(), expected.1, "{x} {y}");
+    for x in OTHERS {
+        for y in OTHERS {
+            check_pair(&rt, x, y)?;
+        }
     }
     Ok(())
 }
