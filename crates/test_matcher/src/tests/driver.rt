@@ -1,5 +1,6 @@
 //! Asks a match for all its events.
-ghost use Rattle.std.specs.Prelude.{◌<◌, ◌↔◌, length, IfSome, IsTrue};
+ghost use Rattle.std.specs.Prelude.{◌≡◌, ◌<◌, ◌↔◌, false, true, length, IfOk, IfSome, IsTrue, OnErr, OnOk};
+ghost use Rattle.sno_match.specs.Session.{Begins};
 
 use sno_match::{Engine, Event, Pending, Points};
 use sno_pattern::Patterns;
@@ -14,6 +15,76 @@ pub struct Told {
     pub pending: Vec<Pending>,
 }
 
+/// A match over a stack of this type.
+pub fn begin<P: Points>(
+    alloc: Global,
+    table: &Patterns,
+    pattern: PatId,
+    subject: &[u8],
+    anchored: bool,
+    limit: u32,
+) -> Result<Engine<P>, AllocError>
+    requires { pattern.0 < length table.now }
+    ensures table { IfOk result (λ m. m.nodes ≡ table.now) }
+    ensures asked { IfOk result (λ m. m.waits ≡ false) }
+{
+    let m = Engine::new(alloc, table, pattern, subject, anchored, limit)?;
+    Ok(m)
+}
+
+/// The next event. Of what `next` ensures this says no more than that a test may go on.
+pub fn next_event<P: Points>(m: &mut Engine<P>, table: &Patterns) -> Result<Event, AllocError>
+    requires table { m.old.nodes ≡ table.now }
+    requires asked { m.old.waits ≡ false }
+    ensures table { m.new.nodes ≡ table.now }
+    ensures refused { OnErr result (m.new.waits ≡ false) }
+{
+    let event = m.next(table)?;
+    Ok(event)
+}
+
+/// Answers a value.
+pub fn give<P: Points>(
+    m: &mut Engine<P>,
+    table: &Patterns,
+    answer: Option<PatId>,
+) -> Result<(), AllocError>
+    requires table { m.old.nodes ≡ table.now }
+    requires waiting { m.old.waits ≡ true }
+    requires known { IfSome answer (λ id. id.0 < length table.now) }
+    ensures table { m.new.nodes ≡ table.now }
+    ensures asked { OnOk result (m.new.waits ≡ false) }
+{
+    m.answer(table, answer)?;
+    Ok(())
+}
+
+/// Answers a value by a node of a table that may have become longer since.
+pub fn give_new<P: Points>(
+    m: &mut Engine<P>,
+    table: &Patterns,
+    answer: PatId,
+) -> Result<(), AllocError>
+    requires table { Begins m.old.nodes table.now }
+    requires waiting { m.old.waits ≡ true }
+    requires known { answer.0 < length table.now }
+    ensures table { m.new.nodes ≡ table.now }
+    ensures asked { OnOk result (m.new.waits ≡ false) }
+{
+    m.answer(table, Some(answer))?;
+    Ok(())
+}
+
+/// An event that was told just now.
+fn told_by<P: Points>(alloc: Global, m: &Engine<P>, event: Event) -> Result<Told, AllocError> {
+    let pending = m.pending().to_vec(alloc)?;
+    Ok(Told {
+        event,
+        steps: m.steps(),
+        pending,
+    })
+}
+
 /// The events of a match over a stack of this type, up to the last or to a Value for which there is no answer.
 pub fn all_events<P: Points>(
     alloc: Global,
@@ -26,17 +97,12 @@ pub fn all_events<P: Points>(
 ) -> Result<Vec<Told>, AllocError>
     requires { pattern.0 < length table.now }
 {
-    let mut m = Engine::<P>::new(alloc, table, pattern, subject, anchored, limit)?;
+    let mut m = begin::<P>(alloc, table, pattern, subject, anchored, limit)?;
     let mut told = Vec::new(alloc);
     let mut given = 0;
     'events: for _ in 0..100_000 {
-        let event = m.next(table)?;
-        let pending = m.pending().to_vec(alloc)?;
-        told.push(Told {
-            event,
-            steps: m.steps(),
-            pending,
-        })?;
+        let event = next_event(&mut m, table)?;
+        told.push(told_by(alloc, &m, event)?)?;
         if m.is_waiting() {
             let Some(answer) = answers.get(given) else {
                 return Ok(told);
@@ -44,7 +110,7 @@ pub fn all_events<P: Points>(
             if !is_known(table, *answer) {
                 return Ok(told);
             }
-            m.answer(table, *answer)?;
+            give(&mut m, table, *answer)?;
             given += 1;
         } else if is_last(event) {
             return Ok(told);

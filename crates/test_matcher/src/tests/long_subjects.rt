@@ -1,8 +1,9 @@
 //! Worked rows on a subject of a thousand bytes: the events in order, their steps, and how few goals are kept.
 ghost use Rattle.std.specs.Prelude.{◌<◌, length};
 
+use super::driver::{begin, next_event};
 use super::forms::variable;
-use sno_match::{CopiedGoals, Engine, Event, Points, SharedGoals};
+use sno_match::{CopiedGoals, Event, Points, SharedGoals};
 use sno_pattern::{Arg, Patterns};
 use sno_value::{PatId, Prim};
 use std::alloc::Global;
@@ -33,15 +34,15 @@ fn check_repetitions<P: Points>(
     requires { pattern.0 < length table.now }
 {
     let subject = vec![in alloc; b'A'; BYTES]?;
-    let mut m = Engine::<P>::new(alloc, table, pattern, &subject, true, 1_000_000)?;
+    let mut m = begin::<P>(alloc, table, pattern, &subject, true, 1_000_000)?;
     'ways: for end in 0..=BYTES {
-        let told = m.next(table)?;
+        let told = next_event(&mut m, table)?;
         assert_eq!(rt; told, Event::Way { start: 0, end });
         if m.is_waiting() {
             return Err(Fail::from("a value is wanted"));
         }
     }
-    let last = m.next(table)?;
+    let last = next_event(&mut m, table)?;
     assert_eq!(rt; last, Event::Exhausted);
     assert_eq!(rt; m.steps(), STEPS_OF_REPETITIONS);
     Ok(())
@@ -66,9 +67,9 @@ fn check_assignments<P: Points>(
     requires { pattern.0 < length table.now }
 {
     let subject = vec![in alloc; b'A'; BYTES]?;
-    let mut m = Engine::<P>::new(alloc, table, pattern, &subject, false, 1_000_000)?;
+    let mut m = begin::<P>(alloc, table, pattern, &subject, false, 1_000_000)?;
     'starts: for start in 0..BYTES {
-        let told = m.next(table)?;
+        let told = next_event(&mut m, table)?;
         let assigned = Event::Assign {
             target: variable(9),
             start,
@@ -80,7 +81,7 @@ fn check_assignments<P: Points>(
             return Err(Fail::from("a value is wanted"));
         }
     }
-    let last = m.next(table)?;
+    let last = next_event(&mut m, table)?;
     assert_eq!(rt; last, Event::Exhausted);
     assert_eq!(rt; m.steps(), STEPS_OF_ASSIGNMENTS);
     assert!(rt; m.records() <= MOST_RECORDS);

@@ -1,14 +1,15 @@
 //! What a match remembers of its looks: it tells what the plain search tells, and runs are looked through once.
 ghost use Rattle.std.specs.Prelude.{◌<◌, length};
+ghost use Rattle.sno_pattern.specs.Looks.{AreTrue};
 
-use super::driver::all_events;
+use super::driver::{all_events, begin, give_new, next_event};
 use super::forms::table_of;
 use super::generated::check_same;
 use super::notation::forms_of;
 use super::reference::search_events;
 use super::rows::parts;
 use sno_match::{CopiedGoals, Event, Matcher, SharedGoals};
-use sno_pattern::{Arg, Looks, Patterns};
+use sno_pattern::{Arg, Looks, Patterns, Shape};
 use sno_value::{ExprId, PatId, Prim};
 use std::alloc::Global;
 use std::process::Abort;
@@ -125,8 +126,8 @@ fn check_no_way(
 ) -> Result<(), Fail>
     requires { pattern.0 < length table.now }
 {
-    let mut m = Matcher::new(alloc, table, pattern, subject, false, 1_000_000)?;
-    let last = m.next(table)?;
+    let mut m: Matcher = begin(alloc, table, pattern, subject, false, 1_000_000)?;
+    let last = next_event(&mut m, table)?;
     assert_eq!(rt; last, Event::Exhausted);
     assert_eq!(rt; m.steps(), steps);
     Ok(())
@@ -156,6 +157,67 @@ fn long_runs_are_looked_through_once(rt: HostRuntime) -> Result<(), Fail> {
     check_long_run(&rt, rt.alloc(), "LEN:1 BREAK:; &:0,1", 200_006)
 }
 
+/// Places in AA,A,A, and where SPAN('A') or BREAKX(',') ends from there.
+const SPANS: &[(usize, Option<usize>)] = &[(0, Some(2)), (1, Some(2)), (2, None)];
+
+const STOPS: &[(usize, Option<usize>)] = &[(0, Some(2)), (3, Some(4)), (5, None)];
+
+/// Compares the ends of a primitive.
+fn check_ends(
+    rt: &impl Abort,
+    patterns: &Patterns,
+    looks: &mut Looks,
+    id: PatId,
+    subject: &[u8],
+    rows: &[(usize, Option<usize>)],
+) -> Result<(), Fail>
+    requires id { id.0 < length patterns.now }
+    requires looks { AreTrue patterns.now subject.now looks.old }
+    ensures looks { AreTrue patterns.now subject.now looks.new }
+{
+    'rows: for (at, end) in rows {
+        let found = look(patterns, looks, id, subject, *at)?;
+        assert_eq!(rt; found, *end);
+    }
+    Ok(())
+}
+
+fn look(
+    patterns: &Patterns,
+    looks: &mut Looks,
+    id: PatId,
+    subject: &[u8],
+    at: usize,
+) -> Result<Option<usize>, Fail>
+    requires id { id.0 < length patterns.now }
+    requires looks { AreTrue patterns.now subject.now looks.old }
+    ensures looks { AreTrue patterns.now subject.now looks.new }
+{
+    if at > subject.len() || patterns.shape(id) != Shape::Primitive {
+        return Err(Fail::from("no look is possible"));
+    }
+    Ok(patterns.look(looks, id, subject, at))
+}
+
+/// The first place from one on at which a primitive has an end, or one more than the length of the subject.
+fn place(
+    patterns: &Patterns,
+    looks: &mut Looks,
+    id: PatId,
+    subject: &[u8],
+    from: usize,
+) -> Result<usize, Fail>
+    requires id { id.0 < length patterns.now }
+    requires looks { AreTrue patterns.now subject.now looks.old }
+    ensures looks { AreTrue patterns.now subject.now looks.new }
+{
+    if from > subject.len() || patterns.shape(id) != Shape::Primitive {
+        return Err(Fail::from("no look is possible"));
+    }
+    let until = subject.len() + 1;
+    Ok(patterns.look_for_place(looks, id, subject, from, until))
+}
+
 #[test]
 fn looks_give_the_ends(rt: HostRuntime) -> Result<(), Fail> {
     let subject = b"AA,A,A";
@@ -163,17 +225,10 @@ fn looks_give_the_ends(rt: HostRuntime) -> Result<(), Fail> {
     let span = patterns.prim(Prim::Span, Arg::Set(b"A"))?;
     let stops = patterns.prim(Prim::BreakX, Arg::Set(b","))?;
     let mut looks = Looks::new(rt.alloc());
-    assert_eq!(rt; patterns.look(&mut looks, span, subject, 0), Some(2));
-    assert_eq!(rt; patterns.look(&mut looks, span, subject, 1), Some(2));
-    assert_eq!(rt; patterns.look(&mut looks, span, subject, 2), None);
-    assert_eq!(rt; patterns.look(&mut looks, stops, subject, 0), Some(2));
-    assert_eq!(rt; patterns.look(&mut looks, stops, subject, 3), Some(4));
-    assert_eq!(rt; patterns.look(&mut looks, stops, subject, 5), None);
-    assert_eq!(rt; patterns.look_for_place(&mut looks, span, subject, 2, 7), 3);
-    assert_eq!(rt;
-        patterns.look_for_place(&mut looks, stops, subject, 5, 7),
-        7
-    );
+    check_ends(&rt, &patterns, &mut looks, span, subject, SPANS)?;
+    check_ends(&rt, &patterns, &mut looks, stops, subject, STOPS)?;
+    assert_eq!(rt; place(&patterns, &mut looks, span, subject, 2)?, 3);
+    assert_eq!(rt; place(&patterns, &mut looks, stops, subject, 5)?, 7);
     Ok(())
 }
 
@@ -186,15 +241,15 @@ fn answer_by_new_node(
 ) -> Result<(), Fail>
     requires { pattern.0 < length table.old }
 {
-    let mut m = Matcher::new(alloc, table, pattern, b"AAB", false, 100)?;
-    let asked = m.next(table)?;
+    let mut m: Matcher = begin(alloc, table, pattern, b"AAB", false, 100)?;
+    let asked = next_event(&mut m, table)?;
     assert!(rt; matches!(asked, Event::Value { .. }));
     if !m.is_waiting() {
         return Err(Fail::from("no value is wanted"));
     }
     let tail = table.prim(Prim::Span, Arg::Set(b"B"))?;
-    m.answer(table, Some(tail))?;
-    let way = m.next(table)?;
+    give_new(&mut m, table, tail)?;
+    let way = next_event(&mut m, table)?;
     assert_eq!(rt; way, Event::Way { start: 0, end: 3 });
     Ok(())
 }

@@ -1,12 +1,12 @@
 //! Worked rows: what a match tells, with the steps where they were counted by hand.
-ghost use Rattle.std.specs.Prelude.{◌<◌, length};
+ghost use Rattle.std.specs.Prelude.{◌≡◌, ◌<◌, false, length, IfOk};
 
 use super::drawing::{drawn_event, drawn_events, push_number};
-use super::driver::all_events;
+use super::driver::{all_events, begin, give, give_new, next_event};
 use super::forms::table_of;
 use super::notation::forms_of;
 use super::rows::{Question, check_rows, parts};
-use sno_match::{CopiedGoals, Engine, Event, Matcher, Points, SharedGoals};
+use sno_match::{CopiedGoals, Event, Matcher, Points, SharedGoals};
 use sno_pattern::Patterns;
 use sno_value::{ExprId, PatId};
 use std::alloc::{AllocError, Global};
@@ -264,24 +264,46 @@ impl Question for FirstEvents {
         let s = search_of(text)?;
         let forms = forms_of(alloc, s.words)?;
         let (table, pattern) = table_of(alloc, &forms)?;
-        let subject = s.subject.to_vec(alloc)?;
-        let mut m = Matcher::over(alloc, &table, pattern, subject, s.anchored, s.limit)?;
-        let event = m.next(&table)?;
-        let mut text = drawn_event(alloc, event)?;
-        push_state(alloc, &mut text, &m)?;
+        let mut m = match_over(alloc, &table, pattern, s)?;
+        let mut text = String::new(alloc);
+        push_next(alloc, &mut text, &mut m, &table)?;
         if m.is_waiting() {
-            m.answer(&table, Some(PatId(0)))?;
-            let event = m.next(&table)?;
+            give(&mut m, &table, Some(PatId(0)))?;
             text.push_str("; ")?;
-            text.push_str(drawn_event(alloc, event)?.as_str())?;
-            push_state(alloc, &mut text, &m)?;
+            push_next(alloc, &mut text, &mut m, &table)?;
         }
         Ok(text)
     }
 }
 
-/// Adds the steps, how many events were told, and the length of the subject.
-fn push_state(alloc: Global, text: &mut String, m: &Matcher) -> Result<(), AllocError> {
+fn match_over(
+    alloc: Global,
+    table: &Patterns,
+    pattern: PatId,
+    s: Search,
+) -> Result<Matcher, AllocError>
+    requires { pattern.0 < length table.now }
+    ensures table { IfOk result (λ m. m.nodes ≡ table.now) }
+    ensures asked { IfOk result (λ m. m.waits ≡ false) }
+{
+    let subject = s.subject.to_vec(alloc)?;
+    let m = Matcher::over(alloc, table, pattern, subject, s.anchored, s.limit)?;
+    Ok(m)
+}
+
+/// Adds the next event, the steps, how many events were told, and the length of the subject.
+fn push_next(
+    alloc: Global,
+    text: &mut String,
+    m: &mut Matcher,
+    table: &Patterns,
+) -> Result<(), AllocError>
+    requires table { m.old.nodes ≡ table.now }
+    requires asked { m.old.waits ≡ false }
+    ensures { m.new.nodes ≡ table.now }
+{
+    let event = next_event(m, table)?;
+    text.push_str(drawn_event(alloc, event)?.as_str())?;
     push_number(alloc, text, Some(m.steps() as usize))?;
     push_number(alloc, text, Some(m.told() as usize))?;
     push_number(alloc, text, Some(m.subject().len()))?;
@@ -324,22 +346,36 @@ impl Question for Answered {
     fn answer(alloc: Global, text: &'static str) -> Result<String, Fail> {
         let mut table = Patterns::new(alloc);
         let part = table.defer(ExprId(4))?;
-        let mut m = Matcher::new(alloc, &table, part, text.as_bytes(), true, 10)?;
-        let _value = m.next(&table)?;
+        let mut m: Matcher = begin(alloc, &table, part, text.as_bytes(), true, 10)?;
+        let _value = next_event(&mut m, &table)?;
         if !m.is_waiting() {
             return Err(Fail::from("no value is wanted"));
         }
         let a = table.text(b"A")?;
-        m.answer(&table, Some(a))?;
-        if m.answers() != [Some(a)].as_slice() {
-            return Err(Fail::from("another answer is known"));
-        }
-        let event = m.next(&table)?;
-        let mut text = drawn_event(alloc, event)?;
-        push_number(alloc, &mut text, Some(m.steps() as usize))?;
-        push_number(alloc, &mut text, Some(m.told() as usize))?;
+        give_new(&mut m, &table, a)?;
+        let text = told_behind(alloc, &mut m, &table, a)?;
         Ok(text)
     }
+}
+
+/// What is told behind an answer, the first.
+fn told_behind(
+    alloc: Global,
+    m: &mut Matcher,
+    table: &Patterns,
+    answer: PatId,
+) -> Result<String, Fail>
+    requires table { m.old.nodes ≡ table.now }
+    requires asked { m.old.waits ≡ false }
+{
+    if m.answers() != [Some(answer)].as_slice() {
+        return Err(Fail::from("another answer is known"));
+    }
+    let event = next_event(m, table)?;
+    let mut text = drawn_event(alloc, event)?;
+    push_number(alloc, &mut text, Some(m.steps() as usize))?;
+    push_number(alloc, &mut text, Some(m.told() as usize))?;
+    Ok(text)
 }
 
 const ANSWERED: &str = r"
@@ -361,12 +397,12 @@ impl Question for Ended {
     fn answer(alloc: Global, text: &'static str) -> Result<String, Fail> {
         let mut table = Patterns::new(alloc);
         let none = table.fail()?;
-        let mut m = Matcher::new(alloc, &table, none, text.as_bytes(), true, 10)?;
-        let _first = m.next(&table)?;
+        let mut m: Matcher = begin(alloc, &table, none, text.as_bytes(), true, 10)?;
+        let _first = next_event(&mut m, &table)?;
         if m.is_waiting() {
             return Err(Fail::from("a value is wanted"));
         }
-        let event = m.next(&table)?;
+        let event = next_event(&mut m, &table)?;
         let mut text = drawn_event(alloc, event)?;
         push_number(alloc, &mut text, Some(m.told() as usize))?;
         push_number(alloc, &mut text, Some(m.points()))?;
@@ -384,13 +420,18 @@ fn the_last_event_is_told_again(rt: HostRuntime) -> Result<(), Fail> {
     check_rows::<Ended, _>(&rt, ENDED)
 }
 
+/// Whether the bytes of a subject between two places are these.
+fn has_part(m: &Matcher, start: usize, end: usize, part: &[u8]) -> bool {
+    start <= end && end <= m.subject().len() && m.part(start, end) == part
+}
+
 #[test]
 fn parts_of_the_subject(rt: HostRuntime) -> Result<(), Fail> {
     let mut table = Patterns::new(rt.alloc());
     let none = table.fail()?;
-    let m = Matcher::new(rt.alloc(), &table, none, b"AB", true, 10)?;
-    assert_eq!(rt; m.part(0, 1), b"A".as_slice());
-    assert_eq!(rt; m.part(1, 2), b"B".as_slice());
+    let m: Matcher = begin(rt.alloc(), &table, none, b"AB", true, 10)?;
+    assert!(rt; has_part(&m, 0, 1, b"A"));
+    assert!(rt; has_part(&m, 1, 2, b"B"));
     Ok(())
 }
 
@@ -430,8 +471,8 @@ fn repeat_cuts<P: Points>(rt: &impl Abort, alloc: Global) -> Result<(), Fail> {
     let forms = forms_of(alloc, "TEXT:A TEXT:AA |:0,1 CUT:2 ARBNO:3 RPOS:0 &:4,5")?;
     let (table, pattern) = table_of(alloc, &forms)?;
     let run = vec![in alloc; b'A'; RUN]?;
-    let mut m = Engine::<P>::new(alloc, &table, pattern, &run, true, 1_000_000)?;
-    let way = m.next(&table)?;
+    let mut m = begin::<P>(alloc, &table, pattern, &run, true, 1_000_000)?;
+    let way = next_event(&mut m, &table)?;
     assert_eq!(rt; way, Event::Way { start: 0, end: RUN });
     assert!(rt; m.points() <= 2);
     assert!(rt; m.records() <= 10);
@@ -451,22 +492,22 @@ const LEVELS: u32 = 100_000;
 fn name_itself(rt: &impl Abort, alloc: Global, table: &Patterns, pattern: PatId) -> Result<(), Fail>
     requires { pattern.0 < length table.now }
 {
-    let mut m = Matcher::new(alloc, table, pattern, b"A", true, 3 * LEVELS)?;
+    let mut m: Matcher = begin(alloc, table, pattern, b"A", true, 3 * LEVELS)?;
     let value = Event::Value {
         prim: None,
         expr: ExprId(4),
     };
     'levels: for level in 0..LEVELS {
-        let told = m.next(table)?;
+        let told = next_event(&mut m, table)?;
         assert_eq!(rt; told, value);
         assert_eq!(rt; m.steps(), 3 * level + 3);
         assert!(rt; m.records() <= 2 * m.steps() as usize + 2);
         if !m.is_waiting() {
             return Err(Fail::from("no value is wanted"));
         }
-        m.answer(table, Some(pattern))?;
+        give(&mut m, table, Some(pattern))?;
     }
-    let last = m.next(table)?;
+    let last = next_event(&mut m, table)?;
     assert_eq!(rt; last, Event::Limit);
     assert_eq!(rt; m.points(), LEVELS as usize + 1);
     Ok(())

@@ -329,6 +329,43 @@ fn refusals(rt: HostRuntime) -> Result<(), Fail> {
     Ok(())
 }
 
+/// A call that would add a node to a table, over its first node and its last.
+#[derive(Clone, Copy, Drop)]
+enum Call {
+    Arb,
+    Text,
+    Alternate,
+    Cut,
+    Length(i64),
+    NullSet,
+}
+
+/// What a full table answers.
+const REFUSALS: [(Call, BuildError); 7] = [
+    (Call::Arb, BuildError::Full),
+    (Call::Text, BuildError::Full),
+    (Call::Alternate, BuildError::Full),
+    (Call::Cut, BuildError::Full),
+    (Call::Length(1), BuildError::Full),
+    (Call::Length(-1), BuildError::BadCount),
+    (Call::NullSet, BuildError::NullSet),
+];
+
+fn make(patterns: &mut Patterns, call: Call, first: PatId, last: PatId) -> Result<PatId, BuildError>
+    requires first { first.0 < length patterns.old }
+    requires last { last.0 < length patterns.old }
+    ensures { length patterns.old ≤ length patterns.new }
+{
+    match call {
+        Call::Arb => patterns.arb(),
+        Call::Text => patterns.text(b"A"),
+        Call::Alternate => patterns.alt(first, last),
+        Call::Cut => patterns.cut(last),
+        Call::Length(count) => patterns.prim(Prim::Len, Arg::Count(count)),
+        Call::NullSet => patterns.prim(Prim::Any, Arg::Set(b"")),
+    }
+}
+
 /// A table with as many nodes as it may hold: a text, and then concatenations of the one before with it.
 #[test]
 fn full(rt: HostRuntime) -> Result<(), Fail> {
@@ -339,16 +376,10 @@ fn full(rt: HostRuntime) -> Result<(), Fail> {
         deepest = patterns.cat(deepest, first)?;
     }
     assert_eq!(rt; deepest.0, 3_999_999);
-    assert_eq!(rt; patterns.arb(), Err(BuildError::Full));
-    assert_eq!(rt; patterns.text(b"A"), Err(BuildError::Full));
-    assert_eq!(rt; patterns.alt(first, deepest), Err(BuildError::Full));
-    assert_eq!(rt; patterns.cut(deepest), Err(BuildError::Full));
-    let good = patterns.prim(Prim::Len, Arg::Count(1));
-    assert_eq!(rt; good, Err(BuildError::Full));
-    let bad_count = patterns.prim(Prim::Len, Arg::Count(-1));
-    assert_eq!(rt; bad_count, Err(BuildError::BadCount));
-    let null_set = patterns.prim(Prim::Any, Arg::Set(b""));
-    assert_eq!(rt; null_set, Err(BuildError::NullSet));
+    'refusals: for (call, refusal) in &REFUSALS {
+        let answer = make(&mut patterns, *call, first, deepest);
+        assert_eq!(rt; answer, Err(*refusal));
+    }
     assert_eq!(rt; patterns.len(), 4_000_000);
     assert!(rt; patterns.is_quiet(deepest));
     let shape = patterns.shape(deepest);

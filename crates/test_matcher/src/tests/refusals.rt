@@ -1,6 +1,7 @@
 //! Refused memory: a stack of points that refuses growths, which are then asked for again.
 ghost use Rattle.std.specs.Prelude.{◌≡◌, ◌<◌, ◌+◌, false, length, IfOk};
 
+use super::driver::{begin, next_event};
 use sno_match::{CopiedGoals, Engine, Event, Goal, Pending, Points, SharedGoals, Top};
 use sno_pattern::{BuildError, Patterns};
 use sno_value::PatId;
@@ -163,7 +164,7 @@ fn ask_again<P: Points>(
     let told = m.told();
     let since = m.steps();
     'asking: for _ in 0..1000 {
-        match m.next(table) {
+        match next_event(m, table) {
             Ok(event) => return Some(event),
             Err(_) => {
                 *refused = refused.saturating_add(1);
@@ -186,7 +187,7 @@ fn asked_again<P: Points>(
 ) -> Result<u32, AllocError>
     requires { pattern.0 < length table.now }
 {
-    let mut m = Engine::<P>::new(alloc, table, pattern, b"AAA", true, 1000)?;
+    let mut m = begin::<P>(alloc, table, pattern, b"AAA", true, 1000)?;
     let mut refused = 0u32;
     'ways: for (end, steps) in expected.ways {
         let told = ask_again(rt, &mut m, table, *steps, &mut refused);
@@ -224,15 +225,29 @@ fn asked_in_full<P: Points>(
     }
 }
 
+/// The numbers of refusals over either stack, which are the same.
+fn count_refusals(
+    rt: &impl Abort,
+    table: &Patterns,
+    pattern: PatId,
+    alloc: Global,
+    expected: Expected,
+) -> Result<u32, AllocError>
+    requires { pattern.0 < length table.now }
+{
+    let shared = asked_again::<Refusing<SharedGoals>>(rt, table, pattern, alloc, expected)?;
+    let copied = asked_again::<Refusing<CopiedGoals>>(rt, table, pattern, alloc, expected)?;
+    assert_eq!(rt; shared, copied);
+    Ok(shared)
+}
+
 #[test]
 fn every_second_growth_is_refused(rt: HostRuntime) -> Result<(), Fail> {
     let mut table = Patterns::new(rt.alloc());
     let some = add_repetition(&mut table)?;
     assert_eq!(rt; some.0, 3);
-    let shared = asked_again::<Refusing<SharedGoals>>(&rt, &table, some, rt.alloc(), REPETITION)?;
-    assert_eq!(rt; shared, GROWTHS);
-    let copied = asked_again::<Refusing<CopiedGoals>>(&rt, &table, some, rt.alloc(), REPETITION)?;
-    assert_eq!(rt; copied, GROWTHS);
+    let refusals = count_refusals(&rt, &table, some, rt.alloc(), REPETITION)?;
+    assert_eq!(rt; refusals, GROWTHS);
     Ok(())
 }
 
@@ -246,25 +261,11 @@ fn each_growth_is_refused_once(rt: HostRuntime) -> Result<(), Fail> {
     'growths: for k in 0..1000u32 {
         let some = table.arbno(choice)?;
         assert_eq!(rt; some.0, k + 4);
-        let shared = asked_again::<Refusing<SharedGoals>>(
-            &rt,
-            &table,
-            some,
-            rt.alloc(),
-            REPETITION,
-        )?;
-        let copied = asked_again::<Refusing<CopiedGoals>>(
-            &rt,
-            &table,
-            some,
-            rt.alloc(),
-            REPETITION,
-        )?;
-        assert_eq!(rt; shared, copied);
-        if shared == 0 {
+        let refusals = count_refusals(&rt, &table, some, rt.alloc(), REPETITION)?;
+        if refusals == 0 {
             break;
         }
-        assert_eq!(rt; shared, 1);
+        assert_eq!(rt; refusals, 1);
         growths = k + 1;
     }
     assert_eq!(rt; growths, GROWTHS);
@@ -296,10 +297,8 @@ fn each_growth_of_cuts_is_refused_once(rt: HostRuntime) -> Result<(), Fail> {
     'growths: for k in 0..20u32 {
         let pattern = table.cat(outer, rest)?;
         assert_eq!(rt; pattern.0, k + 68);
-        let shared = asked_again::<Refusing<SharedGoals>>(&rt, &table, pattern, rt.alloc(), CUTS)?;
-        let copied = asked_again::<Refusing<CopiedGoals>>(&rt, &table, pattern, rt.alloc(), CUTS)?;
-        assert_eq!(rt; shared, copied);
-        assert_eq!(rt; shared, if k < GROWTHS_OF_CUTS { 1 } else { 0 });
+        let refusals = count_refusals(&rt, &table, pattern, rt.alloc(), CUTS)?;
+        assert_eq!(rt; refusals, if k < GROWTHS_OF_CUTS { 1 } else { 0 });
     }
     Ok(())
 }

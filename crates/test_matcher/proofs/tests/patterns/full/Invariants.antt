@@ -6,3 +6,9 @@ invariant-loop-node g l = record {
   first : l.first.0 < length l.patterns;
   deepest : l.deepest.0 < length l.patterns;
 }
+
+abbrev pub invariant-refusals : goal.invariant-refusals
+invariant-refusals g l = record {
+  first : l.first.0 < length l.patterns;
+  deepest : l.deepest.0 < length l.patterns;
+}

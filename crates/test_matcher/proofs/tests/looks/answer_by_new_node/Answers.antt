@@ -1,8 +1,0 @@
-use Rattle.std.proofs.Common.{[], sym, ap, ◌∙◌, append-nil}
-use Rattle.test_matcher.proofs.tests.looks.answer_by_new_node.Goals as goal
-
-pub next-requires-clause-table : goal.next-requires-clause-table
-next-requires-clause-table g c = ([], sym (append-nil c.in_ok-m.m.nodes ∙ ap (λ m. m.nodes) c.in_ok-m.ensures.begins))
-
-pub next-requires-2-clause-table : goal.next-requires-2-clause-table
-next-requires-2-clause-table g c = ([], sym (append-nil c.answer.new.self.nodes ∙ ap (λ m. m.nodes) c.in_ok-answer.ensures.ok))
