@@ -10,12 +10,12 @@ use Rattle.std.specs.declared.alloc.Global.{Global}
 use Rattle.sno_io.specs.declared.lines.LineError.{LineError}
 use Rattle.sno_io.specs.declared.lines.LineError.TheVariants.{NoMemory, ReadFault, TooLong}
 use Rattle.sno_io.specs.Held.{IsSettled, Joins}
-use Rattle.sno_io.specs.Lines.{GivesLine, Reading, ReadsLine, first_line, line_length, next_line}
+use Rattle.sno_io.specs.Lines.{GivesLine, Input, ReadsLine, first_line, line_length, next_line}
 use Rattle.sno_io.proofs.Bytes.{consumes_then}
 use Rattle.sno_io.proofs.FirstLines.{has_feed, line_length-le, line_length-whole, next_last, next_whole}
 
 -- a further read, before which the end was not told
-pub joins_more : (a b c : Option (List ℕ)) (old mid new : Reading) → Joins a b old mid → mid.told_end ≡ false → (xs : List ℕ) → Consumes b c xs
+pub joins_more : (a b c : Option (List ℕ)) (old mid new : Input) → Joins a b old mid → mid.told_end ≡ false → (xs : List ℕ) → Consumes b c xs
     → new.held ≡ mid.held ++ xs → Joins a c old new
 joins_more a b c old mid new j open_end xs k e = record {
   given = j.given ++ xs;
@@ -25,7 +25,7 @@ joins_more a b c old mid new j open_end xs k e = record {
 }
 
 -- where more is wanted, the call began with no line feed held and no end told
-pub still_open : (a b : Option (List ℕ)) (old new : Reading) → Joins a b old new → line_length new.held ≡ length new.held → new.told_end ≡ false
+pub still_open : (a b : Option (List ℕ)) (old new : Input) → Joins a b old new → line_length new.held ≡ length new.held → new.told_end ≡ false
     → (old.told_end ≡ true) ⊎ Contains old.held 10 → ⊥
 still_open a b old new j none open_end (inl t) = both_ways new.told_end open_end (j.ended t).1
 still_open a b old new j none open_end (inr feed) =
@@ -35,7 +35,7 @@ still_open a b old new j none open_end (inr feed) =
     absurd (omega arith)
 
 -- the line that is handed out
-pub handed : (reading : Reading) (line rest more : List ℕ) (len : ℕ) → len ≡ line_length reading.held → IsSettled len reading → len ≤ 1000000
+pub handed : (reading : Input) (line rest more : List ℕ) (len : ℕ) → len ≡ line_length reading.held → IsSettled len reading → len ≤ 1000000
     → 0 < length reading.held → line ≡ take len reading.held → rest ≡ drop (len + 1) reading.held
     → (reading.told_end ≡ true → more ≡ []) → (next_line (reading.held ++ more) ≡ Some (line, rest ++ more)) × (length line ≤ 1000000)
 handed reading line rest more len is settled short some front back nothing = (go settled ∙ ap₂ (λ l r. Some (l, r ++ more)) (sym same) (sym behind), size)
@@ -55,7 +55,7 @@ handed reading line rest more len is settled short some front back nothing = (go
     go (inr (inr told)) = next_last reading.held more some (nothing told)
 
 -- what was read and what is handed out
-pub reads_line : (a b : Option (List ℕ)) (old mid new : Reading) (r : Result (Option (Vec ℕ Global)) LineError) → Joins a b old mid
+pub reads_line : (a b : Option (List ℕ)) (old mid new : Input) (r : Result (Option (Vec ℕ Global)) LineError) → Joins a b old mid
     → new.told_end ≡ mid.told_end
     → ((more : List ℕ) → (mid.told_end ≡ true → more ≡ []) → GivesLine r (mid.held ++ more) (new.held ++ more)) → ReadsLine a b old new r
 reads_line a b old mid new r j told gives = record {
@@ -66,7 +66,7 @@ reads_line a b old mid new r j told gives = record {
 }
 
 -- an error that says nothing of the line leaves what was read
-pub reads_none : (a b : Option (List ℕ)) (old new : Reading) (e : LineError) → Joins a b old new → (e ≡ TooLong → ⊥) → ReadsLine a b old new (Err e)
+pub reads_none : (a b : Option (List ℕ)) (old new : Input) (e : LineError) → Joins a b old new → (e ≡ TooLong → ⊥) → ReadsLine a b old new (Err e)
 reads_none a b old new e j fits = record {
   given = j.given;
   consumed = j.consumed;

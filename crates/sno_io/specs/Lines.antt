@@ -34,7 +34,7 @@ next_line (byte ∷ bytes) = Some (first_line (byte ∷ bytes), behind_line (byt
 -- ---- what contracts see of `Lines`
 
 -- the bytes that were read and not handed out, whether the reader has told its end, and the error that was answered
-pub record Reading : Type 0 where
+pub record Input : Type 0 where
   pub held : List ℕ
   pub told_end : Bool
   pub stopped : Option LineError
@@ -51,7 +51,7 @@ GivesLine (Err NoMemory) text rest = rest ≡ text
 -- The next line of an input, where the reader has these bytes left before and after. It gave some bytes, none where it
 -- had told its end. Whatever may still come behind them, nothing where the end is told, the answer is of all that was
 -- held, was given and may come, and what is held then stands behind it.
-pub record ReadsLine (before after : Option (List ℕ)) (old new : Reading)
+pub record ReadsLine (before after : Option (List ℕ)) (old new : Input)
     (result : Result (Option (Vec ℕ Global)) LineError) : Type 0 where
   pub given : List ℕ
   pub consumed : Consumes before after given

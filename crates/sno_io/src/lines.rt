@@ -71,9 +71,9 @@ pub struct Lines {
 
 impl Model for Lines {
     ghost use Rattle.sno_io.specs.Held.{held_in};
-    ghost use Rattle.sno_io.specs.Lines.{Reading};
+    ghost use Rattle.sno_io.specs.Lines.{Input};
 
-    ghost Value = { Reading };
+    ghost Value = { Input };
 
     ghost view = { λ l. record { held = held_in l.buffer; told_end = l.told_end; stopped = l.stopped } };
 }

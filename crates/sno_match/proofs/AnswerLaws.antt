@@ -13,11 +13,11 @@ use Rattle.sno_match.specs.declared.engine.State.{State}
 use Rattle.sno_match.specs.declared.engine.State.TheVariants as S
 use Rattle.sno_match.specs.Search.{Answer, emit, further, whole}
 use Rattle.sno_match.specs.Point.{Point, with_front, rest_of, below, HasFirst}
-use Rattle.sno_match.specs.Reading.{AllKnown, AllMarked, Fits, IsStack}
+use Rattle.sno_match.specs.Remaining.{AllKnown, AllMarked, Fits, IsStack}
 use Rattle.sno_match.specs.Scopes.{FirstIsPlain, HasCuts}
 use Rattle.sno_match.specs.State.{waits}
 use Rattle.sno_match.specs.Move.{answered}
-use Rattle.sno_match.specs.Session.{Session, answers_of, told_of, IsCounted, Begins}
+use Rattle.sno_match.specs.Matching.{Matching, answers_of, told_of, IsCounted, Begins}
 use Rattle.sno_match.specs.Running.{to_come, later, seen, IsMatch, AnswersIn}
 use Rattle.sno_match.proofs.ReadingLaws.{resume-exhausted}
 use Rattle.sno_match.proofs.MoveLaws.{below-kept}
@@ -41,7 +41,7 @@ answers_of-append nodes answers given more =
     ap (λ (as' : List Answer). as' ++ more) (map-append (answer_of nodes) answers (given ∷ [])) ∙ append_assoc (answers_of nodes answers)
     (answer_of nodes given ∷ []) more
 
-pub answered_come : (m : Session) (start : ℕ) (points : List Point) (given : Option PatId) → HasFirst points → AllMarked (below points)
+pub answered_come : (m : Matching) (start : ℕ) (points : List Point) (given : Option PatId) → HasFirst points → AllMarked (below points)
     → (more : List Answer) (left : ℕ) →
     to_come S.Waiting m start points (answer_of m.nodes given ∷ more) left ≡ to_come S.Going m start (answered given points) more left
 answered_come m start [] given h k more left = elim h [ ]
@@ -75,10 +75,10 @@ answered-few [] (Some id) = omega arith
 answered-few (point ∷ rest) None = omega arith
 answered-few (point ∷ rest) (Some id) = omega arith
 
-module _ (m : Session) (start : ℕ) (points : List Point) (inv : IsMatch m start points S.Waiting) (given : Option PatId)
+module _ (m : Matching) (start : ℕ) (points : List Point) (inv : IsMatch m start points S.Waiting) (given : Option PatId)
     (known : IfSome given (λ id. id.0 < length m.nodes)) (new : List Point) (is : new ≡ answered given points) (records : ℕ)
     (few : records ≤ m.records + 1) where
-  abbrev answered_so : Session
+  abbrev answered_so : Matching
   answered_so = seen m.nodes m.pattern m.subject m.anchored m.limit (m.answers ++ given ∷ []) m.told m.steps S.Going m.way new records
 
   abbrev pub answered_match : IsMatch answered_so start new S.Going
@@ -121,19 +121,19 @@ waiting_of (S.Ended event) h = absurd (cc)
 
 -- a match that waits, seen as o, is lent the table of this call
 
-module _ (o : Session) (nodes : List Node) (pattern : PatId) (s : List ℕ) (anchored : Bool) (limit : ℕ) (answers : List (Option PatId)) (told steps : ℕ)
+module _ (o : Matching) (nodes : List Node) (pattern : PatId) (s : List ℕ) (anchored : Bool) (limit : ℕ) (answers : List (Option PatId)) (told steps : ℕ)
     (state : State) (way : List Pending) (points : List Point) (records start : ℕ)
     (view : seen nodes pattern s anchored limit answers told steps state way points records ≡ o)
     (inv : IsMatch (seen nodes pattern s anchored limit answers told steps state way points records) start points state)
     (lent patterns : List Node) (is : lent ≡ patterns) (table : Begins o.nodes patterns) (asked : o.waits ≡ true) where
-  abbrev over_table : List Node → State → Session
+  abbrev over_table : List Node → State → Matching
   over_table n st = seen n pattern s anchored limit answers told steps st way points records
 
   begins_with : Begins nodes lent
-  begins_with = (table.0, is ∙ table.1 ∙ ap (λ (x : Session). x.nodes ++ table.0) (sym view))
+  begins_with = (table.0, is ∙ table.1 ∙ ap (λ (x : Matching). x.nodes ++ table.0) (sym view))
 
   pub waiting_state : state ≡ S.Waiting
-  waiting_state = waiting_of state (ap (λ (x : Session). x.waits) view ∙ asked)
+  waiting_state = waiting_of state (ap (λ (x : Matching). x.waits) view ∙ asked)
 
   lent_match : IsMatch (over_table lent state) start points state
   lent_match = grown (over_table nodes state) lent begins_with start points state inv
@@ -157,7 +157,7 @@ module _ (o : Session) (nodes : List Node) (pattern : PatId) (s : List ℕ) (anc
     known_here : IfSome given (λ id. id.0 < length lent)
     known_here = subst (λ (n : List Node). IfSome given (λ id. id.0 < length n)) (sym is) known
 
-    abbrev answered_as : Session
+    abbrev answered_as : Matching
     answered_as = seen lent pattern s anchored limit (answers ++ given ∷ []) told steps S.Going way new new_records
 
     pub answered_all : IsMatch answered_as start new S.Going × (told_of answered_as ≡ told_of o) × IsCounted answered_as

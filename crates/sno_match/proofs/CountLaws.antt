@@ -11,7 +11,7 @@ use Rattle.sno_match.specs.Search.{Event, Ended, whole, all_events}
 use Rattle.sno_match.specs.Events.{pending_after, last_pending, last_count}
 use Rattle.sno_match.specs.Point.{Point}
 use Rattle.sno_match.specs.State.{verdict_of, over}
-use Rattle.sno_match.specs.Session.{Session, answers_of, trace_of, told_of, IsCounted}
+use Rattle.sno_match.specs.Matching.{Matching, answers_of, trace_of, told_of, IsCounted}
 use Rattle.sno_match.specs.Running.{to_come, counted, IsMatch}
 use Rattle.sno_match.proofs.WeightLaws.{few_told}
 use Rattle.sno_match.proofs.LateLaws.{AllLeft, coming-within}
@@ -35,7 +35,7 @@ final S.Going left = []
 final S.Waiting left = []
 final (S.Ended event) left = (Ended (verdict_of event), left) ∷ []
 
-abbrev pub unfinal : (m : Session) (start : ℕ) (points : List Point) (state : State) (left : ℕ) → List (Event × ℕ)
+abbrev pub unfinal : (m : Matching) (start : ℕ) (points : List Point) (state : State) (left : ℕ) → List (Event × ℕ)
 unfinal m start points S.Going left = all_events (to_come S.Going m start points [] left)
 unfinal m start points S.Waiting left = []
 unfinal m start points (S.Ended event) left = []
@@ -60,7 +60,7 @@ over-few S.Going = omega arith
 over-few S.Waiting = omega arith
 over-few (S.Ended event) = omega arith
 
-module _ (m : Session) (start : ℕ) (points : List Point) where
+module _ (m : Matching) (start : ℕ) (points : List Point) where
   final-events : (state : State) (left : ℕ) → (inv : IsMatch m start points state) → all_events (to_come state m start points [] left) ≡ final state left
       ++ unfinal m start points state left
   final-events S.Going left inv = refl
@@ -78,7 +78,7 @@ module _ (m : Session) (start : ℕ) (points : List Point) where
   unfinal-left S.Waiting left = tt
   unfinal-left (S.Ended event) left = tt
 
-module _ (m : Session) (start : ℕ) (points : List Point) (state : State) (inv : IsMatch m start points state) where
+module _ (m : Matching) (start : ℕ) (points : List Point) (state : State) (inv : IsMatch m start points state) where
   abbrev pub left : ℕ
   left = m.limit - m.steps
 

@@ -10,10 +10,10 @@ use Rattle.sno_match.specs.declared.engine.State.{State}
 use Rattle.sno_match.specs.declared.engine.State.TheVariants as S
 use Rattle.sno_match.specs.Point.{Point}
 use Rattle.sno_match.specs.Top.{first_point}
-use Rattle.sno_match.specs.Reading.{IsStack}
+use Rattle.sno_match.specs.Remaining.{IsStack}
 use Rattle.sno_match.specs.State.{after, after_move, waits, ended, owed}
 use Rattle.sno_match.specs.Move.{Makes}
-use Rattle.sno_match.specs.Session.{Session, IsCounted}
+use Rattle.sno_match.specs.Matching.{Matching, IsCounted}
 use Rattle.sno_match.specs.Scopes.{HasCuts}
 use Rattle.sno_match.specs.Starts.{Passes}
 use Rattle.sno_match.specs.Running.{later_starts, seen, IsMatch, Advances}
@@ -26,18 +26,18 @@ going_of S.Waiting h k = absurd (cc)
 going_of (S.Ended event) h k = absurd (cc)
 
 -- a match that goes on, seen as o
-module _ (o : Session) (nodes : List Node) (pattern : PatId) (s : List ℕ) (anchored : Bool) (limit : ℕ) (answers : List (Option PatId)) (told steps : ℕ)
+module _ (o : Matching) (nodes : List Node) (pattern : PatId) (s : List ℕ) (anchored : Bool) (limit : ℕ) (answers : List (Option PatId)) (told steps : ℕ)
     (state : State) (way : List Pending) (points : List Point) (records start : ℕ)
     (view : seen nodes pattern s anchored limit answers told steps state way points records ≡ o)
     (inv : IsMatch (seen nodes pattern s anchored limit answers told steps state way points records) start points state) (asked : o.waits ≡ false)
     (open_end : o.ended ≡ false) where
   pub going : state ≡ S.Going
-  going = going_of state (ap (λ (x : Session). x.waits) view ∙ asked) (ap (λ (x : Session). x.ended) view ∙ open_end)
+  going = going_of state (ap (λ (x : Matching). x.waits) view ∙ asked) (ap (λ (x : Matching). x.ended) view ∙ open_end)
 
-  abbrev in_state : State → Session
+  abbrev in_state : State → Matching
   in_state st = seen nodes pattern s anchored limit answers told steps st way points records
 
-  abbrev m : Session
+  abbrev m : Matching
   m = in_state S.Going
 
   view_going : m ≡ o
@@ -48,7 +48,7 @@ module _ (o : Session) (nodes : List Node) (pattern : PatId) (s : List ℕ) (anc
 
   module _ (event : Told) (new_steps new_start : ℕ) (new : List Point) (new_way : List Pending) (new_records : ℕ)
       (l : Leads m start points (Some event) new_steps new_start new new_way new_records) where
-    abbrev then_told : State → Session
+    abbrev then_told : State → Matching
     then_told st = seen nodes pattern s anchored limit answers (told + 1) new_steps st new_way new new_records
 
     tells_match : (st : State) → st ≡ after event → IsMatch (then_told st) new_start new st
@@ -58,7 +58,7 @@ module _ (o : Session) (nodes : List Node) (pattern : PatId) (s : List ℕ) (anc
     tells_event : (st : State) → st ≡ after event → Advances o (Some event) (then_told st)
     tells_event st e =
         subst (λ (x : State). Advances o (Some event) (then_told x)) (sym e)
-        (subst (λ (x : Session). Advances x (Some event) (then_told (after event))) view_going (
+        (subst (λ (x : Matching). Advances x (Some event) (then_told (after event))) view_going (
           refl,
           record { pattern = refl; subject = refl; anchored = refl; limit = refl; answers = refl; trace = refl },
           led_told m start points inv_going event new_steps new_start new new_way new_records l refl,
@@ -71,7 +71,7 @@ module _ (o : Session) (nodes : List Node) (pattern : PatId) (s : List ℕ) (anc
 
   module _ (new_steps new_start : ℕ) (new : List Point) (new_way : List Pending) (new_records : ℕ)
       (l : Leads m start points None new_steps new_start new new_way new_records) where
-    abbrev then_on : State → Session
+    abbrev then_on : State → Matching
     then_on st = seen nodes pattern s anchored limit answers told new_steps st new_way new new_records
 
     goes_match : IsMatch (then_on state) new_start new state
@@ -82,7 +82,7 @@ module _ (o : Session) (nodes : List Node) (pattern : PatId) (s : List ℕ) (anc
     goes_on : (2 * (limit - new_steps) + length new < 2 * (limit - steps) + length points) → Advances o None (then_on state)
     goes_on less =
         subst (λ (x : State). Advances o None (then_on x)) (sym going)
-        (subst (λ (x : Session). Advances x None (then_on S.Going)) view_going
+        (subst (λ (x : Matching). Advances x None (then_on S.Going)) view_going
         (led_on m start points inv_going new_steps new_start new new_way new_records l, less))
 
     pub goes_all : (2 * (limit - new_steps) + length new < 2 * (limit - steps) + length points) → IsMatch (then_on state) new_start new state
@@ -95,7 +95,7 @@ module _ (o : Session) (nodes : List Node) (pattern : PatId) (s : List ℕ) (anc
       (stack : IsStack lent text new) (cuts : HasCuts lent (limit - new_steps) new) (few : new_records + 2 * steps + owed (after_move result) ≤ records
       + 2 * new_steps) (made : Makes lent text start limit points steps way result new new_steps new_way) where
     of_match : (P : List Node → List ℕ → Type 0) → P lent text → P nodes s
-    of_match P h = subst (λ (n : List Node). P n s) (sym (ap (λ (x : Session). x.nodes) view ∙ table)) (subst (λ (t : List ℕ). P lent t) same h)
+    of_match P h = subst (λ (n : List Node). P n s) (sym (ap (λ (x : Matching). x.nodes) view ∙ table)) (subst (λ (t : List ℕ). P lent t) same h)
 
     pub made_leads : Leads m start points result new_steps start new new_way new_records
     made_leads =
@@ -105,12 +105,12 @@ module _ (o : Session) (nodes : List Node) (pattern : PatId) (s : List ℕ) (anc
 
   -- what is seen of it
   pub counted_so : IsCounted o
-  counted_so = subst (λ (x : Session). IsCounted x) view (match_counted (in_state state) start points state inv refl)
+  counted_so = subst (λ (x : Matching). IsCounted x) view (match_counted (in_state state) start points state inv refl)
 
   -- no point is left
   module _ (none : o.points ≡ 0) where
     empty : length points ≡ 0
-    empty = ap (λ (x : Session). x.points) view ∙ none
+    empty = ap (λ (x : Matching). x.points) view ∙ none
 
     -- the starts up to this one were passed, on the table and the subject as they were lent
     module _ (lent : List Node) (text : List ℕ) (table : o.nodes ≡ lent) (same : text ≡ s) (at spent : ℕ) (in_at : at ≤ length text)
@@ -123,7 +123,7 @@ module _ (o : Session) (nodes : List Node) (pattern : PatId) (s : List ℕ) (anc
 
       passed_so : Passes anchored (tree nodes pattern.0) s start at spent
       passed_so =
-          subst (λ (n : List Node). Passes anchored (tree n pattern.0) s start at spent) (sym (ap (λ (x : Session). x.nodes) view ∙ table))
+          subst (λ (n : List Node). Passes anchored (tree n pattern.0) s start at spent) (sym (ap (λ (x : Matching). x.nodes) view ∙ table))
           (subst (λ (t : List ℕ). Passes anchored (tree lent pattern.0) t start at spent) same passed)
 
       pub over_leads : later_starts anchored s at ≡ [] → Leads m start points (Some V.Exhausted) (steps + spent) at points way records

@@ -10,12 +10,13 @@ use Rattle.sno_match.specs.declared.goal.Mark.{Mark}
 use Rattle.sno_match.specs.declared.goal.Mark.TheVariants.{Enter, Next}
 use Rattle.sno_match.specs.declared.engine.State.{State}
 use Rattle.sno_match.specs.declared.engine.State.TheVariants as S
-use Rattle.sno_match.specs.Search.{Match, CloseRepeat, Answer, Outcome, emit, further, search, with_answer, whole, trace}
+use Rattle.sno_match.specs.Search.{Match, CloseRepeat, Answer, SearchResult, emit, further, search, with_answer, whole, trace}
 use Rattle.sno_match.specs.Point.{Point, rest_of}
-use Rattle.sno_match.specs.Reading.{body_of, goal_of, goals_of, behind, behind_mark, from_mark, resume, reading, waiting, IsKnown, AllKnown, AllFit, MarkFits}
-use Rattle.sno_match.specs.Reading.{HasNext}
+use Rattle.sno_match.specs.Remaining.{body_of, goal_of, goals_of, behind, behind_mark, from_mark, resume, remaining, waiting, IsKnown, AllKnown, AllFit}
+use Rattle.sno_match.specs.Remaining.{MarkFits}
+use Rattle.sno_match.specs.Remaining.{HasNext}
 use Rattle.sno_match.specs.Scopes.{opened_at, opened, opens, AllScoped, RiseFrom, HasCuts}
-use Rattle.sno_match.specs.Session.{Session, answers_of, trace_of, Begins}
+use Rattle.sno_match.specs.Matching.{Matching, answers_of, trace_of, Begins}
 use Rattle.sno_match.specs.Running.{later, later_starts, to_come, AnswersIn, IsMatch}
 
 module _ (nodes more : List Node) where
@@ -88,15 +89,15 @@ module _ (nodes more : List Node) where
   cuts-grow s left points h k = record { scoped = scoped-grow s points h k.scoped; rising = subst (RiseFrom left) (sym (opens-grow s points h)) k.rising }
 
   module _ (s : List ℕ) (start : ℕ) where
-    resume-grow : (points : List Point) (outcome : Outcome) → AllFit nodes s points → resume (nodes ++ more) s start points outcome
+    resume-grow : (points : List Point) (outcome : SearchResult) → AllFit nodes s points → resume (nodes ++ more) s start points outcome
         ≡ resume nodes s start points outcome
     resume-grow [] outcome h = refl
     resume-grow (p ∷ ps) outcome h =
         resume-grow ps (behind (nodes ++ more) s start p outcome) h.1 ∙
         ap (λ gs. resume nodes s start ps (behind_mark s start p.mark gs p.cursor p.pending outcome)) (goals_of-grow p.goals h.0.known)
 
-    reading-grow : (points : List Point) (answers : List Answer) (left : ℕ) → AllFit nodes s points → reading (nodes ++ more) s start points answers left
-        ≡ reading nodes s start points answers left
+    reading-grow : (points : List Point) (answers : List Answer) (left : ℕ) → AllFit nodes s points → remaining (nodes ++ more) s start points answers left
+        ≡ remaining nodes s start points answers left
     reading-grow [] answers left h = refl
     reading-grow (p ∷ ps) answers left h =
         resume-grow ps (from_mark s start p.mark (goals_of (nodes ++ more) p.goals) p.cursor p.pending answers left) h.1 ∙
@@ -114,8 +115,8 @@ module _ (nodes more : List Node) where
         ap (λ gs. resume nodes s start ps (with_answer (search s start) gs p.cursor p.pending answers left))
         (goals_of-grow (rest_of p.goals) (rest-known p.goals h.0.known))
 
-  module _ (m : Session) (is : nodes ≡ m.nodes) (h : m.pattern.0 < length nodes) where
-    abbrev wider : Session
+  module _ (m : Matching) (is : nodes ≡ m.nodes) (h : m.pattern.0 < length nodes) where
+    abbrev wider : Matching
     wider = record m { nodes = nodes ++ more }
 
     later-grow : (start : ℕ) → later wider start ≡ later m start
@@ -127,8 +128,8 @@ module _ (nodes more : List Node) where
         to_come state wider start points answers left ≡ to_come state m start points answers left
     to_come-grow S.Going start points answers left f =
         ap (λ r. further r (later wider start)) (reading-grow m.subject start points answers left f
-        ∙ ap (λ (n : List Node). reading n m.subject start points answers left) is) ∙
-        ap (further (reading m.nodes m.subject start points answers left)) (later-grow start)
+        ∙ ap (λ (n : List Node). remaining n m.subject start points answers left) is) ∙
+        ap (further (remaining m.nodes m.subject start points answers left)) (later-grow start)
     to_come-grow S.Waiting start points answers left f =
         ap (λ r. further r (later wider start)) (waiting-grow m.subject start points answers left f
         ∙ ap (λ (n : List Node). waiting n m.subject start points answers left) is) ∙
@@ -148,8 +149,8 @@ module _ (nodes more : List Node) where
 
 -- the table that is lent begins with the one before
 
-module _ (m : Session) (lent : List Node) (b : Begins m.nodes lent) where
-  abbrev over_lent : List Node → Session
+module _ (m : Matching) (lent : List Node) (b : Begins m.nodes lent) where
+  abbrev over_lent : List Node → Matching
   over_lent nodes = record m { nodes = nodes }
 
   pub grown_trace : m.pattern.0 < length m.nodes → AnswersIn m.nodes m.answers → trace_of (over_lent lent) ≡ trace_of m

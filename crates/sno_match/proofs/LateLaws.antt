@@ -8,11 +8,11 @@ use Rattle.sno_match.specs.declared.engine.State.TheVariants as S
 use Rattle.sno_match.specs.declared.goal.Mark.{Mark}
 use Rattle.sno_match.specs.declared.goal.Mark.TheVariants.{Enter, Next}
 use Rattle.sno_match.specs.Point.{Point}
-use Rattle.sno_match.specs.Reading.{left_of, goals_of, ends_from, after_pattern, after_goals, behind_mark, behind, resume, from_mark, reading}
-use Rattle.sno_match.specs.Session.{Session}
+use Rattle.sno_match.specs.Remaining.{left_of, goals_of, ends_from, after_pattern, after_goals, behind_mark, behind, resume, from_mark, remaining}
+use Rattle.sno_match.specs.Matching.{Matching}
 use Rattle.sno_match.specs.Running.{later, later_starts, to_come}
 use Rattle.sno_match.specs.Search.{Goal, Match, CloseCond, CloseImm, CloseRepeat, Exhausted, Aborted, Limit, Waiting, Event, Assign, Cursor, Value, Answer}
-use Rattle.sno_match.specs.Search.{Outcome, Gives, Search, Finder, emit, or_else, further, tries, abort_if_exhausted, with_answer, if_moved, first_goal}
+use Rattle.sno_match.specs.Search.{SearchResult, Gives, Search, Finder, emit, or_else, further, tries, abort_if_exhausted, with_answer, if_moved, first_goal}
 use Rattle.sno_match.specs.Search.{search_within, search, all_events, Ended, CloseCut, CutOff, cut_off_if_exhausted, exhausted_if_cut_off}
 
 abbrev pub AllLeft : ℕ → List (Event × ℕ) → Type 0
@@ -20,7 +20,7 @@ AllLeft n [] = Unit {0}
 AllLeft n (told ∷ es) = (told.1 ≤ n) × AllLeft n es
 
 -- the events, and the steps left at the end
-abbrev pub IsWithin : ℕ → Outcome → Type 0
+abbrev pub IsWithin : ℕ → SearchResult → Type 0
 IsWithin n (Gives events answers left verdict) = AllLeft n events × (left ≤ n)
 
 abbrev pub KeepsWithin : Search → Type 0
@@ -34,13 +34,13 @@ left-append : (n : ℕ) (es fs : List (Event × ℕ)) → AllLeft n es → AllLe
 left-append n [] fs a b = b
 left-append n (e ∷ es) fs a b = (a.0, left-append n es fs a.1 b)
 
-within-more : (n m : ℕ) (r : Outcome) → n ≤ m → IsWithin n r → IsWithin m r
+within-more : (n m : ℕ) (r : SearchResult) → n ≤ m → IsWithin n r → IsWithin m r
 within-more n m (Gives es answers left verdict) h w = (left-more n m es h w.0, omega (arith, w.1))
 
-emit-within : (n : ℕ) (es : List (Event × ℕ)) (r : Outcome) → AllLeft n es → IsWithin n r → IsWithin n (emit es r)
+emit-within : (n : ℕ) (es : List (Event × ℕ)) (r : SearchResult) → AllLeft n es → IsWithin n r → IsWithin n (emit es r)
 emit-within n es (Gives fs answers left verdict) a w = (left-append n es fs a w.0, w.1)
 
-or_else-within : (n : ℕ) (r : Outcome) (f : Search) → KeepsWithin f → IsWithin n r → IsWithin n (or_else r f)
+or_else-within : (n : ℕ) (r : SearchResult) (f : Search) → KeepsWithin f → IsWithin n r → IsWithin n (or_else r f)
 or_else-within n (Gives es answers zero Exhausted) f k w = w
 or_else-within n (Gives es answers (suc left) Exhausted) f k w =
     let le : left ≤ n = omega (arith, w.1) in emit-within n es (f answers left) w.0 (within-more left n (f answers left) le (k answers left))
@@ -53,7 +53,7 @@ abbrev AllKeep : List Search → Type 0
 AllKeep [] = Unit {0}
 AllKeep (f ∷ fs) = KeepsWithin f × AllKeep fs
 
-further-within : (n : ℕ) (r : Outcome) (fs : List Search) → AllKeep fs → IsWithin n r → IsWithin n (further r fs)
+further-within : (n : ℕ) (r : SearchResult) (fs : List Search) → AllKeep fs → IsWithin n r → IsWithin n (further r fs)
 further-within n r [] k w = w
 further-within n r (f ∷ fs) k w = further-within n (or_else r f) fs k.1 (or_else-within n r f k.0 w)
 
@@ -69,21 +69,21 @@ keep-replicate : (f : Search) (n : ℕ) → KeepsWithin f → AllKeep (replicate
 keep-replicate f zero h = tt
 keep-replicate f (suc n) h = (h, keep-replicate f n h)
 
-abort-within : (n : ℕ) (r : Outcome) → IsWithin n r → IsWithin n (abort_if_exhausted r)
+abort-within : (n : ℕ) (r : SearchResult) → IsWithin n r → IsWithin n (abort_if_exhausted r)
 abort-within n (Gives es answers left Exhausted) w = w
 abort-within n (Gives es answers left Aborted) w = w
 abort-within n (Gives es answers left Limit) w = w
 abort-within n (Gives es answers left Waiting) w = w
 abort-within n (Gives es answers left (CutOff m)) w = w
 
-cut-within : (n m : ℕ) (r : Outcome) → IsWithin n r → IsWithin n (cut_off_if_exhausted m r)
+cut-within : (n m : ℕ) (r : SearchResult) → IsWithin n r → IsWithin n (cut_off_if_exhausted m r)
 cut-within n m (Gives es answers left Exhausted) w = w
 cut-within n m (Gives es answers left Aborted) w = w
 cut-within n m (Gives es answers left Limit) w = w
 cut-within n m (Gives es answers left Waiting) w = w
 cut-within n m (Gives es answers left (CutOff k)) w = w
 
-ended-within : (n m : ℕ) (r : Outcome) → IsWithin n r → IsWithin n (exhausted_if_cut_off m r)
+ended-within : (n m : ℕ) (r : SearchResult) → IsWithin n r → IsWithin n (exhausted_if_cut_off m r)
 ended-within n m (Gives es answers left Exhausted) w = w
 ended-within n m (Gives es answers left Aborted) w = w
 ended-within n m (Gives es answers left Limit) w = w
@@ -150,7 +150,7 @@ search-keeps : (s : List ℕ) (start : ℕ) (goals : List Goal) (c : ℕ) (pendi
 search-keeps s start goals c pending answers left = search_within-keeps s start left goals c pending answers left
 
 module _ (nodes : List Node) (s : List ℕ) (start n : ℕ) where
-  after_pattern-within : (p : Pattern) (rest : List Goal) (c : ℕ) (pending : List Pending) (i : ℕ) (r : Outcome) → IsWithin n r
+  after_pattern-within : (p : Pattern) (rest : List Goal) (c : ℕ) (pending : List Pending) (i : ℕ) (r : SearchResult) → IsWithin n r
       → IsWithin n (after_pattern s start p rest c pending i r)
   after_pattern-within (Leaf a) rest c pending i r w =
       further-within n r (map (λ e. search s start rest e pending) (ends_from i (ends a s c)))
@@ -172,7 +172,7 @@ module _ (nodes : List Node) (s : List ℕ) (start n : ℕ) where
   after_pattern-within (Place target) rest c pending i r w = w
   after_pattern-within (Defer primitive expression) rest c pending i r w = w
 
-  after_goals-within : (goals : List Goal) (c : ℕ) (pending : List Pending) (i : ℕ) (r : Outcome) → IsWithin n r
+  after_goals-within : (goals : List Goal) (c : ℕ) (pending : List Pending) (i : ℕ) (r : SearchResult) → IsWithin n r
       → IsWithin n (after_goals s start goals c pending i r)
   after_goals-within [] c pending i r w = w
   after_goals-within (Match p ∷ rest) c pending i r w = after_pattern-within p rest c pending i r w
@@ -181,12 +181,12 @@ module _ (nodes : List Node) (s : List ℕ) (start n : ℕ) where
   after_goals-within (CloseRepeat p from ∷ rest) c pending i r w = w
   after_goals-within (CloseCut m ∷ rest) c pending i r w = w
 
-  behind_mark-within : (mark : Mark) (goals : List Goal) (c : ℕ) (pending : List Pending) (r : Outcome) → IsWithin n r
+  behind_mark-within : (mark : Mark) (goals : List Goal) (c : ℕ) (pending : List Pending) (r : SearchResult) → IsWithin n r
       → IsWithin n (behind_mark s start mark goals c pending r)
   behind_mark-within Enter goals c pending r w = w
   behind_mark-within (Next i) goals c pending r w = after_goals-within goals c pending i r w
 
-  resume-within : (points : List Point) (r : Outcome) → IsWithin n r → IsWithin n (resume nodes s start points r)
+  resume-within : (points : List Point) (r : SearchResult) → IsWithin n r → IsWithin n (resume nodes s start points r)
   resume-within [] r w = w
   resume-within (p ∷ ps) r w = resume-within ps (behind nodes s start p r) (behind_mark-within p.mark (goals_of nodes p.goals) p.cursor p.pending r w)
 
@@ -195,12 +195,12 @@ module _ (nodes : List Node) (s : List ℕ) (start n : ℕ) where
   from_mark-within Enter goals c pending answers = search-keeps s start goals c pending answers n
   from_mark-within (Next i) goals c pending answers = after_goals-within goals c pending i (Gives [] answers n Exhausted) (tt, omega arith)
 
-  reading-within : (points : List Point) (answers : List Answer) → IsWithin n (reading nodes s start points answers n)
+  reading-within : (points : List Point) (answers : List Answer) → IsWithin n (remaining nodes s start points answers n)
   reading-within [] answers = (tt, omega arith)
   reading-within (p ∷ ps) answers = resume-within ps (from_mark s start p.mark (goals_of nodes p.goals) p.cursor p.pending answers n)
       (from_mark-within p.mark (goals_of nodes p.goals) p.cursor p.pending answers)
 
-events-within : (n : ℕ) (r : Outcome) → IsWithin n r → AllLeft n (all_events r)
+events-within : (n : ℕ) (r : SearchResult) → IsWithin n r → AllLeft n (all_events r)
 events-within n (Gives es answers left Exhausted) w = left-append n es ((Ended Exhausted, left) ∷ []) w.0 (w.1, tt)
 events-within n (Gives es answers left Aborted) w = left-append n es ((Ended Aborted, left) ∷ []) w.0 (w.1, tt)
 events-within n (Gives es answers left Limit) w = left-append n es ((Ended Limit, left) ∷ []) w.0 (w.1, tt)
@@ -208,12 +208,12 @@ events-within n (Gives es answers left (CutOff m)) w = left-append n es ((Ended 
 events-within n (Gives es answers left Waiting) w = left-append n es [] w.0 tt
 
 -- no event that is still to come was told with fewer steps than were taken
-pub coming-within : (m : Session) (start : ℕ) (points : List Point) (answers : List Answer) (left : ℕ)
+pub coming-within : (m : Matching) (start : ℕ) (points : List Point) (answers : List Answer) (left : ℕ)
     → AllLeft left (all_events (to_come S.Going m start points answers left))
 coming-within m start points answers left =
     let starts_at = later_starts m.anchored m.subject start in
     events-within left (to_come S.Going m start points answers left)
-    (further-within left (reading m.nodes m.subject start points answers left) (later m start)
+    (further-within left (remaining m.nodes m.subject start points answers left) (later m start)
     (keep-map (λ b. search m.subject b (Match (tree m.nodes m.pattern.0) ∷ []) b []) starts_at
     (λ b. search-keeps m.subject b (Match (tree m.nodes m.pattern.0) ∷ []) b []))
     (reading-within m.nodes m.subject start left points answers))

@@ -15,7 +15,7 @@ use Rattle.sno_match.specs.declared.plan.Plan.{Plan}
 use Rattle.sno_match.specs.declared.plan.Plan.TheVariants as P
 use Rattle.sno_match.specs.Search.{Exhausted, Limit, Way, Answer, Gives, emit}
 use Rattle.sno_match.specs.Point.{Point, with_front, replaced, branched, closed, cut_back, below}
-use Rattle.sno_match.specs.Reading.{reading, AllMarked, AllKnown, AllFit, Fits, MarkFits, HasNext, IsStack}
+use Rattle.sno_match.specs.Remaining.{remaining, AllMarked, AllKnown, AllFit, Fits, MarkFits, HasNext, IsStack}
 use Rattle.sno_match.specs.Plan.{IsPlan, IsDue, IsCut, KeepsScopes, goals_in, point_at}
 use Rattle.sno_match.specs.Scopes.{opens, RiseFrom, HasCuts}
 use Rattle.sno_match.specs.State.{after_move, HasAsked}
@@ -86,7 +86,7 @@ module _ (nodes : List Node) (s : List ℕ) (goal : Numbered) (goals : List Numb
     -- a move of one step, which tells an event or none
     one_step : (told : Option Told) (new made : List Point) → new ≡ made → HasAsked (after_move told) made → (told ≡ Some V.Exhausted → ⊥) → price told ≤ 1
         → was ≡ way_after told was was → length made ≤ suc (length old) →
-        ((answers : List Answer) → reading nodes s start old answers (suc left_behind) ≡ emit (entries told was left_behind)
+        ((answers : List Answer) → remaining nodes s start old answers (suc left_behind) ≡ emit (entries told was left_behind)
         (standing (after_move told) nodes s start made answers left_behind)) →
         Makes nodes s start limit old steps was told new (steps + 1) was
     one_step told new made e asked more paid pending few h =
@@ -100,7 +100,7 @@ module _ (nodes : List Node) (s : List ℕ) (goal : Numbered) (goals : List Numb
           asked = subst (λ (ps : List Point). HasAsked (after_move told) ps) (sym e) asked;
           pending = pending;
           leads = λ answers.
-              ap (λ (k : ℕ). reading nodes s start old answers k) one_less ∙ h answers ∙
+              ap (λ (k : ℕ). remaining nodes s start old answers k) one_less ∙ h answers ∙
               ap (λ (ps : List Point). emit (entries told was left_behind) (standing (after_move told) nodes s start ps answers left_behind)) (sym e);
         }
 
@@ -140,7 +140,7 @@ module _ (nodes : List Node) (s : List ℕ) (goal : Numbered) (goals : List Numb
         let made = branched (N.Match body ∷ N.CloseCut left_behind (length rest) ∷ []) c left_behind old in
         subst (λ (t : Option Told). Makes nodes s start limit old steps was t new (steps + 1) was) (sym co.0)
         (one_step None new made co.1 tt (λ e. cc) (omega arith) refl (omega arith)
-        (λ answers. p.0 start goals pending rest answers left_behind ∙ sym (emit-none (reading nodes s start made answers left_behind))))
+        (λ answers. p.0 start goals pending rest answers left_behind ∙ sym (emit-none (remaining nodes s start made answers left_behind))))
     carried marked cuts (P.CloseCut depth) told new p q co =
         let made = cut_back depth old in
         let rising : RiseFrom (suc left_behind) (opens nodes rest) =
@@ -148,7 +148,7 @@ module _ (nodes : List Node) (s : List ℕ) (goal : Numbered) (goals : List Numb
         subst (λ (t : Option Told). Makes nodes s start limit old steps was t new (steps + 1) was) (sym co.0)
         (one_step None new made co.1 tt (λ e. cc) (omega arith) refl (omega (arith, length-drop (length rest - depth) rest))
         (λ answers. p.0 start left_behind goals pending rest answers (sym cuts.scoped.0) rising
-        ∙ sym (emit-none (reading nodes s start made answers left_behind))))
+        ∙ sym (emit-none (remaining nodes s start made answers left_behind))))
     carried marked cuts P.BackIntoFence told new p q co = elim co [ ]
     carried marked cuts P.BackIntoCut told new p q co = elim co [ ]
 
@@ -256,8 +256,8 @@ module _ (nodes : List Node) (s : List ℕ) (old : List Point) (goal : Numbered)
           asked = tt;
           pending = refl;
           leads = λ answers.
-              ap (λ (k : ℕ). reading nodes s start old answers k) zero_left ∙
-              ap (λ (ps : List Point). reading nodes s start ps answers 0) is ∙ plan_due nodes s goal c mark plan p h start goals pending rest answers ∙
+              ap (λ (k : ℕ). remaining nodes s start old answers k) zero_left ∙
+              ap (λ (ps : List Point). remaining nodes s start ps answers 0) is ∙ plan_due nodes s goal c mark plan p h start goals pending rest answers ∙
               ap (λ (k : ℕ). Gives [] answers k Limit) (sym zero_left);
         }
 
@@ -271,7 +271,7 @@ module _ (nodes : List Node) (s : List ℕ) (old : List Point) (goal : Numbered)
       more = λ e. cc;
       asked = tt;
       pending = refl;
-      leads = λ answers. ap (λ (ps : List Point). reading nodes s start ps answers (limit - steps)) is ∙ p start goals pending rest answers (limit - steps);
+      leads = λ answers. ap (λ (ps : List Point). remaining nodes s start ps answers (limit - steps)) is ∙ p start goals pending rest answers (limit - steps);
     }
 
     -- FENCE(P) is backed into
@@ -291,9 +291,9 @@ module _ (nodes : List Node) (s : List ℕ) (old : List Point) (goal : Numbered)
           asked = tt;
           pending = refl;
           leads = λ answers.
-              ap (λ (ps : List Point). reading nodes s start ps answers (limit - steps)) is ∙ p start goals pending rest answers marked (limit - steps) ∙
-              ap (λ (ps : List Point). reading nodes s start ps answers (limit - steps)) (sym under)
-              ∙ sym (emit-none (reading nodes s start new answers (limit - steps)));
+              ap (λ (ps : List Point). remaining nodes s start ps answers (limit - steps)) is ∙ p start goals pending rest answers marked (limit - steps) ∙
+              ap (λ (ps : List Point). remaining nodes s start ps answers (limit - steps)) (sym under)
+              ∙ sym (emit-none (remaining nodes s start new answers (limit - steps)));
         }
 
 -- no goal is left
@@ -330,10 +330,10 @@ module _ (nodes : List Node) (s : List ℕ) (start limit : ℕ) (old new : List 
         asked = tt;
         pending = refl;
         leads = λ answers.
-            ap (λ (ps : List Point). reading nodes s start ps answers left) is ∙
-            ap (λ (m : Mark). reading nodes s start (record { goals = []; cursor = c; pending = pending; mark = m } ∷ rest) answers left) enter ∙
+            ap (λ (ps : List Point). remaining nodes s start ps answers left) is ∙
+            ap (λ (m : Mark). remaining nodes s start (record { goals = []; cursor = c; pending = pending; mark = m } ∷ rest) answers left) enter ∙
             resume-emit nodes s start rest ((Way start c pending, left) ∷ []) (Gives [] answers left Exhausted) ∙
             ap (emit ((Way start c pending, left) ∷ [])) (resume-exhausted nodes s start rest answers left standing_is.marked) ∙
-            ap (λ (w : List Pending). emit ((Way start c w, left) ∷ []) (reading nodes s start rest answers left)) (sym ended.1) ∙
-            ap (λ (ps : List Point). emit ((Way start c way, left) ∷ []) (reading nodes s start ps answers left)) (sym ended.0);
+            ap (λ (w : List Pending). emit ((Way start c w, left) ∷ []) (remaining nodes s start rest answers left)) (sym ended.1) ∙
+            ap (λ (ps : List Point). emit ((Way start c way, left) ∷ []) (remaining nodes s start ps answers left)) (sym ended.0);
       }

@@ -12,7 +12,7 @@ use Rattle.sno_match.specs.Search.{Event, Ended}
 use Rattle.sno_match.specs.Events.{in_trace, is_last, is_value, cost, pending_after}
 use Rattle.sno_match.specs.Point.{Point}
 use Rattle.sno_match.specs.State.{verdict_of, waits, ended}
-use Rattle.sno_match.specs.Session.{Session, trace_of, SameMatch, IsTold, StaysAt, Begins}
+use Rattle.sno_match.specs.Matching.{Matching, trace_of, SameMatch, IsTold, StaysAt, Begins}
 use Rattle.sno_match.specs.Running.{counted, seen, IsMatch, GoesOn}
 use Rattle.sno_match.proofs.EntryLaws.{at_place}
 use Rattle.sno_match.proofs.CountLaws.{trace_is, trace_size}
@@ -56,7 +56,7 @@ last-way V.Exhausted way h = refl
 last-way V.Aborted way h = refl
 last-way V.Limit way h = refl
 
-pub told_again : (old m : Session) (start : ℕ) (points : List Point) (event : Told) → IsMatch m start points (S.Ended event) → old.told ≡ m.told
+pub told_again : (old m : Matching) (start : ℕ) (points : List Point) (event : Told) → IsMatch m start points (S.Ended event) → old.told ≡ m.told
     → old.steps ≡ m.steps → old.way ≡ m.way → old.ended ≡ true → m.waits ≡ false → m.ended ≡ true → IsTold old m event
 told_again old m start points event inv told steps way over waits' ended' =
     let size : length (trace_of m) ≡ m.told + 0 = trace_size m start points (S.Ended event) inv in record {
@@ -80,7 +80,7 @@ told_again old m start points event inv told steps way over waits' ended' =
 
 -- what comes of what was told later
 
-pub same_then : (o a n : Session) → SameMatch o a → SameMatch a n → SameMatch o n
+pub same_then : (o a n : Matching) → SameMatch o a → SameMatch a n → SameMatch o n
 same_then o a n h k = record {
   pattern = k.pattern ∙ h.pattern;
   subject = k.subject ∙ h.subject;
@@ -90,7 +90,7 @@ same_then o a n h k = record {
   trace = k.trace ∙ h.trace;
 }
 
-pub stays_then : (o a n : Session) → StaysAt o a → StaysAt a n → StaysAt o n
+pub stays_then : (o a n : Matching) → StaysAt o a → StaysAt a n → StaysAt o n
 stays_then o a n h k = record {
   told = k.told ∙ h.told;
   way = k.way ∙ h.way;
@@ -99,10 +99,10 @@ stays_then o a n h k = record {
   steps = omega (arith, h.steps, k.steps);
 }
 
-pub goes_then : (o a n : Session) → GoesOn o a → GoesOn a n → GoesOn o n
+pub goes_then : (o a n : Matching) → GoesOn o a → GoesOn a n → GoesOn o n
 goes_then o a n h k = record { nodes = k.nodes ∙ h.nodes; same = same_then o a n h.same k.same; stays = stays_then o a n h.stays k.stays }
 
-pub told_then : (o a n : Session) (event : Told) → StaysAt o a → IsTold a n event → IsTold o n event
+pub told_then : (o a n : Matching) (event : Told) → StaysAt o a → IsTold a n event → IsTold o n event
 told_then o a n event h k = record {
   at = k.at;
   count = let t = h.told in let c = k.count in omega (arith, t, c);
@@ -121,23 +121,23 @@ not_ended (S.Ended event) h = absurd (h event refl)
 
 -- a match, seen as o, is lent the table of this call
 
-module _ (o : Session) (nodes : List Node) (pattern : PatId) (s : List ℕ) (anchored : Bool) (limit : ℕ) (answers : List (Option PatId)) (told steps : ℕ)
+module _ (o : Matching) (nodes : List Node) (pattern : PatId) (s : List ℕ) (anchored : Bool) (limit : ℕ) (answers : List (Option PatId)) (told steps : ℕ)
     (state : State) (way : List Pending) (points : List Point) (records start : ℕ)
     (view : seen nodes pattern s anchored limit answers told steps state way points records ≡ o)
     (inv : IsMatch (seen nodes pattern s anchored limit answers told steps state way points records) start points state)
     (lent patterns : List Node) (is : lent ≡ patterns) (table : Begins o.nodes patterns) where
-  abbrev over_table : List Node → Session
+  abbrev over_table : List Node → Matching
   over_table n = seen n pattern s anchored limit answers told steps state way points records
 
   begins_with : Begins nodes lent
-  begins_with = (table.0, is ∙ table.1 ∙ ap (λ (x : Session). x.nodes ++ table.0) (sym view))
+  begins_with = (table.0, is ∙ table.1 ∙ ap (λ (x : Matching). x.nodes ++ table.0) (sym view))
 
   pub lent_match : IsMatch (over_table lent) start points state
   lent_match = grown (over_table nodes) lent begins_with start points state inv
 
   pub lent_same : SameMatch o (over_table lent)
   lent_same =
-      subst (λ (x : Session). SameMatch x (over_table lent)) view
+      subst (λ (x : Matching). SameMatch x (over_table lent)) view
       (record {
         pattern = refl;
         subject = refl;
@@ -151,7 +151,7 @@ module _ (o : Session) (nodes : List Node) (pattern : PatId) (s : List ℕ) (anc
   lent_again event e =
       let over : ended state ≡ true = ap ended e in
       let not_waiting : waits state ≡ false = ap waits e in
-      subst (λ (x : Session). IsTold x (over_table lent) event) view
+      subst (λ (x : Matching). IsTold x (over_table lent) event) view
       (told_again (over_table nodes) (over_table lent) start points event (subst (λ (st : State). IsMatch (over_table lent) start points st) e lent_match) refl
       refl refl over not_waiting over)
 
@@ -161,11 +161,11 @@ module _ (o : Session) (nodes : List Node) (pattern : PatId) (s : List ℕ) (anc
     open_end = not_ended state on
 
     not_waiting : waits state ≡ false
-    not_waiting = ap (λ (x : Session). x.waits) view ∙ asked
+    not_waiting = ap (λ (x : Matching). x.waits) view ∙ asked
 
     pub lent_stays : StaysAt o (over_table lent)
-    lent_stays = subst (λ (x : Session). StaysAt x (over_table lent)) view
+    lent_stays = subst (λ (x : Matching). StaysAt x (over_table lent)) view
         (record { told = refl; way = refl; waits = not_waiting; ended = open_end; steps = omega arith })
 
     pub never_again : o.ended ≡ true → ⊥
-    never_again h = let clash : true ≡ false = sym h ∙ ap (λ (x : Session). x.ended) (sym view) ∙ open_end in cc
+    never_again h = let clash : true ≡ false = sym h ∙ ap (λ (x : Matching). x.ended) (sym view) ∙ open_end in cc

@@ -16,10 +16,10 @@ use Rattle.sno_match.specs.declared.goal.Goal.{Goal as Numbered}
 use Rattle.sno_match.specs.declared.goal.Goal.TheVariants as N
 use Rattle.sno_match.specs.declared.event.Pending.{Pending}
 use Rattle.sno_match.specs.declared.goal.Mark.TheVariants.{Enter, Next}
-use Rattle.sno_match.specs.Search.{Match, CloseRepeat, Exhausted, Aborted, Limit, Assign, Cursor, Value, Answer, Outcome, Gives, Search, emit, further}
+use Rattle.sno_match.specs.Search.{Match, CloseRepeat, Exhausted, Aborted, Limit, Assign, Cursor, Value, Answer, SearchResult, Gives, Search, emit, further}
 use Rattle.sno_match.specs.Search.{with_answer, if_moved, first_goal, search, assigns}
 use Rattle.sno_match.specs.Point.{Point, with_front, rest_of}
-use Rattle.sno_match.specs.Reading.{ends_from, goals_of, goal_of, body_of, after_pattern, resume, reading, waiting, HasNext}
+use Rattle.sno_match.specs.Remaining.{ends_from, goals_of, goal_of, body_of, after_pattern, resume, remaining, waiting, HasNext}
 use Rattle.sno_match.specs.Plan.{point_at, Goes, IsDue, IsPlan, KeepsScopes, end_plan}
 use Rattle.sno_match.specs.declared.goal.Mark.{Mark}
 use Rattle.sno_match.specs.Scopes.{opened_at, opened}
@@ -37,26 +37,26 @@ module _ (nodes : List Node) (s : List ℕ) where
 
   module _ (start : ℕ) (rest : List Numbered) (c : ℕ) (pending : List Pending) (below : List Point) (answers : List Answer) (left : ℕ) where
     -- entering a goal
-    step : (goal : Numbered) → reading nodes s start (point_at goal rest c pending Enter ∷ below) answers (suc left) ≡
+    step : (goal : Numbered) → remaining nodes s start (point_at goal rest c pending Enter ∷ below) answers (suc left) ≡
         resume nodes s start below (first_goal s (search s start) (goal_of nodes goal) (goals_of nodes rest) c pending answers left)
     step goal = ap (resume nodes s start below) (search-step s start (goal_of nodes goal) (goals_of nodes rest) c pending answers left)
 
     -- entering a pattern whose tree is known
     step_into : (id : PatId) (p : Pattern) → tree nodes id.0 ≡ p
-        → reading nodes s start (point_at (N.Match id) rest c pending Enter ∷ below) answers (suc left) ≡
+        → remaining nodes s start (point_at (N.Match id) rest c pending Enter ∷ below) answers (suc left) ≡
         resume nodes s start below (first_goal s (search s start) (Match p) (goals_of nodes rest) c pending answers left)
     step_into id p t = step (N.Match id)
         ∙ ap (λ x. resume nodes s start below (first_goal s (search s start) (Match x) (goals_of nodes rest) c pending answers left)) t
 
     -- taking up a pattern's next alternative
     next_of : (id : PatId) (p : Pattern) (i : ℕ) → tree nodes id.0 ≡ p → (n : ℕ)
-        → reading nodes s start (point_at (N.Match id) rest c pending (Next i) ∷ below) answers n ≡
+        → remaining nodes s start (point_at (N.Match id) rest c pending (Next i) ∷ below) answers n ≡
         resume nodes s start below (after_pattern s start p (goals_of nodes rest) c pending i (Gives [] answers n Exhausted))
     next_of id p i t n = ap (λ x. resume nodes s start below (after_pattern s start x (goals_of nodes rest) c pending i (Gives [] answers n Exhausted))) t
 
     -- a new point above one that stays
     above : (id : PatId) (p : Pattern) (front : List Numbered) (at i : ℕ) → tree nodes id.0 ≡ p →
-        reading nodes s start (with_front front at (point_at (N.Match id) rest c pending Enter) ∷ point_at (N.Match id) rest c pending
+        remaining nodes s start (with_front front at (point_at (N.Match id) rest c pending Enter) ∷ point_at (N.Match id) rest c pending
         (Next i) ∷ below) answers left ≡
         resume nodes s start below
         (after_pattern s start p (goals_of nodes rest) c pending i (search s start (goals_of nodes (front ++ rest)) at pending answers left))
@@ -65,8 +65,8 @@ module _ (nodes : List Node) (s : List ℕ) where
         (after_pattern s start x (goals_of nodes rest) c pending i (search s start (goals_of nodes (front ++ rest)) at pending answers left))) t
 
     -- nothing told
-    silent : (points : List Point) → reading nodes s start points answers left ≡ emit [] (reading nodes s start points answers left)
-    silent points = sym (emit-none (reading nodes s start points answers left))
+    silent : (points : List Point) → remaining nodes s start points answers left ≡ emit [] (remaining nodes s start points answers left)
+    silent points = sym (emit-none (remaining nodes s start points answers left))
 
   pub cat : (id p q : PatId) (c : ℕ) → tree nodes id.0 ≡ Cat (tree nodes p.0) (tree nodes q.0)
       → Goes nodes s (N.Match id) c Enter (λ left. []) (λ point below. with_front (N.Match p ∷ N.Match q ∷ []) c point ∷ below)
@@ -98,7 +98,7 @@ module _ (nodes : List Node) (s : List ℕ) where
         resume-exhausted nodes s start below answers left marked ∙ silent start rest c pending below answers left below
 
     -- the ends behind one with a number
-    more_ends : (i next : ℕ) → slice_get (ends a s c) i ≡ Some next → (f : ℕ → Search) (outcome : Outcome) → further outcome (map f (drop i (ends a s c)))
+    more_ends : (i next : ℕ) → slice_get (ends a s c) i ≡ Some next → (f : ℕ → Search) (outcome : SearchResult) → further outcome (map f (drop i (ends a s c)))
         ≡ further outcome (map f (ends_from next (ends a s c)))
     more_ends i next h f outcome = ap (λ (es : List ℕ). further outcome (map f es)) (sym (from_end a s c i next inside h))
 
@@ -123,7 +123,7 @@ module _ (nodes : List Node) (s : List ℕ) where
         ∷ point_at (N.Match id) rest c pending (Next next) ∷ below)
 
     module _ (i e : ℕ) (h : end_of (tree nodes id.0) s c i ≡ Some e) where
-      from_here : (f : ℕ → Search) (outcome : Outcome) → further outcome (map f (ends_from e (ends a s c))) ≡ further outcome (map f (drop i (ends a s c)))
+      from_here : (f : ℕ → Search) (outcome : SearchResult) → further outcome (map f (ends_from e (ends a s c))) ≡ further outcome (map f (drop i (ends a s c)))
       from_here f outcome = sym (more_ends i e (is_end i (Some e) h) f outcome)
 
       leaf_due : IsDue nodes s (N.Match id) c (Next e)
@@ -216,7 +216,7 @@ module _ (nodes : List Node) (s : List ℕ) where
 
     pub back_into_fence : tree nodes id.0 ≡ Fence →
         (start : ℕ) (rest : List Numbered) (pending : List Pending) (below : List Point) (answers : List Answer) (left : ℕ) →
-        reading nodes s start (point_at (N.Match id) rest c pending (Next i) ∷ below) answers left ≡ Gives [] answers left Aborted
+        remaining nodes s start (point_at (N.Match id) rest c pending (Next i) ∷ below) answers left ≡ Gives [] answers left Aborted
     back_into_fence t start rest pending below answers left = next_of start rest c pending below answers left id Fence i t left
         ∙ resume-stop nodes s start below [] answers left Aborted tt
 
@@ -249,7 +249,7 @@ module _ (nodes : List Node) (s : List ℕ) where
 
     pub abort : tree nodes id.0 ≡ Abort →
         (start : ℕ) (rest : List Numbered) (pending : List Pending) (below : List Point) (answers : List Answer) (left : ℕ) →
-        reading nodes s start (point_at (N.Match id) rest c pending Enter ∷ below) answers (suc left) ≡ Gives [] answers left Aborted
+        remaining nodes s start (point_at (N.Match id) rest c pending Enter ∷ below) answers (suc left) ≡ Gives [] answers left Aborted
     abort t start rest pending below answers left = step_into start rest c pending below answers left id Abort t
         ∙ resume-stop nodes s start below [] answers left Aborted tt
 
@@ -273,7 +273,7 @@ module _ (nodes : List Node) (s : List ℕ) where
 
     pub defer : (primitive : Option PrimitiveKind) (expression : ℕ) → tree nodes id.0 ≡ Defer primitive expression →
         (start : ℕ) (rest : List Numbered) (pending : List Pending) (below : List Point) (answers : List Answer) (left : ℕ) →
-        reading nodes s start (point_at (N.Match id) rest c pending Enter ∷ below) answers (suc left) ≡
+        remaining nodes s start (point_at (N.Match id) rest c pending Enter ∷ below) answers (suc left) ≡
         emit ((Value primitive expression, left) ∷ []) (waiting nodes s start (point_at (N.Match id) rest c pending Enter ∷ below) answers left)
     defer primitive expression t start rest pending below answers left =
         step_into start rest c pending below answers left id (Defer primitive expression) t ∙

@@ -16,11 +16,11 @@ use Rattle.sno_match.specs.Search.{Match, Exhausted, Aborted, Limit, Waiting, Ev
 use Rattle.sno_match.specs.Events.{in_trace, is_last, is_value, last_pending, last_count}
 use Rattle.sno_match.specs.Point.{Point, HasFirst}
 use Rattle.sno_match.specs.Top.{first_point}
-use Rattle.sno_match.specs.Reading.{IsStack}
+use Rattle.sno_match.specs.Remaining.{IsStack}
 use Rattle.sno_match.specs.State.{after, after_move, owed, HasAsked}
 use Rattle.sno_match.specs.Move.{Makes, entries, price, way_after, standing}
 use Rattle.sno_match.specs.Scopes.{HasCuts}
-use Rattle.sno_match.specs.Session.{Session, answers_of, trace_of, IsTold}
+use Rattle.sno_match.specs.Matching.{Matching, answers_of, trace_of, IsTold}
 use Rattle.sno_match.specs.Starts.{Passes}
 use Rattle.sno_match.specs.Running.{later, later_starts, to_come, counted, seen, IsMatch, GoesOn}
 use Rattle.sno_match.proofs.EntryLaws.{all_events-emit, length-counted, at_place, last_pending-append, last_count-append, entry-pending, entry-count}
@@ -39,7 +39,7 @@ pub first_cuts : (nodes : List Node) (left : ℕ) (pattern : PatId) (at : ℕ) (
     → new ≡ first_point (N.Match pattern) at ∷ [] → HasCuts nodes left new
 first_cuts nodes left pattern at new e = subst (HasCuts nodes left) (sym e) (record { scoped = (refl, tt); rising = tt })
 
-first_story : (m : Session) (more : List Answer) → whole (tree m.nodes m.pattern.0) m.subject m.anchored more m.limit
+first_story : (m : Matching) (more : List Answer) → whole (tree m.nodes m.pattern.0) m.subject m.anchored more m.limit
     ≡ to_come S.Going m 0 (first_point (N.Match m.pattern) 0 ∷ []) more m.limit
 first_story m more = by_mode m.anchored
   where
@@ -81,7 +81,7 @@ new_match nodes pattern s anchored limit points records h e few = record {
 }
 
 -- What one move or one start does to a match that goes on.
-pub record Leads (m : Session) (start0 : ℕ) (old : List Point) (told : Option Told) (steps start : ℕ) (points : List Point) (way : List Pending)
+pub record Leads (m : Matching) (start0 : ℕ) (old : List Point) (told : Option Told) (steps start : ℕ) (points : List Point) (way : List Pending)
     (records : ℕ) : Type 0 where
   pub steps_in : steps ≤ m.limit
   pub paid : m.steps + price told ≤ steps
@@ -95,10 +95,10 @@ pub record Leads (m : Session) (start0 : ℕ) (old : List Point) (told : Option 
   pub leads : (more : List Answer) → to_come S.Going m start0 old more (m.limit - m.steps) ≡ emit (entries told way (m.limit - steps))
       (to_come (after_move told) m start points more (m.limit - steps))
 
-module _ (m : Session) (start0 : ℕ) (old : List Point) (inv : IsMatch m start0 old S.Going) (told : Option Told) (steps start : ℕ) (points : List Point)
+module _ (m : Matching) (start0 : ℕ) (old : List Point) (inv : IsMatch m start0 old S.Going) (told : Option Told) (steps start : ℕ) (points : List Point)
     (way : List Pending) (records : ℕ)
     (l : Leads m start0 old told steps start points way records) where
-  abbrev after_it : ℕ → Session
+  abbrev after_it : ℕ → Matching
   after_it count = seen m.nodes m.pattern m.subject m.anchored m.limit m.answers count steps (after_move told) way points records
 
   story : (more : List Answer) → whole (tree m.nodes m.pattern.0) m.subject m.anchored (answers_of m.nodes m.answers ++ more) m.limit ≡
@@ -141,7 +141,7 @@ module _ (m : Session) (start0 : ℕ) (old : List Point) (inv : IsMatch m start0
 
 -- an event was told
 
-module _ (m : Session) (start : ℕ) (points : List Point) (left : ℕ) where
+module _ (m : Matching) (start : ℕ) (points : List Point) (left : ℕ) where
   -- what comes behind it
   abbrev behind : Told → List (Event × ℕ)
   behind V.Exhausted = []
@@ -159,13 +159,13 @@ module _ (m : Session) (start : ℕ) (points : List Point) (left : ℕ) where
   entry-first V.Aborted way = refl
   entry-first V.Limit way = refl
 
-pub waits_here : (m : Session) (start : ℕ) (points : List Point) (left : ℕ) → HasFirst points → to_come S.Waiting m start points [] left
+pub waits_here : (m : Matching) (start : ℕ) (points : List Point) (left : ℕ) → HasFirst points → to_come S.Waiting m start points [] left
     ≡ Gives [] [] left Waiting
 waits_here m start [] left h = elim h [ ]
 waits_here m start (point ∷ rest) left h =
     ap (λ r. further r (later m start)) (resume-stop m.nodes m.subject start rest [] [] left Waiting tt) ∙ further-stop [] [] left Waiting (later m start) tt
 
-module _ (m : Session) (start : ℕ) (points : List Point) (left : ℕ) where
+module _ (m : Matching) (start : ℕ) (points : List Point) (left : ℕ) where
   behind-stops : (event : Told) → IsTrue (is_last event || is_value event) → HasAsked (after event) points → behind m start points left event ≡ []
   behind-stops (V.Way start' end) h k = absurd (cc)
   behind-stops (V.Assign target start' end) h k = absurd (cc)
@@ -175,10 +175,10 @@ module _ (m : Session) (start : ℕ) (points : List Point) (left : ℕ) where
   behind-stops V.Aborted h k = refl
   behind-stops V.Limit h k = refl
 
-module _ (m : Session) (start0 : ℕ) (old : List Point) (inv : IsMatch m start0 old S.Going) (event : Told) (steps start : ℕ) (points : List Point)
+module _ (m : Matching) (start0 : ℕ) (old : List Point) (inv : IsMatch m start0 old S.Going) (event : Told) (steps start : ℕ) (points : List Point)
     (way : List Pending) (records : ℕ)
     (l : Leads m start0 old (Some event) steps start points way records) where
-  abbrev next : Session
+  abbrev next : Matching
   next = after_it m start0 old inv (Some event) steps start points way records l (m.told + 1)
 
   abbrev rest : List (Event × ℕ)
@@ -223,7 +223,7 @@ module _ (m : Session) (start0 : ℕ) (old : List Point) (inv : IsMatch m start0
 
 -- nothing was told
 
-module _ (m : Session) (start0 : ℕ) (old : List Point) (inv : IsMatch m start0 old S.Going) (steps start : ℕ) (points : List Point)
+module _ (m : Matching) (start0 : ℕ) (old : List Point) (inv : IsMatch m start0 old S.Going) (steps start : ℕ) (points : List Point)
     (way : List Pending) (records : ℕ)
     (l : Leads m start0 old None steps start points way records) where
   pub led_on : GoesOn m (after_it m start0 old inv None steps start points way records l m.told)
@@ -235,7 +235,7 @@ module _ (m : Session) (start0 : ℕ) (old : List Point) (inv : IsMatch m start0
 
 -- a move of the stack is a move of the match
 
-module _ (m : Session) (start : ℕ) (points : List Point) (answers : List Answer) (left : ℕ) where
+module _ (m : Matching) (start : ℕ) (points : List Point) (answers : List Answer) (left : ℕ) where
   stand : (state : State) → (state ≡ S.Ended V.Exhausted → ⊥) → further (standing state m.nodes m.subject start points answers left) (later m start)
       ≡ to_come state m start points answers left
   stand S.Going h = refl
@@ -258,7 +258,7 @@ not_exhausted (Some V.Exhausted) h e = h refl
 not_exhausted (Some V.Aborted) h e = cc
 not_exhausted (Some V.Limit) h e = cc
 
-pub move_leads : (m : Session) (start : ℕ) (old : List Point) (told : Option Told) (steps : ℕ) (points : List Point) (way : List Pending) (records : ℕ)
+pub move_leads : (m : Matching) (start : ℕ) (old : List Point) (told : Option Told) (steps : ℕ) (points : List Point) (way : List Pending) (records : ℕ)
     → start ≤ length m.subject → IsStack m.nodes m.subject points → HasCuts m.nodes (m.limit - steps) points →
     records + 2 * m.steps + owed (after_move told) ≤ m.records + 2 * steps → Makes m.nodes m.subject start m.limit old m.steps m.way told points steps way →
     Leads m start old told steps start points way records
@@ -292,7 +292,7 @@ pub last_start : (anchored : Bool) (s : List ℕ) (start : ℕ) → start ≡ le
 last_start true s start h = refl
 last_start false s start h = let z : length s - start ≡ 0 = omega arith in ap (count_from (start + 1)) z
 
-module _ (m : Session) (start : ℕ) (points : List Point) (inv : IsMatch m start points S.Going) (empty : length points ≡ 0) where
+module _ (m : Matching) (start : ℕ) (points : List Point) (inv : IsMatch m start points S.Going) (empty : length points ≡ 0) where
   bare : (more : List Answer) (left : ℕ) → to_come S.Going m start points more left ≡ to_come S.Going m start [] more left
   bare more left = ap (λ (ps : List Point). to_come S.Going m start ps more left) (no_points points empty)
 

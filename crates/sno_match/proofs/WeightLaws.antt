@@ -5,11 +5,11 @@ use Rattle.sno_pattern.specs.Pattern.{Pattern, Leaf, Fence, Cut, Abort, Succeed,
 use Rattle.sno_pattern.specs.Ends.{ends}
 use Rattle.sno_match.specs.declared.event.Pending.{Pending}
 use Rattle.sno_match.specs.Search.{Goal, Match, CloseCond, CloseImm, CloseRepeat, Exhausted, Aborted, Limit, Waiting, Event, Assign, Cursor, Value, Answer}
-use Rattle.sno_match.specs.Search.{Outcome, Gives, Search, Finder, emit, or_else, further, tries, abort_if_exhausted, with_answer, if_moved, first_goal}
+use Rattle.sno_match.specs.Search.{SearchResult, Gives, Search, Finder, emit, or_else, further, tries, abort_if_exhausted, with_answer, if_moved, first_goal}
 use Rattle.sno_match.specs.Search.{search_within, search, whole, starts, CloseCut, CutOff, cut_off_if_exhausted, exhausted_if_cut_off}
 
 -- the events told, and two for each step left
-abbrev pub weight : Outcome → ℕ
+abbrev pub weight : SearchResult → ℕ
 weight (Gives events answers left verdict) = length events + 2 * left
 
 abbrev pub IsLight : Search → Type 0
@@ -19,10 +19,10 @@ abbrev pub AllLight : List Search → Type 0
 AllLight [] = Unit {0}
 AllLight (f ∷ fs) = IsLight f × AllLight fs
 
-pub weight-emit : (es : List (Event × ℕ)) (r : Outcome) → weight (emit es r) ≡ length es + weight r
+pub weight-emit : (es : List (Event × ℕ)) (r : SearchResult) → weight (emit es r) ≡ length es + weight r
 weight-emit es (Gives fs answers left verdict) = omega (arith, length-append es fs)
 
-or_else-weight : (r : Outcome) (f : Search) → IsLight f → weight (or_else r f) ≤ weight r
+or_else-weight : (r : SearchResult) (f : Search) → IsLight f → weight (or_else r f) ≤ weight r
 or_else-weight (Gives es answers zero Exhausted) f h = omega arith
 or_else-weight (Gives es answers (suc left) Exhausted) f h = omega (arith, weight-emit es (f answers left), h answers left)
 or_else-weight (Gives es answers left Aborted) f h = omega arith
@@ -30,7 +30,7 @@ or_else-weight (Gives es answers left Limit) f h = omega arith
 or_else-weight (Gives es answers left Waiting) f h = omega arith
 or_else-weight (Gives es answers left (CutOff m)) f h = omega arith
 
-further-weight : (r : Outcome) (fs : List Search) → AllLight fs → weight (further r fs) ≤ weight r
+further-weight : (r : SearchResult) (fs : List Search) → AllLight fs → weight (further r fs) ≤ weight r
 further-weight r [] h = omega arith
 further-weight r (f ∷ fs) h = omega (arith, further-weight (or_else r f) fs h.1, or_else-weight r f h.0)
 
@@ -46,21 +46,21 @@ light-replicate : (f : Search) (n : ℕ) → IsLight f → AllLight (replicate n
 light-replicate f zero h = tt
 light-replicate f (suc n) h = (h, light-replicate f n h)
 
-weight-abort : (r : Outcome) → weight (abort_if_exhausted r) ≡ weight r
+weight-abort : (r : SearchResult) → weight (abort_if_exhausted r) ≡ weight r
 weight-abort (Gives es answers left Exhausted) = refl
 weight-abort (Gives es answers left Aborted) = refl
 weight-abort (Gives es answers left Limit) = refl
 weight-abort (Gives es answers left Waiting) = refl
 weight-abort (Gives es answers left (CutOff m)) = refl
 
-weight-cut : (m : ℕ) (r : Outcome) → weight (cut_off_if_exhausted m r) ≡ weight r
+weight-cut : (m : ℕ) (r : SearchResult) → weight (cut_off_if_exhausted m r) ≡ weight r
 weight-cut m (Gives es answers left Exhausted) = refl
 weight-cut m (Gives es answers left Aborted) = refl
 weight-cut m (Gives es answers left Limit) = refl
 weight-cut m (Gives es answers left Waiting) = refl
 weight-cut m (Gives es answers left (CutOff k)) = refl
 
-weight-ended : (m : ℕ) (r : Outcome) → weight (exhausted_if_cut_off m r) ≡ weight r
+weight-ended : (m : ℕ) (r : SearchResult) → weight (exhausted_if_cut_off m r) ≡ weight r
 weight-ended m (Gives es answers left Exhausted) = refl
 weight-ended m (Gives es answers left Aborted) = refl
 weight-ended m (Gives es answers left Limit) = refl
@@ -139,6 +139,6 @@ whole-light p s anchored =
     (light-map (λ b. search s b (Match p ∷ []) b []) (starts anchored s) (λ b answers left. within-light s b left (Match p ∷ []) b [] answers left))
 
 -- what was told is not much
-pub few_told : (p : Pattern) (s : List ℕ) (anchored : Bool) (limit : ℕ) (answers : List Answer) (es : List (Event × ℕ)) (r : Outcome)
+pub few_told : (p : Pattern) (s : List ℕ) (anchored : Bool) (limit : ℕ) (answers : List Answer) (es : List (Event × ℕ)) (r : SearchResult)
     → whole p s anchored answers limit ≡ emit es r → length es ≤ 2 * limit + 1
 few_told p s anchored limit answers es r e = omega (arith, whole-light p s anchored answers limit, ap weight e, weight-emit es r)

@@ -9,12 +9,12 @@ use Rattle.sno_pattern.proofs.EndsRange.{Within}
 use Rattle.sno_match.specs.declared.event.Event.{Event as Told}
 use Rattle.sno_match.specs.declared.event.Pending.{Pending}
 use Rattle.sno_match.specs.Search.{Goal, Match, CloseCond, CloseImm, CloseRepeat, assigns, Verdict, Exhausted, Aborted, Limit, Waiting, Event, Assign, Cursor}
-use Rattle.sno_match.specs.Search.{Value, Answer, Outcome, Gives, Search, Finder, emit, or_else, further, tries, abort_if_exhausted, with_answer, if_moved}
+use Rattle.sno_match.specs.Search.{Value, Answer, SearchResult, Gives, Search, Finder, emit, or_else, further, tries, abort_if_exhausted, with_answer, if_moved}
 use Rattle.sno_match.specs.Search.{first_goal, search_within, search, starts, whole, last_event, all_events, trace, CloseCut, CutOff, cut_off_if_exhausted}
 use Rattle.sno_match.specs.Search.{exhausted_if_cut_off}
 use Rattle.sno_match.specs.Events.{in_trace}
 use Rattle.sno_match.specs.Within.{IsPart, IsWithin}
-use Rattle.sno_match.specs.Session.{Session, answers_of, IsTold}
+use Rattle.sno_match.specs.Matching.{Matching, answers_of, IsTold}
 use Rattle.sno_match.proofs.Finds.{Each, Each-map, Each-to, Each-append}
 use Rattle.sno_match.proofs.EndsRange.{ends-within}
 use Rattle.sno_match.proofs.QuietWays.{starts-within}
@@ -22,16 +22,16 @@ use Rattle.sno_match.proofs.QuietWays.{starts-within}
 abbrev IsInside : ℕ → Event × ℕ → Type 0
 IsInside n told = IsWithin n told.0
 
-abbrev Tells : ℕ → Outcome → Type 0
+abbrev Tells : ℕ → SearchResult → Type 0
 Tells n (Gives events answers left verdict) = Each (IsInside n) events
 
 abbrev Always : ℕ → Search → Type 0
 Always n next = (answers : List Answer) (left : ℕ) → Tells n (next answers left)
 
-tells-emit : (n : ℕ) (before : List (Event × ℕ)) (outcome : Outcome) → Each (IsInside n) before → Tells n outcome → Tells n (emit before outcome)
+tells-emit : (n : ℕ) (before : List (Event × ℕ)) (outcome : SearchResult) → Each (IsInside n) before → Tells n outcome → Tells n (emit before outcome)
 tells-emit n before (Gives events answers left verdict) b h = Each-append (IsInside n) before events b h
 
-tells-or : (n : ℕ) (outcome : Outcome) (next : Search) → Tells n outcome → Always n next → Tells n (or_else outcome next)
+tells-or : (n : ℕ) (outcome : SearchResult) (next : Search) → Tells n outcome → Always n next → Tells n (or_else outcome next)
 tells-or n (Gives events answers zero Exhausted) next h k = h
 tells-or n (Gives events answers (suc left) Exhausted) next h k = tells-emit n events (next answers left) h (k answers left)
 tells-or n (Gives events answers left Aborted) next h k = h
@@ -39,7 +39,7 @@ tells-or n (Gives events answers left Limit) next h k = h
 tells-or n (Gives events answers left Waiting) next h k = h
 tells-or n (Gives events answers left (CutOff m)) next h k = h
 
-tells-further : (n : ℕ) (outcome : Outcome) (rest : List Search) → Tells n outcome → Each (Always n) rest → Tells n (further outcome rest)
+tells-further : (n : ℕ) (outcome : SearchResult) (rest : List Search) → Tells n outcome → Each (Always n) rest → Tells n (further outcome rest)
 tells-further n outcome [] h k = h
 tells-further n outcome (next ∷ rest) h k = tells-further n (or_else outcome next) rest (tells-or n outcome next h k.0) k.1
 
@@ -47,21 +47,21 @@ tells-tries : (n : ℕ) (searches : List Search) → Each (Always n) searches �
 tells-tries n [] h answers left = tt
 tells-tries n (first ∷ rest) h answers left = tells-further n (first answers left) rest (h.0 answers left) h.1
 
-tells-abort : (n : ℕ) (outcome : Outcome) → Tells n outcome → Tells n (abort_if_exhausted outcome)
+tells-abort : (n : ℕ) (outcome : SearchResult) → Tells n outcome → Tells n (abort_if_exhausted outcome)
 tells-abort n (Gives events answers left Exhausted) h = h
 tells-abort n (Gives events answers left Aborted) h = h
 tells-abort n (Gives events answers left Limit) h = h
 tells-abort n (Gives events answers left Waiting) h = h
 tells-abort n (Gives events answers left (CutOff m)) h = h
 
-tells-cut : (n m : ℕ) (outcome : Outcome) → Tells n outcome → Tells n (cut_off_if_exhausted m outcome)
+tells-cut : (n m : ℕ) (outcome : SearchResult) → Tells n outcome → Tells n (cut_off_if_exhausted m outcome)
 tells-cut n m (Gives events answers left Exhausted) h = h
 tells-cut n m (Gives events answers left Aborted) h = h
 tells-cut n m (Gives events answers left Limit) h = h
 tells-cut n m (Gives events answers left Waiting) h = h
 tells-cut n m (Gives events answers left (CutOff k)) h = h
 
-tells-ended : (n m : ℕ) (outcome : Outcome) → Tells n outcome → Tells n (exhausted_if_cut_off m outcome)
+tells-ended : (n m : ℕ) (outcome : SearchResult) → Tells n outcome → Tells n (exhausted_if_cut_off m outcome)
 tells-ended n m (Gives events answers left Exhausted) h = h
 tells-ended n m (Gives events answers left Aborted) h = h
 tells-ended n m (Gives events answers left Limit) h = h
@@ -170,7 +170,7 @@ last-within n Limit left = (tt, tt)
 last-within n Waiting left = tt
 last-within n (CutOff m) left = (tt, tt)
 
-all-within : (n : ℕ) (outcome : Outcome) → Tells n outcome → Each (IsInside n) (all_events outcome)
+all-within : (n : ℕ) (outcome : SearchResult) → Tells n outcome → Each (IsInside n) (all_events outcome)
 all-within n (Gives events answers left verdict) h = Each-append (IsInside n) events (last_event verdict left) h (last-within n verdict left)
 
 told-at : (P : Event × ℕ → Type 0) (events : List (Event × ℕ)) (k : ℕ) (told : Event × ℕ) → slice_get events k ≡ Some told → Each P events → P told
@@ -187,7 +187,7 @@ trace_within p s anchored limit answers k told e =
     (all-within (length s) (whole p s anchored answers limit) (whole-tells p s anchored answers limit)))
 
 -- and so the one that a match tells
-pub told_within : (old new : Session) (event : Told) → IsTold old new event → IsWithin (length new.subject) (in_trace event new.way)
+pub told_within : (old new : Matching) (event : Told) → IsTold old new event → IsWithin (length new.subject) (in_trace event new.way)
 told_within old new event t =
     trace_within (tree new.nodes new.pattern.0) new.subject new.anchored new.limit (answers_of new.nodes new.answers) (new.told - 1)
     (in_trace event new.way, new.steps) t.at

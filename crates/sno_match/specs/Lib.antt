@@ -6,11 +6,11 @@ pub mod Search
 pub mod Ways
 pub mod Events
 pub mod Within
-pub mod Session
+pub mod Matching
 pub mod Shared
 pub mod Point
 pub mod Top
-pub mod Reading
+pub mod Remaining
 pub mod Scopes
 pub mod Plan
 pub mod State

@@ -15,7 +15,7 @@ use Rattle.sno_match.specs.Events.{in_trace, cost, pending_after}
 use Rattle.sno_match.specs.Point.{Point, with_front, replaced, branched, closed, cut_back, below}
 use Rattle.sno_match.specs.State.{verdict_of, after_move, HasAsked}
 use Rattle.sno_match.specs.Plan.{goals_in}
-use Rattle.sno_match.specs.Reading.{reading, waiting}
+use Rattle.sno_match.specs.Remaining.{remaining, waiting}
 
 -- what a move adds to the events; a last event is a verdict, and stands behind them
 abbrev pub entries : Option Told → List Pending → ℕ → List (Event × ℕ)
@@ -35,7 +35,7 @@ way_after (Some event) way was = pending_after (in_trace event way) was
 
 -- the searches that a stack is, in a state
 abbrev pub standing : State → List Node → (s : List ℕ) (start : ℕ) → List Point → Search
-standing S.Going nodes s start points answers left = reading nodes s start points answers left
+standing S.Going nodes s start points answers left = remaining nodes s start points answers left
 standing S.Waiting nodes s start points answers left = waiting nodes s start points answers left
 standing (S.Ended event) nodes s start points answers left = Gives [] answers left (verdict_of event)
 
@@ -49,7 +49,7 @@ pub record Makes (nodes : List Node) (s : List ℕ) (start limit : ℕ) (old : L
   pub more : told ≡ Some V.Exhausted → ⊥
   pub asked : HasAsked (after_move told) new
   pub pending : way ≡ way_after told way was
-  pub leads : (answers : List Answer) → reading nodes s start old answers (limit - steps0)
+  pub leads : (answers : List Answer) → remaining nodes s start old answers (limit - steps0)
       ≡ emit (entries told way (limit - steps)) (standing (after_move told) nodes s start new answers (limit - steps))
 
 -- the plan takes a step

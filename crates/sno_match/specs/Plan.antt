@@ -11,7 +11,7 @@ use Rattle.sno_match.specs.declared.plan.Plan.{Plan}
 use Rattle.sno_match.specs.declared.plan.Plan.TheVariants as P
 use Rattle.sno_match.specs.Search.{Aborted, Limit, Event, Assign, Cursor, Value, Answer, Gives, emit}
 use Rattle.sno_match.specs.Point.{Point, with_front, rest_of, cut_back}
-use Rattle.sno_match.specs.Reading.{reading, waiting, AllMarked, AllKnown, MarkFits}
+use Rattle.sno_match.specs.Remaining.{remaining, waiting, AllMarked, AllKnown, MarkFits}
 use Rattle.sno_match.specs.Scopes.{closes, opened, opens, RiseFrom}
 use Rattle.sno_match.specs.declared.goal.Goal.TheVariants as N
 use Rattle.sno_value.specs.declared.ids.PatId.{PatId}
@@ -37,14 +37,14 @@ abbrev pub Goes : List Node → List ℕ → Numbered → ℕ → Mark → (ℕ 
 Goes nodes s goal cursor mark told next =
     (start : ℕ) (rest : List Numbered) (pending : List Pending) (below : List Point)
     (answers : List Answer) → AllMarked below →
-    (left : ℕ) → reading nodes s start (point_at goal rest cursor pending mark ∷ below) answers (suc left) ≡
-    emit (told left) (reading nodes s start (next (point_at goal rest cursor pending mark) below) answers left)
+    (left : ℕ) → remaining nodes s start (point_at goal rest cursor pending mark ∷ below) answers (suc left) ≡
+    emit (told left) (remaining nodes s start (next (point_at goal rest cursor pending mark) below) answers left)
 
 -- a step is due
 abbrev pub IsDue : List Node → List ℕ → Numbered → ℕ → Mark → Type 0
 IsDue nodes s goal cursor mark =
     (start : ℕ) (rest : List Numbered) (pending : List Pending) (below : List Point) (answers : List Answer) →
-    reading nodes s start (point_at goal rest cursor pending mark ∷ below) answers zero ≡ Gives [] answers zero Limit
+    remaining nodes s start (point_at goal rest cursor pending mark ∷ below) answers zero ≡ Gives [] answers zero Limit
 
 -- the goal is this cut of the table
 abbrev pub IsCut : List Node → Numbered → PatId → Type 0
@@ -77,7 +77,7 @@ IsPlan nodes s goal cursor mark (P.Cursor target) =
 IsPlan nodes s goal cursor mark (P.Ask primitive expression) =
     ((start : ℕ) (rest : List Numbered) (pending : List Pending) (below : List Point)
     (answers : List Answer) (left : ℕ) →
-    reading nodes s start (point_at goal rest cursor pending mark ∷ below) answers (suc left) ≡
+    remaining nodes s start (point_at goal rest cursor pending mark ∷ below) answers (suc left) ≡
     emit ((Value primitive expression.0, left) ∷ [])
     (waiting nodes s start (point_at goal rest cursor pending mark ∷ below) answers left))
     × IsDue nodes s goal cursor mark
@@ -86,31 +86,32 @@ IsPlan nodes s goal cursor mark P.Fail =
 IsPlan nodes s goal cursor mark P.Abort =
     ((start : ℕ) (rest : List Numbered) (pending : List Pending) (below : List Point)
     (answers : List Answer) (left : ℕ) →
-    reading nodes s start (point_at goal rest cursor pending mark ∷ below) answers (suc left)
+    remaining nodes s start (point_at goal rest cursor pending mark ∷ below) answers (suc left)
     ≡ Gives [] answers left Aborted) × IsDue nodes s goal cursor mark
 IsPlan nodes s goal cursor mark P.BackIntoFence =
     (start : ℕ) (rest : List Numbered) (pending : List Pending) (below : List Point)
     (answers : List Answer) (left : ℕ) →
-    reading nodes s start (point_at goal rest cursor pending mark ∷ below) answers left ≡ Gives [] answers left Aborted
+    remaining nodes s start (point_at goal rest cursor pending mark ∷ below) answers left
+    ≡ Gives [] answers left Aborted
 IsPlan nodes s goal cursor mark (P.EnterCut p) =
     ((start : ℕ) (rest : List Numbered) (pending : List Pending) (below : List Point)
     (answers : List Answer) (left : ℕ) →
-    reading nodes s start (point_at goal rest cursor pending mark ∷ below) answers (suc left) ≡
-    reading nodes s start (with_front (N.Match p ∷ N.CloseCut left (length below) ∷ []) cursor
+    remaining nodes s start (point_at goal rest cursor pending mark ∷ below) answers (suc left) ≡
+    remaining nodes s start (with_front (N.Match p ∷ N.CloseCut left (length below) ∷ []) cursor
     (point_at goal rest cursor pending mark)
     ∷ record (point_at goal rest cursor pending mark) { mark = Next left } ∷ below) answers left)
     × IsDue nodes s goal cursor mark × (p.0 < length nodes) × IsCut nodes goal p
 IsPlan nodes s goal cursor mark (P.CloseCut depth) =
     ((start left : ℕ) (rest : List Numbered) (pending : List Pending) (below : List Point) (answers : List Answer)
     → opens nodes below ≡ closes (goal ∷ rest) → RiseFrom (suc left) (opens nodes below) →
-    reading nodes s start (point_at goal rest cursor pending mark ∷ below) answers (suc left) ≡
-    reading nodes s start (cut_back depth (point_at goal rest cursor pending mark ∷ below)) answers left)
+    remaining nodes s start (point_at goal rest cursor pending mark ∷ below) answers (suc left) ≡
+    remaining nodes s start (cut_back depth (point_at goal rest cursor pending mark ∷ below)) answers left)
     × IsDue nodes s goal cursor mark × ((m : ℕ) × (goal ≡ N.CloseCut m depth))
 IsPlan nodes s goal cursor mark P.BackIntoCut =
     (start : ℕ) (rest : List Numbered) (pending : List Pending) (below : List Point) (answers : List Answer)
     → AllMarked below → (left : ℕ) →
-    reading nodes s start (point_at goal rest cursor pending mark ∷ below) answers left
-    ≡ reading nodes s start below answers left
+    remaining nodes s start (point_at goal rest cursor pending mark ∷ below) answers left
+    ≡ remaining nodes s start below answers left
 
 -- the goal closes no cut, and its further alternative is that of none
 abbrev pub IsPlain : List Node → Numbered → Type 0

@@ -12,23 +12,23 @@ use Rattle.sno_match.specs.Events.{last_pending, last_count}
 use Rattle.sno_match.specs.Search.{Match, Event, Answer, Search, Gives, emit, further, search, whole}
 use Rattle.sno_match.specs.Point.{Point}
 use Rattle.sno_match.specs.State.{verdict_of, waits, ended, over, owed, LastIn, HasAsked}
-use Rattle.sno_match.specs.Reading.{reading, waiting, IsStack}
+use Rattle.sno_match.specs.Remaining.{remaining, waiting, IsStack}
 use Rattle.sno_match.specs.Scopes.{HasCuts}
-use Rattle.sno_match.specs.Session.{Session, answers_of, SameMatch, StaysAt, IsTold}
+use Rattle.sno_match.specs.Matching.{Matching, answers_of, SameMatch, StaysAt, IsTold}
 
 -- the starts behind this one
 abbrev pub later_starts : Bool → List ℕ → ℕ → List ℕ
 later_starts true s start = []
 later_starts false s start = count_from (start + 1) (length s - start)
 
-abbrev pub later : Session → ℕ → List Search
+abbrev pub later : Matching → ℕ → List Search
 later m start = map (λ b. search m.subject b (Match (tree m.nodes m.pattern.0) ∷ []) b [])
     (later_starts m.anchored m.subject start)
 
 -- what is still to come: the stack, and then the later starts
-abbrev pub to_come : State → Session → ℕ → List Point → Search
+abbrev pub to_come : State → Matching → ℕ → List Point → Search
 to_come S.Going m start points answers left =
-    further (reading m.nodes m.subject start points answers left) (later m start)
+    further (remaining m.nodes m.subject start points answers left) (later m start)
 to_come S.Waiting m start points answers left =
     further (waiting m.nodes m.subject start points answers left) (later m start)
 to_come (S.Ended event) m start points answers left = Gives [] answers left (verdict_of event)
@@ -43,7 +43,7 @@ AnswersIn nodes (Some id ∷ answers) = (id.0 < length nodes) × AnswersIn nodes
 abbrev pub counted : ℕ → Event × ℕ → Event × ℕ
 counted limit told = (told.0, limit - told.1)
 
-pub record IsMatch (m : Session) (start : ℕ) (points : List Point) (state : State) : Type 0 where
+pub record IsMatch (m : Matching) (start : ℕ) (points : List Point) (state : State) : Type 0 where
   pub pattern_in : m.pattern.0 < length m.nodes
   pub answers_in : AnswersIn m.nodes m.answers
   pub steps_in : m.steps ≤ m.limit
@@ -66,7 +66,7 @@ pub record IsMatch (m : Session) (start : ℕ) (points : List Point) (state : St
 
 -- the session that is seen of a match
 abbrev pub seen : List Node → PatId → List ℕ → Bool → ℕ → List (Option PatId) → ℕ → ℕ → State → List Pending
-    → List Point → ℕ → Session
+    → List Point → ℕ → Matching
 seen nodes pattern subject anchored limit answers told steps state way points records =
     record {
       nodes = nodes;
@@ -85,16 +85,16 @@ seen nodes pattern subject anchored limit answers told steps state way points re
     }
 
 -- no event was told on the way
-pub record GoesOn (old new : Session) : Type 0 where
+pub record GoesOn (old new : Matching) : Type 0 where
   pub nodes : new.nodes ≡ old.nodes
   pub same : SameMatch old new
   pub stays : StaysAt old new
 
 -- how much is left to be done before the next event
-abbrev pub work : Session → ℕ
+abbrev pub work : Matching → ℕ
 work m = 2 * (m.limit - m.steps) + m.points
 
 -- what one move or one start does
-abbrev pub Advances : Session → Option Told → Session → Type 0
+abbrev pub Advances : Matching → Option Told → Matching → Type 0
 Advances old None new = GoesOn old new × (work new < work old)
 Advances old (Some event) new = (new.nodes ≡ old.nodes) × SameMatch old new × IsTold old new event

@@ -1,7 +1,7 @@
 //! A match that is asked for one event after another.
 ghost use Rattle.std.specs.Prelude.{◌≡◌, ◌<◌, ◌≤◌, ◌+◌, ◌-◌, ◌*◌, ◌++◌, [], ◌∷◌, false, true, length, drop, take, IfOk};
 ghost use Rattle.std.specs.Prelude.{IfSome, IsOk, OnOk, OnErr};
-ghost use Rattle.sno_match.specs.Session.{SameMatch, IsTold, StaysAt, IsCounted, TellsWays, Begins, begins, told_of};
+ghost use Rattle.sno_match.specs.Matching.{SameMatch, IsTold, StaysAt, IsCounted, TellsWays, Begins, begins, told_of};
 ghost use Rattle.sno_match.specs.Events.{in_trace, last_pending};
 ghost use Rattle.sno_match.specs.Within.{IsWithin};
 ghost use Rattle.sno_match.specs.State.{after};
@@ -52,11 +52,11 @@ pub struct Engine<P: Points> {
 }
 
 impl<P: Points> Model for Engine<P> {
-    ghost use Rattle.sno_match.specs.Session.{Session};
+    ghost use Rattle.sno_match.specs.Matching.{Matching};
     ghost use Rattle.sno_match.specs.Running.{IsMatch, seen};
     ghost use Rattle.sno_pattern.specs.Looks.{AreTrue};
 
-    ghost Value = { Session };
+    ghost Value = { Matching };
 
     ghost view = { λ m. seen m.lent.value m.pattern m.subject.items m.anchored m.limit m.answers.items m.told m.steps
         m.state m.way.items (P.points m.points) (P.records m.points) };

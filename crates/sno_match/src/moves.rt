@@ -2,7 +2,7 @@
 ghost use Rattle.std.specs.Prelude.{◌≡◌, ◌≤◌, ◌+◌, ◌-◌, ◌*◌, [], ◌∷◌, length, IfOk, OnOk, OnErr};
 ghost use Rattle.sno_pattern.specs.Looks.{AreTrue};
 ghost use Rattle.sno_match.specs.Point.{HasFirst, replaced, branched, below};
-ghost use Rattle.sno_match.specs.Reading.{IsStack, HasPoint};
+ghost use Rattle.sno_match.specs.Remaining.{IsStack, HasPoint};
 ghost use Rattle.sno_match.specs.Plan.{goals_in};
 ghost use Rattle.sno_match.specs.State.{after_move, owed};
 ghost use Rattle.sno_match.specs.Scopes.{HasCuts};

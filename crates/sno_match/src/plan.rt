@@ -4,7 +4,7 @@ ghost use Rattle.sno_pattern.specs.Table.{tree};
 ghost use Rattle.sno_pattern.specs.Shape.{IsPrimitive, end_of};
 ghost use Rattle.sno_pattern.specs.NextEnd.{ends_of};
 ghost use Rattle.sno_pattern.specs.Looks.{AreTrue};
-ghost use Rattle.sno_match.specs.Reading.{IsKnown, MarkFits, HasNext};
+ghost use Rattle.sno_match.specs.Remaining.{IsKnown, MarkFits, HasNext};
 ghost use Rattle.sno_match.specs.Plan.{IsPlan, KeepsScopes, end_plan};
 
 use crate::event::Pending;

@@ -33,7 +33,12 @@ IsHop-next s table at place end h inside other known is some =
     go (Some e) found code =
         let b = first-behind s place e (omega arith) found in
         subst (λ n. IsHop s at n × (place < n)) code (
-          record { behind = omega (arith, h.behind, b.behind); within = b.within; same = h.same ∙ closing-piece s place inside other ∙ ap (λ o. hop o s) found },
+          record {
+            behind = omega (arith, h.behind, b.behind);
+            within = b.within;
+            same = h.same ∙ closing-piece s place inside other
+                ∙ ap (λ o. hop o s) found;
+          },
           b.behind,
         )
 

@@ -9,7 +9,7 @@ use Rattle.std.proofs.lemmas.Bool.Decides.{nat_tests}
 use Rattle.std.proofs.lemmas.List.{length_push, take_more}
 use Rattle.std.proofs.lemmas.List.Folds.{list_any-append}
 use Rattle.std.proofs.lemmas.Slice.Eq.{bytes_eq-Decides}
-use Rattle.sno_store.specs.Contents.{place, is_symbol}
+use Rattle.sno_store.specs.Store.{place, is_symbol}
 use Rattle.sno_store.specs.Definitions.{Prototype, names, with_names}
 use Rattle.sno_store.proofs.NameLaws.{with_name, with_names-append}
 

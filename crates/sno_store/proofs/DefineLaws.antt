@@ -11,7 +11,7 @@ use Rattle.sno_value.specs.declared.value.Value.TheVariants.{Str}
 use Rattle.std.proofs.lemmas.List.{take_at}
 use Rattle.sno_store.specs.declared.error.StoreError.{StoreError}
 use Rattle.sno_store.specs.declared.error.StoreError.TheVariants.{NullName, Full, WrongType, BadPrototype, CallLevel, NoMemory}
-use Rattle.sno_store.specs.Contents.{Contents, place, is_symbol, IsJoined}
+use Rattle.sno_store.specs.Store.{Store, place, is_symbol, IsJoined}
 use Rattle.sno_store.specs.Definitions.{Definition, Prototype, is_name, is_device, names, is_sound, entry_label, with_names, definition, prototype}
 use Rattle.sno_store.specs.declared.functions.Function.{Function}
 use Rattle.sno_store.specs.declared.functions.Function.TheVariants.{Defined}
@@ -78,20 +78,20 @@ label_null [] function h = refl
 label_null (byte ∷ bytes) function h = absurd (omega arith)
 
 -- the function's name joined
-pub begun_symbols : (p : Prototype) (old one : Contents) (f : SymId) → IsJoined p.function old one (Ok f) → one.symbols ≡ with_name p.function old.symbols
-begun_symbols p old one f h = ap (λ (c : Contents). c.symbols) h.1 ∙ with_symbol_symbols p.function old
+pub begun_symbols : (p : Prototype) (old one : Store) (f : SymId) → IsJoined p.function old one (Ok f) → one.symbols ≡ with_name p.function old.symbols
+begun_symbols p old one f h = ap (λ (c : Store). c.symbols) h.1 ∙ with_symbol_symbols p.function old
 
-pub begun_more : (p : Prototype) (old one : Contents) (f : SymId) → IsJoined p.function old one (Ok f) → HasMore old one
+pub begun_more : (p : Prototype) (old one : Store) (f : SymId) → IsJoined p.function old one (Ok f) → HasMore old one
 begun_more p old one f h = subst (HasMore old) (sym h.1) (has_one p.function old)
 
 -- and the formals, or the locals, could not
-pub formals_stopped : (p : Prototype) (old one : Contents) (f : SymId) (e : StoreError) → IsJoined p.function old one (Ok f)
+pub formals_stopped : (p : Prototype) (old one : Store) (f : SymId) (e : StoreError) → IsJoined p.function old one (Ok f)
     → AreTooMany p.formals one.symbols e → AreTooMany (names p) old.symbols e
 formals_stopped p old one f e h many =
     let all = too_many_more p.formals p.locals one.symbols e many in
     too_many_same (p.formals ++ p.locals) (names p) one.symbols old.symbols e (ap (with_names (p.formals ++ p.locals)) (begun_symbols p old one f h)) all
 
-pub locals_stopped : (p : Prototype) (old one two : Contents) (f : SymId) (e : StoreError) → IsJoined p.function old one (Ok f)
+pub locals_stopped : (p : Prototype) (old one two : Store) (f : SymId) (e : StoreError) → IsJoined p.function old one (Ok f)
     → two.symbols ≡ with_names p.formals one.symbols
     → AreTooMany p.locals two.symbols e → AreTooMany (names p) old.symbols e
 locals_stopped p old one two f e h formals many =
@@ -99,7 +99,7 @@ locals_stopped p old one two f e h formals many =
     too_many_same (p.formals ++ p.locals) (names p) one.symbols old.symbols e (ap (with_names (p.formals ++ p.locals)) (begun_symbols p old one f h)) behind
 
 -- a function defined by parts, one stage after another: the names of the function, of its formals and of its locals join
-module _ (p : Prototype) (entry : List ℕ) (old one two three : Contents) (f : SymId) (formals locals : Vec SymId Global)
+module _ (p : Prototype) (entry : List ℕ) (old one two three : Store) (f : SymId) (formals locals : Vec SymId Global)
     (h1 : IsJoined p.function old one (Ok f)) (h2 : AreJoined p.formals one two (Ok formals)) (h3 : AreJoined p.locals two three (Ok locals)) where
   last_symbols : three.symbols ≡ with_names (p.formals ++ p.locals) one.symbols
   last_symbols = h3.0 ∙ ap (with_names p.locals) h2.0 ∙ sym (with_names-append p.formals p.locals one.symbols)
@@ -122,20 +122,20 @@ module _ (p : Prototype) (entry : List ℕ) (old one two three : Contents) (f : 
   more_all = has_both old one three (begun_more p old one f h1) (has_both one two three h2.1 h3.1)
 
   same_functions : three.functions ≡ old.functions
-  same_functions = ap (λ (c : Contents). c.functions) more_all.others
+  same_functions = ap (λ (c : Store). c.functions) more_all.others
 
-  pub parts_done : (new : Contents) (d : Definition) (ds : List Function) → new ≡ record three { functions = ds }
+  pub parts_done : (new : Store) (d : Definition) (ds : List Function) → new ≡ record three { functions = ds }
       → ds ≡ with_function f.0 (Defined d) three.functions
       → d ≡ record { entry = entry_label entry p.function; formals = map (λ id. id.0) formals.items; locals = map (λ id. id.0) locals.items }
       → IsDefinedByParts p entry old new (Ok tt)
   parts_done new d ds en eds ed =
-      let symbols : new.symbols ≡ three.symbols = ap (λ (c : Contents). c.symbols) en in
+      let symbols : new.symbols ≡ three.symbols = ap (λ (c : Store). c.symbols) en in
       let kept : three ≡ record new { functions = old.functions } =
-      (λ i. record three { functions = same_functions i }) ∙ sym (ap (λ (c : Contents). record c { functions = old.functions }) en) in
+      (λ i. record three { functions = same_functions i }) ∙ sym (ap (λ (c : Store). record c { functions = old.functions }) en) in
       let its : d ≡ definition entry p three.symbols =
       ed ∙ (λ i. record { entry = entry_label entry p.function; formals = its_formals i; locals = h3.2 i }) in
       let all : new.functions ≡ with_function (place p.function three.symbols) (Defined (definition entry p three.symbols)) old.functions =
-      ap (λ (c : Contents). c.functions) en ∙ eds ∙ (λ i. with_function (its_place i) (Defined (its i)) (same_functions i)) in (
+      ap (λ (c : Store). c.functions) en ∙ eds ∙ (λ i. with_function (its_place i) (Defined (its i)) (same_functions i)) in (
         symbols ∙ all_symbols,
         subst (λ ss. length ss ≤ 1_000_000) (sym symbols) h3.3,
         subst (HasMore old) kept more_all,
@@ -143,7 +143,7 @@ module _ (p : Prototype) (entry : List ℕ) (old one two three : Contents) (f : 
       )
 
 -- a refusal of the parts that is passed on
-pub parts_passed : (p : Prototype) (entry : List ℕ) (old new : Contents) (e : StoreError) (result : Result (Unit {0}) StoreError) → IsErrAnd result (λ r. r ≡ e)
+pub parts_passed : (p : Prototype) (entry : List ℕ) (old new : Store) (e : StoreError) (result : Result (Unit {0}) StoreError) → IsErrAnd result (λ r. r ≡ e)
     → AreTooMany (names p) old.symbols e × HasMore old new → IsDefinedByParts p entry old new result
 parts_passed p entry old new e (Ok done) is h = absurd is
 parts_passed p entry old new e (Err r) is h = (subst (AreTooMany (names p) old.symbols) (sym is) h.0, h.1)
@@ -179,12 +179,12 @@ define_refused text entry p symbols functions e is sound room why = by e why
     by CallLevel h = absurd h
 
 -- what joined is taken back
-pub taken_back : (old new : Contents) (count : ℕ) (symbols : List (List ℕ)) (values : List Value) → HasMore old new → count ≡ length old.symbols
+pub taken_back : (old new : Store) (count : ℕ) (symbols : List (List ℕ)) (values : List Value) → HasMore old new → count ≡ length old.symbols
     → length old.values ≡ length old.symbols
     → symbols ≡ take count new.symbols → values ≡ take count new.values → record new { symbols = symbols; values = values } ≡ old
 taken_back old new count symbols values more all same es ev =
     let ss : symbols ≡ old.symbols = es ∙ ap (λ n. take n new.symbols) all ∙ more.symbols in
     let vs : values ≡ old.values =
-    ev ∙ ap (take count) (ap (λ (c : Contents). c.values) more.others) ∙ take_at old.values (replicate (length new.symbols - length old.symbols) (Str []))
+    ev ∙ ap (take count) (ap (λ (c : Store). c.values) more.others) ∙ take_at old.values (replicate (length new.symbols - length old.symbols) (Str []))
     count (same ∙ sym all) in
-    (λ i. record new { symbols = ss i; values = vs i }) ∙ ap (λ (c : Contents). record c { symbols = old.symbols; values = old.values }) more.others
+    (λ i. record new { symbols = ss i; values = vs i }) ∙ ap (λ (c : Store). record c { symbols = old.symbols; values = old.values }) more.others

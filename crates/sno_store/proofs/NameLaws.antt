@@ -13,7 +13,7 @@ use Rattle.sno_value.specs.declared.ids.SymId.{SymId}
 use Rattle.sno_value.specs.declared.value.Value.TheVariants.{Str}
 use Rattle.sno_store.specs.declared.error.StoreError.{StoreError}
 use Rattle.sno_store.specs.declared.error.StoreError.TheVariants.{NullName, Full, WrongType, BadPrototype, CallLevel, NoMemory}
-use Rattle.sno_store.specs.Contents.{Contents, place, is_symbol, joining, with_symbol, IsJoined}
+use Rattle.sno_store.specs.Store.{Store, place, is_symbol, joining, with_symbol, IsJoined}
 use Rattle.sno_store.specs.Definitions.{is_name, with_names}
 use Rattle.sno_store.specs.Symbols.{HasMore, AreTooMany, AreJoined}
 
@@ -158,7 +158,7 @@ stopped_by (byte ∷ bytes) ns symbols e is h =
     let room = full_by (byte ∷ bytes) symbols (is_symbol (byte ∷ bytes) symbols) refl (eqb (length symbols) 1_000_000) refl (h ∙ ap Err full) in
     subst (AreTooMany ((byte ∷ bytes) ∷ ns) symbols) (sym full) (omega (arith, room, grown ns (with_name (byte ∷ bytes) symbols)))
 
-pub stopped : (name : List ℕ) (ns : List (List ℕ)) (old new : Contents) (e : StoreError) → is_name name ≡ true → IsJoined name old new (Err e)
+pub stopped : (name : List ℕ) (ns : List (List ℕ)) (old new : Store) (e : StoreError) → is_name name ≡ true → IsJoined name old new (Err e)
     → AreTooMany (name ∷ ns) old.symbols e × (new ≡ old)
 stopped name ns old new NoMemory is h = (tt, h.1)
 stopped name ns old new NullName is h = (stopped_by name ns old.symbols NullName is h.0, h.1)
@@ -181,7 +181,7 @@ all_at test texts i d within all =
     true_from_ne_false (test (get_or texts i d)) (λ none. both_ways (list_all test texts) (list_all_at test texts i d within none) all)
 
 -- no symbols more
-pub has_none : (c : Contents) → HasMore c c
+pub has_none : (c : Store) → HasMore c c
 has_none c = record {
   symbols = take_all (length c.symbols) c.symbols (omega arith);
   others = let none : length c.symbols - length c.symbols ≡ 0 =
@@ -189,7 +189,7 @@ has_none c = record {
 }
 
 -- one name more
-pub has_one : (name : List ℕ) (c : Contents) → HasMore c (with_symbol name c)
+pub has_one : (name : List ℕ) (c : Store) → HasMore c (with_symbol name c)
 has_one name c = by (is_symbol name c.symbols)
   where
     by : (b : Bool) → HasMore c (if b then c else record c { symbols = c.symbols ++ name ∷ []; values = c.values ++ Str [] ∷ [] })
@@ -201,7 +201,7 @@ has_one name c = by (is_symbol name c.symbols)
           others = ap (λ n. record c { symbols = c.symbols ++ name ∷ []; values = c.values ++ replicate n (Str []) }) one;
         }
 
-pub with_symbol_symbols : (name : List ℕ) (c : Contents) → (with_symbol name c).symbols ≡ with_name name c.symbols
+pub with_symbol_symbols : (name : List ℕ) (c : Store) → (with_symbol name c).symbols ≡ with_name name c.symbols
 with_symbol_symbols name c = by (is_symbol name c.symbols)
   where
     by : (b : Bool) → (if b then c else record c { symbols = c.symbols ++ name ∷ []; values = c.values ++ Str [] ∷ [] }).symbols
@@ -210,7 +210,7 @@ with_symbol_symbols name c = by (is_symbol name c.symbols)
     by false = refl
 
 -- more, and more behind that
-pub has_both : (a b c : Contents) → HasMore a b → HasMore b c → HasMore a c
+pub has_both : (a b c : Store) → HasMore a b → HasMore b c → HasMore a c
 has_both a b c h g =
     let first : length a.symbols ≤ length b.symbols = omega (arith, ap length h.symbols, length-take (length a.symbols) b.symbols) in
     let second : length b.symbols ≤ length c.symbols = omega (arith, ap length g.symbols, length-take (length b.symbols) c.symbols) in
@@ -221,14 +221,14 @@ has_both a b c h g =
     record {
       symbols = sym (take-take (length a.symbols) (length b.symbols) c.symbols first) ∙ ap (take (length a.symbols)) g.symbols ∙ h.symbols;
       others =
-          g.others ∙ ap (λ (x : Contents). record x { symbols = c.symbols; values = x.values ++ replicate (length c.symbols - length b.symbols) (Str []) })
+          g.others ∙ ap (λ (x : Store). record x { symbols = c.symbols; values = x.values ++ replicate (length c.symbols - length b.symbols) (Str []) })
           h.others
           ∙ ap (λ vs. record a { symbols = c.symbols; values = vs }) values;
     }
 
 -- a step of the call that joins names, with the name at i
 module _ (texts : List (List ℕ)) (i : ℕ) (name : List ℕ) (t : (i < length texts) × (name ≡ get_or texts i name)) (initial : List (List ℕ))
-    (old new : Contents) where
+    (old new : Store) where
   -- the symbols that all names make, from here on
   from_here : with_names (drop i texts) old.symbols ≡ with_names (name ∷ drop (i + 1) texts) old.symbols
   from_here =
@@ -244,7 +244,7 @@ module _ (texts : List (List ℕ)) (i : ℕ) (name : List ℕ) (t : (i < length 
 
   module _ (id : SymId) (h : IsJoined name old new (Ok id)) (same : with_names (drop i texts) old.symbols ≡ with_names texts initial) where
     joined : new.symbols ≡ with_name name old.symbols
-    joined = ap (λ (c : Contents). c.symbols) h.1 ∙ with_symbol_symbols name old
+    joined = ap (λ (c : Store). c.symbols) h.1 ∙ with_symbol_symbols name old
 
     pub step_symbols : with_names (drop (i + 1) texts) new.symbols ≡ with_names texts initial
     step_symbols = ap (with_names (drop (i + 1) texts)) joined ∙ sym from_here ∙ same
@@ -252,7 +252,7 @@ module _ (texts : List (List ℕ)) (i : ℕ) (name : List ℕ) (t : (i < length 
     pub step_few : length old.symbols ≤ 1_000_000 → length new.symbols ≤ 1_000_000
     step_few few = subst (λ ss. length ss ≤ 1_000_000) (sym joined) ((given_number name old.symbols id.0 h.0).few few)
 
-    pub step_more : (first : Contents) → HasMore first old → HasMore first new
+    pub step_more : (first : Store) → HasMore first old → HasMore first new
     step_more first more = has_both first old new more (subst (HasMore old) (sym h.1) (has_one name old))
 
     its_number : place name (with_names texts initial) ≡ id.0
@@ -288,7 +288,7 @@ join_ends texts i initial symbols ids end same all =
     )
 
 -- a refusal that is passed on
-pub join_passed : (ns : List (List ℕ)) (old new : Contents) (e : StoreError) (result : Result (Vec SymId Global) StoreError) → IsErrAnd result (λ r. r ≡ e)
+pub join_passed : (ns : List (List ℕ)) (old new : Store) (e : StoreError) (result : Result (Vec SymId Global) StoreError) → IsErrAnd result (λ r. r ≡ e)
     → AreTooMany ns old.symbols e × HasMore old new → AreJoined ns old new result
 join_passed ns old new e (Ok ids) is h = absurd is
 join_passed ns old new e (Err r) is h = (subst (AreTooMany ns old.symbols) (sym is) h.0, h.1)

@@ -7,7 +7,7 @@ use Rattle.std.specs.List.{list_any, position, position_or_len}
 use Rattle.std.specs.Str.{bytes_eq}
 use Rattle.std.proofs.lemmas.Bool.{ltb-false}
 use Rattle.std.proofs.lemmas.List.{length-map, map-append}
-use Rattle.sno_store.specs.Contents.{place, is_symbol}
+use Rattle.sno_store.specs.Store.{place, is_symbol}
 use Rattle.sno_store.specs.Symbols.{found}
 
 abbrev pub same_text : List ℕ → Vec ℕ Global → Bool

@@ -11,7 +11,7 @@ use Rattle.sno_store.specs.declared.error.StoreError.{StoreError}
 use Rattle.sno_store.specs.declared.error.StoreError.TheVariants.{NullName, Full, WrongType, BadPrototype, CallLevel, NoMemory}
 use Rattle.sno_store.specs.declared.functions.Function.{Function}
 use Rattle.sno_store.specs.declared.functions.Function.TheVariants.{Constructs}
-use Rattle.sno_store.specs.Contents.{Contents, place, is_symbol, IsJoined}
+use Rattle.sno_store.specs.Store.{Store, place, is_symbol, IsJoined}
 use Rattle.sno_store.specs.Definitions.{Prototype, is_name, names, prototype, with_names}
 use Rattle.sno_store.specs.Functions.{with_function}
 use Rattle.sno_store.specs.Outcomes.{IsError}
@@ -77,7 +77,7 @@ pub made_few : (p : Prototype) → makes_type p ≡ true → length (names p) �
 made_few p h = omega (arith, ap length (made_names p h), (is_made p h).few)
 
 -- a type made by parts, one stage after another: the names of the type and of its fields join
-module _ (p : Prototype) (made : makes_type p ≡ true) (old one two : Contents) (f : SymId) (fields : Vec SymId Global)
+module _ (p : Prototype) (made : makes_type p ≡ true) (old one two : Store) (f : SymId) (fields : Vec SymId Global)
     (h1 : IsJoined p.function old one (Ok f)) (h2 : AreJoined p.formals one two (Ok fields)) where
   type_symbols : two.symbols ≡ with_names (names p) old.symbols
   type_symbols = h2.0 ∙ ap (with_names p.formals) (begun_symbols p old one f h1) ∙ ap (λ ns. with_names ns old.symbols) (sym (made_names p made))
@@ -92,10 +92,10 @@ module _ (p : Prototype) (made : makes_type p ≡ true) (old one two : Contents)
   type_more = has_both old one two (begun_more p old one f h1) h2.1
 
   same_functions : two.functions ≡ old.functions
-  same_functions = ap (λ (c : Contents). c.functions) type_more.others
+  same_functions = ap (λ (c : Store). c.functions) type_more.others
 
   pub same_types : two.types ≡ old.types
-  same_types = ap (λ (c : Contents). c.types) type_more.others
+  same_types = ap (λ (c : Store). c.types) type_more.others
 
   -- there are as many fields as names
   pub few_fields : length fields.items ≤ 99
@@ -109,21 +109,21 @@ module _ (p : Prototype) (made : makes_type p ≡ true) (old one two : Contents)
       named [] = refl
       named (n ∷ ns) = ap suc (named ns)
 
-  pub type_done : (new : Contents) (t : DataType) (number : ℕ) (ts : List DataType) (fs : List Function) → new ≡ record two { types = ts; functions = fs }
+  pub type_done : (new : Store) (t : DataType) (number : ℕ) (ts : List DataType) (fs : List Function) → new ≡ record two { types = ts; functions = fs }
       → ts ≡ two.types ++ t ∷ [] → t ≡ record { name = p.function; fields = map (λ id. id.0) fields.items } → number ≡ length two.types
       → fs ≡ with_fields (map (λ id. id.0) fields.items) (with_function f.0 (Constructs number) two.functions)
       → IsTypedByParts p old new (Ok tt)
   type_done new t number ts fs en ets et ek efs =
-      let symbols : new.symbols ≡ two.symbols = ap (λ (c : Contents). c.symbols) en in
+      let symbols : new.symbols ≡ two.symbols = ap (λ (c : Store). c.symbols) en in
       let kept : two ≡ record new { types = old.types; functions = old.functions } =
       (λ i. record two { types = same_types i; functions = same_functions i })
-      ∙ sym (ap (λ (c : Contents). record c { types = old.types; functions = old.functions }) en) in
+      ∙ sym (ap (λ (c : Store). record c { types = old.types; functions = old.functions }) en) in
       let its : t ≡ data_type p two.symbols = et ∙ (λ i. record { name = p.function; fields = h2.2 i }) in
-      let types : new.types ≡ old.types ++ data_type p two.symbols ∷ [] = ap (λ (c : Contents). c.types) en ∙ ets ∙ (λ i. same_types i ++ its i ∷ []) in
+      let types : new.types ≡ old.types ++ data_type p two.symbols ∷ [] = ap (λ (c : Store). c.types) en ∙ ets ∙ (λ i. same_types i ++ its i ∷ []) in
       let number_is : number ≡ length old.types = ek ∙ ap length same_types in
       let functions : new.functions ≡ with_fields (map (λ n. place n two.symbols) p.formals)
       (with_function (place p.function two.symbols) (Constructs (length old.types)) old.functions) =
-      ap (λ (c : Contents). c.functions) en ∙ efs ∙ (λ i. with_fields (h2.2 i) (with_function (its_place i) (Constructs (number_is i)) (same_functions i))) in (
+      ap (λ (c : Store). c.functions) en ∙ efs ∙ (λ i. with_fields (h2.2 i) (with_function (its_place i) (Constructs (number_is i)) (same_functions i))) in (
         symbols ∙ type_symbols,
         subst (λ ss. length ss ≤ 1_000_000) (sym symbols) h2.3,
         subst (HasMore old) kept type_more,
@@ -133,7 +133,7 @@ module _ (p : Prototype) (made : makes_type p ≡ true) (old one two : Contents)
       )
 
 -- a refusal of the parts that is passed on
-pub type_passed : (p : Prototype) (old new : Contents) (e : StoreError) (result : Result (Unit {0}) StoreError) → IsErrAnd result (λ r. r ≡ e)
+pub type_passed : (p : Prototype) (old new : Store) (e : StoreError) (result : Result (Unit {0}) StoreError) → IsErrAnd result (λ r. r ≡ e)
     → AreTooMany (names p) old.symbols e × HasMore old new → IsTypedByParts p old new result
 type_passed p old new e (Ok done) is h = absurd is
 type_passed p old new e (Err r) is h = (subst (AreTooMany (names p) old.symbols) (sym is) h.0, h.1)

@@ -4,7 +4,7 @@ pub use Rattle.sno_pattern.specs.Pattern
 pub use Rattle.sno_pattern.specs.Table
 pub mod Arrays
 pub mod Calls
-pub mod Contents
+pub mod Store
 pub mod Definitions
 pub mod First
 pub mod Functions

@@ -7,7 +7,7 @@ use Rattle.sno_store.specs.declared.error.StoreError.{StoreError}
 use Rattle.sno_store.specs.declared.error.StoreError.TheVariants.{NullName, Full, WrongType, BadPrototype, CallLevel}
 use Rattle.sno_store.specs.declared.error.StoreError.TheVariants.{NoMemory}
 use Rattle.sno_store.specs.Calls.{saved, entered}
-use Rattle.sno_store.specs.Contents.{Contents}
+use Rattle.sno_store.specs.Store.{Store}
 use Rattle.sno_store.specs.Definitions.{Definition}
 use Rattle.sno_store.specs.Functions.{with_definition}
 use Rattle.sno_store.specs.Objects.{Object}
@@ -29,8 +29,8 @@ IsAnswered see meant (Err NoMemory) = ⊥
 IsAnswered see meant (Err refusal) = IsError meant refusal
 
 -- What a call did that changes no more than the objects, and nothing where it is refused.
-abbrev pub IsDone : {X A : Type 0} → (X → A) → (List (Object Value) → Result (A × List (Object Value)) ℕ) → Contents
-    → Contents → Result X StoreError → Type 0
+abbrev pub IsDone : {X A : Type 0} → (X → A) → (List (Object Value) → Result (A × List (Object Value)) ℕ) → Store
+    → Store → Result X StoreError → Type 0
 IsDone see meant old new (Ok x) = (meant old.objects ≡ Ok (see x, new.objects))
     × (new ≡ record old { objects = new.objects })
 IsDone see meant old new (Err refusal) = IsError (meant old.objects) refusal × (new ≡ old)
@@ -40,7 +40,7 @@ itself x = x
 
 -- What DEFINE did: the names joined, the variables of the new
 -- ones begin with null, and the function has its definition.
-abbrev pub IsDefined : List ℕ → List ℕ → Contents → Contents → Result (Unit {0}) StoreError → Type 0
+abbrev pub IsDefined : List ℕ → List ℕ → Store → Store → Result (Unit {0}) StoreError → Type 0
 IsDefined text entry old new (Ok done) =
     (with_definition text entry old.symbols old.functions ≡ Ok (new.symbols, new.functions)) ×
     (new ≡ record old {
@@ -52,7 +52,7 @@ IsDefined text entry old new (Err refusal) =
     IsError (with_definition text entry old.symbols old.functions) refusal × (new ≡ old)
 
 -- What DATA did: the names joined, the variables of the new ones begin with null, and the names have their type.
-abbrev pub IsTyped : List ℕ → Contents → Contents → Result (Unit {0}) StoreError → Type 0
+abbrev pub IsTyped : List ℕ → Store → Store → Result (Unit {0}) StoreError → Type 0
 IsTyped text old new (Ok done) =
     (with_type text old.symbols old.types old.functions ≡ Ok (new.symbols, new.types, new.functions)) ×
     (new ≡ record old {
@@ -64,7 +64,7 @@ IsTyped text old new (Ok done) =
 IsTyped text old new (Err refusal) = IsError (with_type text old.symbols old.types old.functions) refusal × (new ≡ old)
 
 -- What the begin of a call of a function with this definition did. There are at most 200 open calls (this profile).
-abbrev pub IsEntered : SymId → Definition → List Value → Contents → Contents → Result (Unit {0}) StoreError → Type 0
+abbrev pub IsEntered : SymId → Definition → List Value → Store → Store → Result (Unit {0}) StoreError → Type 0
 IsEntered function d arguments old new (Ok done) =
     (length old.calls < 200) ×
     (new ≡ record old {

@@ -7,7 +7,7 @@ use Rattle.sno_value.specs.declared.value.Value.{Value}
 use Rattle.sno_value.specs.declared.value.Value.TheVariants.{Str}
 use Rattle.sno_store.specs.declared.error.StoreError.{StoreError}
 use Rattle.sno_store.specs.declared.error.StoreError.TheVariants.{Full, NoMemory}
-use Rattle.sno_store.specs.Contents.{Contents, place, is_symbol, pattern}
+use Rattle.sno_store.specs.Store.{Store, place, is_symbol, pattern}
 use Rattle.sno_store.specs.declared.functions.Function.TheVariants.{Constructs, Defined}
 use Rattle.sno_store.specs.Definitions.{Prototype, names, with_names, definition}
 use Rattle.sno_store.specs.Functions.{with_function}
@@ -18,15 +18,15 @@ abbrev pub found : List ℕ → List (List ℕ) → Option ℕ
 found name symbols = if is_symbol name symbols then Some (place name symbols) else None
 
 -- a name joins with a value
-abbrev pub appended : List ℕ → Value → Contents → Contents
+abbrev pub appended : List ℕ → Value → Store → Store
 appended name value c = record c { symbols = c.symbols ++ name ∷ []; values = c.values ++ value ∷ [] }
 
 -- a new store by stages: nothing, then with the variables of the patterns that search for an end, then with those of
 -- the patterns that steer the search
-abbrev pub no_contents : Contents
+abbrev pub no_contents : Store
 no_contents = record { symbols = []; values = []; objects = []; types = []; functions = []; calls = [] }
 
-abbrev pub with_searches : Contents
+abbrev pub with_searches : Store
 with_searches = record {
   symbols = codes "ARB" ∷ codes "BAL" ∷ codes "REM" ∷ codes "FAIL" ∷ [];
   values = pattern 0 ∷ pattern 1 ∷ pattern 2 ∷ pattern 3 ∷ [];
@@ -36,7 +36,7 @@ with_searches = record {
   calls = [];
 }
 
-abbrev pub with_controls : Contents
+abbrev pub with_controls : Store
 with_controls = record {
   symbols = codes "ARB" ∷ codes "BAL" ∷ codes "REM" ∷ codes "FAIL" ∷ codes "FENCE"
       ∷ codes "ABORT" ∷ codes "SUCCEED" ∷ [];
@@ -48,7 +48,7 @@ with_controls = record {
 }
 
 -- nothing but some symbols more, whose variables begin with null
-pub record HasMore (old new : Contents) : Type 0 where
+pub record HasMore (old new : Store) : Type 0 where
   pub symbols : take (length old.symbols) new.symbols ≡ old.symbols
   pub others : new ≡ record old {
     symbols = new.symbols;
@@ -62,14 +62,14 @@ AreTooMany ns symbols Full = 1_000_000 < length (with_names ns symbols)
 AreTooMany ns symbols other = ⊥
 
 -- what the call that joins names did
-abbrev pub AreJoined : List (List ℕ) → Contents → Contents → Result (Vec SymId Global) StoreError → Type 0
+abbrev pub AreJoined : List (List ℕ) → Store → Store → Result (Vec SymId Global) StoreError → Type 0
 AreJoined ns old new (Ok numbers) =
     (new.symbols ≡ with_names ns old.symbols) × HasMore old new
     × (map (λ id. id.0) numbers.items ≡ map (λ name. place name new.symbols) ns) × (length new.symbols ≤ 1_000_000)
 AreJoined ns old new (Err refusal) = AreTooMany ns old.symbols refusal × HasMore old new
 
 -- what the call that defines a function by the parts of its prototype did
-abbrev pub IsDefinedByParts : Prototype → List ℕ → Contents → Contents → Result (Unit {0}) StoreError → Type 0
+abbrev pub IsDefinedByParts : Prototype → List ℕ → Store → Store → Result (Unit {0}) StoreError → Type 0
 IsDefinedByParts p entry old new (Ok done) =
     (new.symbols ≡ with_names (names p) old.symbols) ×
     (length new.symbols ≤ 1_000_000) ×
@@ -79,7 +79,7 @@ IsDefinedByParts p entry old new (Ok done) =
 IsDefinedByParts p entry old new (Err refusal) = AreTooMany (names p) old.symbols refusal × HasMore old new
 
 -- what the call that makes a type by the parts of its prototype did
-abbrev pub IsTypedByParts : Prototype → Contents → Contents → Result (Unit {0}) StoreError → Type 0
+abbrev pub IsTypedByParts : Prototype → Store → Store → Result (Unit {0}) StoreError → Type 0
 IsTypedByParts p old new (Ok done) =
     (new.symbols ≡ with_names (names p) old.symbols) ×
     (length new.symbols ≤ 1_000_000) ×

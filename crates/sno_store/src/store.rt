@@ -5,7 +5,7 @@ ghost use Rattle.std.specs.List.{list_all};
 ghost use Rattle.sno_value.specs.declared.value.Value.TheVariants.{Str};
 ghost use Rattle.sno_store.specs.Arrays.{new_array, element_name, prototype_of};
 ghost use Rattle.sno_store.specs.Calls.{function_value, restored};
-ghost use Rattle.sno_store.specs.Contents.{Contents, new_contents, is_symbol, IsJoined, value_of, with_value};
+ghost use Rattle.sno_store.specs.Store.{Store, new_store, is_symbol, IsJoined, value_of, with_value};
 ghost use Rattle.sno_store.specs.Definitions.{Definition as Shown, is_name, is_sound, listed, names, with_names};
 ghost use Rattle.sno_store.specs.Functions.{constructor_at, definition_at, is_field_at};
 ghost use Rattle.sno_store.specs.First.{first_patterns, search_patterns, IsBeginning};
@@ -63,9 +63,9 @@ impl Model for Store {
     ghost use Rattle.std.specs.Prelude.{◌≡◌, ◌≤◌, [], length};
     ghost use Rattle.sno_value.specs.declared.value.Value.TheVariants.{Str};
     ghost use Rattle.sno_store.specs.Calls.{function_value, restored};
-    ghost use Rattle.sno_store.specs.Contents.{Contents};
+    ghost use Rattle.sno_store.specs.Store.{Store};
 
-    ghost Value = { Contents };
+    ghost Value = { Store };
 
     ghost view = { λ s. record {
       symbols = s.symbols;
@@ -86,7 +86,7 @@ impl Store {
     /// the first of the patterns, or none.
     pub fn new(alloc: Global, patterns: &mut Patterns) -> Result<Store, AllocError>
         requires { patterns.old ≡ [] }
-        ensures ok { IfOk result (λ store. store ≡ new_contents) }
+        ensures ok { IfOk result (λ store. store ≡ new_store) }
         ensures table { IfOk result (λ _. patterns.new ≡ first_patterns) }
         ensures refused { OnErr result (IsBeginning patterns.new) }
     {
@@ -525,7 +525,7 @@ impl Store {
     /// The variables that are read and written as lines, behind those.
     fn begin_devices(&mut self) -> Result<(), AllocError>
         requires { self.old ≡ with_controls }
-        ensures { OnOk result (self.new ≡ new_contents) }
+        ensures { OnOk result (self.new ≡ new_store) }
     {
         let alloc = self.alloc;
         self.append(b"INPUT", null(alloc))?;

@@ -3,7 +3,7 @@ ghost use Rattle.std.specs.Prelude.{◌≡◌, ◌+◌, ◌||◌, ◌≤◌, ◌
 ghost use Rattle.std.specs.Prelude.{option_map, IfOk, OnOk, OnErr};
 ghost use Rattle.std.specs.List.{list_any};
 ghost use Rattle.std.specs.Str.{bytes_eq};
-ghost use Rattle.sno_store.specs.Contents.{is_symbol};
+ghost use Rattle.sno_store.specs.Store.{is_symbol};
 ghost use Rattle.sno_store.specs.Definitions.{listed, names, with_names};
 ghost use Rattle.sno_store.specs.Seen.{prototype_seen};
 ghost use Rattle.sno_store.specs.Symbols.{found};

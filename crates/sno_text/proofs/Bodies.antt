@@ -13,9 +13,9 @@ use Rattle.sno_text.specs.Bytes.{byte, can_start, IsWholeRun}
 use Rattle.sno_text.specs.Trees.{Tree, fits}
 use Rattle.sno_text.specs.Grammar.{IsBlanks, Level, Element, Reads}
 use Rattle.sno_text.specs.Links.{Starts, Stops, Refuses}
-use Rattle.sno_text.specs.Outcome.{Outcome as Found_outcome, Extends}
+use Rattle.sno_text.specs.Parsed.{Parsed as Found_outcome, Extends}
 use Rattle.sno_text.specs.Statements.{HasExpression, HasObject, IsCore, HasCore, CoreTree, option_fits, core_fits, core_option_fits}
-use Rattle.sno_text.specs.Source.{option_ids, core_ids, core_option_ids}
+use Rattle.sno_text.specs.Program.{option_ids, core_ids, core_option_ids}
 use Rattle.sno_text.specs.Pieces.{object_ids, MeetsColon, MeetsEquals, Gives, Lacks, StandsExpression, StandsObject, StandsCore, StandsCores, HasObjectPair}
 use Rattle.sno_text.specs.Pieces.{object_fits}
 use Rattle.sno_text.proofs.Runs.{run_end_unique}

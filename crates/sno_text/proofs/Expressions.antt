@@ -8,8 +8,8 @@ use Rattle.sno_text.specs.Bytes.{byte, IsWholeRun}
 use Rattle.sno_text.specs.Trees.{Tree, fits, Stands, Uses}
 use Rattle.sno_text.specs.Grammar.{IsGap, Level, IsExpression}
 use Rattle.sno_text.specs.Links.{Stops, Refuses}
-use Rattle.sno_text.specs.Outcome.{Extends, Gives, Outcome}
-use Rattle.sno_text.specs.Source.{IsTable}
+use Rattle.sno_text.specs.Parsed.{Extends, Gives, Parsed}
+use Rattle.sno_text.specs.Program.{IsTable}
 use Rattle.sno_text.specs.Refusals.{HasOpenLiteral, IsTooLarge, IsNoExpression, IsAccepted, IsSyntax, has_open_literal, is_deep}
 use Rattle.sno_text.proofs.Tables.{sound_of}
 use Rattle.sno_text.proofs.Primaries.{IsEndByte, end_byte_zero, inner_only, inner_none}
@@ -20,7 +20,7 @@ ends_there s = end_byte_zero _ (get_or_past s (length s) 0 (omega arith))
 pub no_expression : (s : List ℕ) (k : ℕ) → IsWholeRun Blank s 0 k → Refuses s (Level 0) (Stops s 0) k → IsNoExpression s
 no_expression s k g f t e = inner_none s 0 k g f e.from e.to (length s) t e.before e.reads e.after (ends_there s)
 
-pub no_end : (s : List ℕ) (k l : ℕ) (old new : List Node) (f : Found) → IsWholeRun Blank s 0 k → Outcome s (Level 0) (Stops s 0) k old new (Some f)
+pub no_end : (s : List ℕ) (k l : ℕ) (old new : List Node) (f : Found) → IsWholeRun Blank s 0 k → Parsed s (Level 0) (Stops s 0) k old new (Some f)
     → IsWholeRun Blank s f.end l → l ≢ length s → IsNoExpression s
 no_end s k l old new f g d h never t e =
     never (sym (inner_only s 0 k f.end l d.tree g d.finds h e.from e.to (length s) t e.before e.reads e.after (ends_there s)).0)
@@ -31,13 +31,13 @@ is_expression s k l old new f g d h e one =
     record { one_line = one; from = k; to = f.end; before = g.run; reads = d.finds.reads; after = subst (λ x. IsGap s f.end x) e h.run }
 
 -- an integer out of range
-pub too_big : (s : List ℕ) (k l : ℕ) (old new : List Node) (f : Found) → IsWholeRun Blank s 0 k → Outcome s (Level 0) (Stops s 0) k old new (Some f)
+pub too_big : (s : List ℕ) (k l : ℕ) (old new : List Node) (f : Found) → IsWholeRun Blank s 0 k → Parsed s (Level 0) (Stops s 0) k old new (Some f)
     → IsWholeRun Blank s f.end l → l ≡ length s → (Contains s 10 → ⊥) → f.fits ≡ false →
     (t : Tree) × IsExpression s t × (fits t ≡ false)
 too_big s k l old new f g d h e one b = (d.tree, is_expression s k l old new f g d h e one, sym d.fit ∙ b)
 
 pub accepted : (s : List ℕ) (k l : ℕ) (old new : List Node) (f : Found) → (HasOpenLiteral s → ⊥) → (IsTooLarge s → ⊥) → IsWholeRun Blank s 0 k
-    → Outcome s (Level 0) (Stops s 0) k old new (Some f) →
+    → Parsed s (Level 0) (Stops s 0) k old new (Some f) →
     IsWholeRun Blank s f.end l → l ≡ length s → (Contains s 10 → ⊥) → f.fits ≡ true → old ≡ [] → (t : Tree) × IsAccepted s t
     × Stands new f.id t × Uses new 0 (f.id ∷ [])
 accepted s k l old new f a c g d h e one b none = (

@@ -10,10 +10,10 @@ use Rattle.sno_text.specs.declared.statement.Jump.TheVariants as jumps
 use Rattle.sno_text.specs.declared.goto.Targets.{Targets}
 use Rattle.sno_text.specs.Bytes.{byte, is_blank, IsWholeRun}
 use Rattle.sno_text.specs.Grammar.{IsGap, IsBlanks}
-use Rattle.sno_text.specs.Outcome.{Extends}
+use Rattle.sno_text.specs.Parsed.{Extends}
 use Rattle.sno_text.specs.Statements.{TargetTree, JumpTree, Fall, Always, Either, IsTarget, HasOther, HasTargets, IsBranch, always, success, failure, HasJump}
 use Rattle.sno_text.specs.Statements.{target_fits, target_option_fits, jump_fits}
-use Rattle.sno_text.specs.Source.{target_ids, target_option_ids, jump_ids}
+use Rattle.sno_text.specs.Program.{target_ids, target_option_ids, jump_ids}
 use Rattle.sno_text.specs.Pieces.{pair_ids, MeetsEnd, Anywhere, Gives, Lacks, StandsTarget, StandsTargets, StandsJump, HasTargetPair, StandsTargetPair}
 use Rattle.sno_text.specs.Pieces.{pair_fits}
 use Rattle.sno_text.proofs.Runs.{run_end_unique}

@@ -6,7 +6,8 @@ use Rattle.sno_text.specs.declared.bytes.Class.TheVariants.{Blank}
 use Rattle.sno_text.specs.declared.node.Operator.TheVariants.{Power}
 use Rattle.sno_text.specs.Bytes.{byte, is_blank, is_unary, IsWholeRun}
 use Rattle.sno_text.specs.Trees.{Tree, Binary}
-use Rattle.sno_text.specs.Grammar.{IsGap, Part, Level, Rest, Element, Primary, Arguments, More, Argument, Reads, chain, operand, done, left, right, signed}
+use Rattle.sno_text.specs.Grammar.{IsGap, Nonterminal, Level, Rest, Element, Primary, Arguments, More, Argument, Reads, chain, operand, done, left, right}
+use Rattle.sno_text.specs.Grammar.{signed}
 use Rattle.sno_text.specs.Grammar.{plain, variable, integer, literal, keyword, group, apply, arguments, last, next, empty, given, IsExpression}
 use Rattle.sno_text.specs.Links.{Starts, Stops, Shuts, Closes, Finds, Grows, Lists}
 use Rattle.sno_text.proofs.Starts.{reads_start, start_not_blank, primary_is_first, first_not_unary}
@@ -18,7 +19,7 @@ use Rattle.sno_text.proofs.Primaries.{IsEndByte, end_byte_zero, end_byte_closes,
 use Rattle.sno_text.proofs.Primaries.{pair_shut, finds_variable, finds_integer, finds_literal, finds_keyword, finds_group, finds_apply}
 
 -- a part that ends where its kind may end is the only one
-abbrev Only : Part → List ℕ → ℕ → ℕ → Tree → Type 0
+abbrev Only : Nonterminal → List ℕ → ℕ → ℕ → Tree → Type 0
 Only (Level l) s i j t = Stops s l j → Finds s (Level l) (Stops s l) i j t
 Only (Rest l u) s i j t = (from : ℕ) → Grows s l from i u → Stops s l j → Finds s (Level l) (Stops s l) from j t
 Only Element s i j t = Stops s 7 j → Finds s Element (Stops s 7) i j t
@@ -27,7 +28,7 @@ Only Arguments s i j t = Shuts s j → Finds s Arguments (Shuts s) i j t
 Only (More u) s i j t = (from : ℕ) → Lists s from i u → Shuts s j → Finds s Arguments (Shuts s) from j t
 Only Argument s i j t = Closes s j → Finds s Argument (Closes s) i j t
 
-found : (s : List ℕ) (p : Part) (stops : ℕ → Type 0) (i j k : ℕ) (t u : Tree) → k ≡ j → u ≡ t → Finds s p stops i j t → Finds s p stops i k u
+found : (s : List ℕ) (p : Nonterminal) (stops : ℕ → Type 0) (i j k : ℕ) (t u : Tree) → k ≡ j → u ≡ t → Finds s p stops i j t → Finds s p stops i k u
 found s p stops i j k t u e f a = subst (λ x. Finds s p stops i x u) (sym e) (subst (λ x. Finds s p stops i j x) (sym f) a)
 
 gap_end : (s : List ℕ) (i j : ℕ) → IsGap s i j → is_blank (byte s j) ≡ false → IsWholeRun Blank s i j
@@ -45,7 +46,7 @@ looser_apart a b h e = omega arith
 shut_no_comma : (s : List ℕ) (i : ℕ) → Shuts s i → byte s i ≢ 44
 shut_no_comma s i h e = comma_no_shut s i e h
 
-only : {s : List ℕ} {p : Part} {i j : ℕ} {t : Tree} → Reads s p i j t → Only p s i j t
+only : {s : List ℕ} {p : Nonterminal} {i j : ℕ} {t : Tree} → Reads s p i j t → Only p s i j t
 only {s} {j = j} (chain {l = l} {i = i} {m = m} {u = u} {t = t} h a b) = λ stops. only b i (grows_first s l i m u h (only a (rest_stops b stops))) stops
 only {s} (operand {l = l} {i = i} {j = j} {t = t} e a) = λ stops. finds_operand s l i j t e (only a (subst (λ x. Stops s x j) e stops))
 only {s} (done {l = l} {i = i} {j = j} {u = u} {t = t} e f) = λ from grows stops.

@@ -14,8 +14,8 @@ use Rattle.sno_text.specs.declared.phrase.Phrase.{Phrase}
 use Rattle.sno_text.specs.declared.statement.Statement.{Statement}
 use Rattle.sno_text.specs.Lines.{joined, extents, part, line_of}
 use Rattle.sno_text.specs.Layouts.{InOrder}
-use Rattle.sno_text.specs.Source.{program_ids, statement_ids, Source, IsWithin, number_of, IsLabelled, IsIndex, IsStatementOf, IsWhole}
-use Rattle.sno_text.specs.Outcome.{Extends}
+use Rattle.sno_text.specs.Program.{program_ids, statement_ids, Program, IsWithin, number_of, IsLabelled, IsIndex, IsStatementOf, IsWhole}
+use Rattle.sno_text.specs.Parsed.{Extends}
 use Rattle.sno_text.specs.Statements.{StatementTree}
 use Rattle.sno_text.specs.Phrases.{phrase_ids, StandsStatement, StandsProgram}
 use Rattle.sno_text.specs.Programs.{HasLabelled, IsRefusedAt, none, one_more, IsProgram, IsRefusedProgram, statement, no_end}
@@ -208,7 +208,7 @@ reading_ends s k at line span old new sts more es fs p r a place room grown is p
       tabled_next s r.before at line span old new sts more es fs p r.tabled a place' room grown is pushed index,
     )
 
-pub tabled_program : (s : List ℕ) (ts : List StatementTree) (at : ℕ) (nodes : List Node) (sts : List Statement) (es : Entries) (p : Source)
+pub tabled_program : (s : List ℕ) (ts : List StatementTree) (at : ℕ) (nodes : List Node) (sts : List Statement) (es : Entries) (p : Program)
     → IsTabled s ts at nodes sts es → p.nodes ≡ nodes → p.statements ≡ sts → StandsProgram p s ts
 tabled_program s ts at nodes sts es p x e f = record {
   count = ap length f ∙ x.count;

@@ -12,7 +12,7 @@ use Rattle.sno_text.specs.declared.statement.Jump.TheVariants as jumps
 use Rattle.sno_text.specs.declared.statement.Target.{Target}
 use Rattle.sno_text.specs.declared.statement.Target.TheVariants as targets
 use Rattle.sno_text.specs.Trees.{Tree}
-use Rattle.sno_text.specs.Source.{IsOptionWithin, IsOptionBelow, IsTargetOf, IsTargetOptionOf, IsJumpOf, IsCoreOf, IsStatementOf}
+use Rattle.sno_text.specs.Program.{IsOptionWithin, IsOptionBelow, IsTargetOf, IsTargetOptionOf, IsJumpOf, IsCoreOf, IsStatementOf}
 use Rattle.sno_text.specs.Statements.{TargetTree, Label, Computed, JumpTree, Fall, Always, Either, CoreTree, IsLabel, IsPlace, label, computed, IsTarget}
 use Rattle.sno_text.specs.Statements.{HasOther, IsBranch, always, success, failure, HasJump, HasLabel, HasEntry, StatementTree, IsStatement}
 use Rattle.sno_text.specs.Pieces.{StandsTarget, StandsTargets, StandsJump, StandsExpression, StandsCores}

@@ -8,7 +8,7 @@ use Rattle.sno_text.specs.declared.statement.Jump.{Jump}
 use Rattle.sno_text.specs.declared.statement.Jump.TheVariants as jumps
 use Rattle.sno_text.specs.declared.statement.Core.{Core}
 use Rattle.sno_text.specs.Trees.{Tree, Stands}
-use Rattle.sno_text.specs.Outcome.{Extends}
+use Rattle.sno_text.specs.Parsed.{Extends}
 use Rattle.sno_text.specs.Statements.{TargetTree, Label, Computed, JumpTree, Fall, Always, Either, CoreTree}
 use Rattle.sno_text.specs.Pieces.{StandsTarget, StandsTargets, StandsJump, StandsExpression, StandsCore, StandsCores}
 use Rattle.sno_text.proofs.Tables.{grown_of, stands_more}

@@ -6,7 +6,8 @@ use Rattle.sno_text.specs.declared.bytes.Class.TheVariants.{UnarySign}
 use Rattle.sno_text.specs.declared.node.Operator.TheVariants.{Power}
 use Rattle.sno_text.specs.Bytes.{byte, is_blank, is_letter, is_digit, is_unary, is_first, can_start}
 use Rattle.sno_text.specs.Trees.{Tree}
-use Rattle.sno_text.specs.Grammar.{Part, Level, Rest, Element, Primary, Reads, chain, operand, done, left, right, signed, plain, variable, integer, literal}
+use Rattle.sno_text.specs.Grammar.{Nonterminal, Level, Rest, Element, Primary, Reads, chain, operand, done, left, right, signed, plain, variable, integer}
+use Rattle.sno_text.specs.Grammar.{literal}
 use Rattle.sno_text.specs.Grammar.{keyword, group, apply, arguments, last, next, empty, given, Arguments, More, Argument}
 use Rattle.sno_text.specs.Links.{Starts, single, sign_of, sign_at}
 use Rattle.sno_text.proofs.Runs.{run_none}
@@ -35,7 +36,7 @@ pub letter_not_digit : (b : ℕ) → is_letter b ≡ true → is_digit b ≡ tru
 unfolding is_letter is_digit
 letter_not_digit b h u = grind (arith, nat_tests)
 
-abbrev pub Begins : Part → List ℕ → ℕ → Type 0
+abbrev pub Begins : Nonterminal → List ℕ → ℕ → Type 0
 Begins (Level l) s i = Starts s i
 Begins (Rest l u) s i = Unit {0}
 Begins Element s i = Starts s i
@@ -73,7 +74,7 @@ sign_before s i h r = record {
   first = r.first;
 }
 
-pub reads_start : {s : List ℕ} {p : Part} {i j : ℕ} {t : Tree} → Reads s p i j t → Begins p s i
+pub reads_start : {s : List ℕ} {p : Nonterminal} {i j : ℕ} {t : Tree} → Reads s p i j t → Begins p s i
 reads_start (chain h a b) = reads_start a
 reads_start (operand h a) = reads_start a
 reads_start (done e f) = tt

@@ -17,11 +17,11 @@ use Rattle.sno_text.specs.declared.table.Found.{Found}
 use Rattle.sno_text.specs.declared.table.FoundList.{FoundList}
 use Rattle.sno_text.specs.Bytes.{byte, is_unary, is_letter, is_opening, is_closing, IsWholeRun}
 use Rattle.sno_text.specs.Trees.{unary_operator, Tree, Literal, Unary, Binary, Item, One, And, fits, StandsFor, operands}
-use Rattle.sno_text.specs.Grammar.{level_of, applied, IsPair, IsName, Part, Level, Element, Primary, Argument, Arguments}
+use Rattle.sno_text.specs.Grammar.{level_of, applied, IsPair, IsName, Nonterminal, Level, Element, Primary, Argument, Arguments}
 use Rattle.std.specs.List.{AllByRecursion}
-use Rattle.sno_text.specs.Source.{IsWithin}
+use Rattle.sno_text.specs.Program.{IsWithin}
 use Rattle.sno_text.specs.Links.{Links, NoLink, Stops, Finds, Refuses, Shuts, Closes}
-use Rattle.sno_text.specs.Outcome.{applied_node, IsSound, Extends, Outcome, Growing, ArgumentOutcome, GivesList, Listing, ListOutcome}
+use Rattle.sno_text.specs.Parsed.{applied_node, IsSound, Extends, Parsed, Growing, ParsedArgument, GivesList, Listing, ParsedList}
 use Rattle.sno_text.proofs.Levels.{grows_first, refuses_first, grows_left, refuses_left, finds_right, refuses_right, finds_done}
 use Rattle.sno_text.proofs.Elements.{finds_plain, finds_signed, refuses_element, finds_operand, refuses_operand}
 use Rattle.std.proofs.lemmas.List.{get_or_past}
@@ -33,8 +33,8 @@ use Rattle.sno_text.proofs.Tables.{grown_push, grown_of, extends_none, extends_p
 use Rattle.sno_text.proofs.Tables.{length_pushed, length_grown, letter_is_name_byte, run_some, uses_none, uses_both, uses_pushed}
 
 -- level 7 is an element
-pub level_from_element : (s : List ℕ) (l i : ℕ) (old new : List Node) (o : Option Found) → l ≡ 7 → Outcome s Element (Stops s 7) i old new o
-    → Outcome s (Level l) (Stops s l) i old new o
+pub level_from_element : (s : List ℕ) (l i : ℕ) (old new : List Node) (o : Option Found) → l ≡ 7 → Parsed s Element (Stops s 7) i old new o
+    → Parsed s (Level l) (Stops s l) i old new o
 level_from_element s l i old new None e f = refuses_operand s l i e f
 level_from_element s l i old new (Some x) e f = record {
   tree = f.tree;
@@ -47,7 +47,7 @@ level_from_element s l i old new (Some x) e f = record {
   used = f.used;
 }
 
-pub growing_first : (s : List ℕ) (l i : ℕ) (old new : List Node) (f : Found) → l ≢ 7 → l ≤ 7 → Outcome s (Level (l + 1)) (Stops s (l + 1)) i old new (Some f)
+pub growing_first : (s : List ℕ) (l i : ℕ) (old new : List Node) (f : Found) → l ≢ 7 → l ≤ 7 → Parsed s (Level (l + 1)) (Stops s (l + 1)) i old new (Some f)
     → Growing s l i old new f
 growing_first s l i old new f h b g = record {
   tree = g.tree;
@@ -93,7 +93,7 @@ fit_and a b c x y e f g = cc
 
 pub growing_left : {n : ℕ} (s : List ℕ) (l i k : ℕ) (old mid last new : List Node) (o : Operator) (f g r : Found) → l ≢ 5 → level_of o ≡ l
     → Growing s l i old mid f → Links s o f.end k → f.end < k →
-    Outcome s (Level (l + 1)) (Stops s (l + 1)) k mid last (Some g) → Extends n mid last → new ≡ last ++ nodes.Binary o f.id g.id ∷ [] → r.id.0 ≡ length last
+    Parsed s (Level (l + 1)) (Stops s (l + 1)) k mid last (Some g) → Extends n mid last → new ≡ last ++ nodes.Binary o f.id g.id ∷ [] → r.id.0 ≡ length last
     → r.end ≡ g.end → r.fits ≡ (f.fits && g.fits) →
     Growing s l i old new r
 growing_left s l i k old mid last new o f g r h e a link order b x p q m n = record {
@@ -114,9 +114,9 @@ refused_left s l i k old mid o f h e a link b = refuses_left s l i f.end k a.tre
 
 pub gives_right : {n : ℕ} (s : List ℕ) (l i k : ℕ) (old mid last new : List Node) (o : Operator) (f g r : Found) → l ≡ 5 → level_of o ≡ l
     → Growing s l i old mid f → Links s o f.end k → f.end < k →
-    Outcome s (Level l) (Stops s l) k mid last (Some g) → Extends n mid last → new ≡ last ++ nodes.Binary o f.id g.id ∷ [] → r.id.0 ≡ length last
+    Parsed s (Level l) (Stops s l) k mid last (Some g) → Extends n mid last → new ≡ last ++ nodes.Binary o f.id g.id ∷ [] → r.id.0 ≡ length last
     → r.end ≡ g.end → r.fits ≡ (f.fits && g.fits) →
-    Outcome s (Level l) (Stops s l) i old new (Some r)
+    Parsed s (Level l) (Stops s l) i old new (Some r)
 gives_right s l i k old mid last new o f g r h e a link order b x p q m n =
     let is : o ≡ Power = level_power o (e ∙ h) in
     let link' : Links s Power f.end k = subst (λ z. Links s z f.end k) is link in
@@ -142,7 +142,7 @@ refused_right s l i k old mid o f h e a link b =
 
 gives_done : (s : List ℕ) (l i : ℕ) (old new : List Node) (f : Found) → ((o : Operator) (k : ℕ) → Links s o f.end k → level_of o ≢ l)
     → Growing s l i old new f →
-    Outcome s (Level l) (Stops s l) i old new (Some f)
+    Parsed s (Level l) (Stops s l) i old new (Some f)
 gives_done s l i old new f h a = record {
   tree = a.tree;
   finds = finds_done s l i f.end a.tree h a.grows;
@@ -155,15 +155,15 @@ gives_done s l i old new f h a = record {
 }
 
 pub gives_over : (s : List ℕ) (l i : ℕ) (old new : List Node) (f : Found) → NoLink s f.end → Growing s l i old new f
-    → Outcome s (Level l) (Stops s l) i old new (Some f)
+    → Parsed s (Level l) (Stops s l) i old new (Some f)
 gives_over s l i old new f h a = gives_done s l i old new f (λ o k link. absurd (h.none o k link)) a
 
 pub gives_other : (s : List ℕ) (l i k : ℕ) (old new : List Node) (o : Operator) (f : Found) → level_of o ≢ l → Links s o f.end k → Growing s l i old new f
-    → Outcome s (Level l) (Stops s l) i old new (Some f)
+    → Parsed s (Level l) (Stops s l) i old new (Some f)
 gives_other s l i k old new o f h link a = gives_done s l i old new f (λ p m other e. h (ap level_of (link_unique s o p f.end k m link other).0 ∙ e)) a
 
-pub gives_plain : (s : List ℕ) (i k : ℕ) (old new : List Node) (f : Found) → IsWholeRun UnarySign s i k → Outcome s Primary (Stops s 7) k old new (Some f)
-    → Outcome s Element (Stops s 7) k old new (Some f)
+pub gives_plain : (s : List ℕ) (i k : ℕ) (old new : List Node) (f : Found) → IsWholeRun UnarySign s i k → Parsed s Primary (Stops s 7) k old new (Some f)
+    → Parsed s Element (Stops s 7) k old new (Some f)
 gives_plain s i k old new f h a = record {
   tree = a.tree;
   finds = finds_plain s k f.end a.tree h.stop a.finds;
@@ -177,8 +177,8 @@ gives_plain s i k old new f h a = record {
 
 -- one more sign before an element
 pub gives_signed : (s : List ℕ) (i : ℕ) (o : UnaryOperator) (old mid new : List Node) (f r : Found) → is_unary (byte s i) ≡ true → o ≡ unary_operator (byte s i)
-    → Outcome s Element (Stops s 7) (i + 1) old mid (Some f) →
-    new ≡ mid ++ nodes.Unary o f.id ∷ [] → r.id.0 ≡ length mid → r.end ≡ f.end → r.fits ≡ f.fits → Outcome s Element (Stops s 7) i old new (Some r)
+    → Parsed s Element (Stops s 7) (i + 1) old mid (Some f) →
+    new ≡ mid ++ nodes.Unary o f.id ∷ [] → r.id.0 ≡ length mid → r.end ≡ f.end → r.fits ≡ f.fits → Parsed s Element (Stops s 7) i old new (Some r)
 gives_signed s i o old mid new f r h d a p q m n = record {
   tree = Unary o a.tree;
   finds = rw (m, d) (finds_signed s i f.end a.tree h a.finds);
@@ -200,7 +200,7 @@ gives_signed s i o old mid new f r h d a p q m n = record {
 -- arguments
 pub gives_empty : (s : List ℕ) (i k : ℕ) (old new : List Node) (id : ExprId) → IsWholeRun Blank s i k → Closes s k → k ≤ length s →
     new ≡ old ++ nodes.Literal (record { start = k; end = k }) ∷ [] → id.0 ≡ length old
-    → ArgumentOutcome s i old new (Some (record { id = id; end = k; fits = true }))
+    → ParsedArgument s i old new (Some (record { id = id; end = k; fits = true }))
 gives_empty s i k old new id r h w p q = record {
   tree = Literal k k;
   finds = finds_empty s i k r h;
@@ -217,8 +217,8 @@ no_closing s k h e (inl f) = h f
 no_closing s k h e (inr f) = cc
 
 pub gives_given : (s : List ℕ) (i k l : ℕ) (old new : List Node) (f : Found) → IsWholeRun Blank s i k → byte s k ≢ 44 → is_closing (byte s k) ≡ false
-    → Outcome s (Level 0) (Stops s 0) k old new (Some f) →
-    IsWholeRun Blank s f.end l → l ≤ length s → ArgumentOutcome s i old new (Some (record { id = f.id; end = l; fits = f.fits }))
+    → Parsed s (Level 0) (Stops s 0) k old new (Some f) →
+    IsWholeRun Blank s f.end l → l ≤ length s → ParsedArgument s i old new (Some (record { id = f.id; end = l; fits = f.fits }))
 gives_given s i k l old new f r h e a t w = record {
   tree = a.tree;
   finds = finds_given s i k f.end l a.tree r (no_closing s k h e) a.finds t;
@@ -234,7 +234,7 @@ pub refused_given : (s : List ℕ) (i k : ℕ) → IsWholeRun Blank s i k → by
     → Refuses s Argument (Closes s) i
 refused_given s i k r h e f = refuses_given s i k r (no_closing s k h e) f
 
-pub listing_first : (s : List ℕ) (i : ℕ) (old new : List Node) (ids : List ExprId) (f : Found) → ArgumentOutcome s i old new (Some f) → ids ≡ f.id ∷ []
+pub listing_first : (s : List ℕ) (i : ℕ) (old new : List Node) (ids : List ExprId) (f : Found) → ParsedArgument s i old new (Some f) → ids ≡ f.id ∷ []
     → Listing s i old new ids f.end f.fits
 listing_first s i old new ids f a e = record {
   tree = One a.tree;
@@ -248,7 +248,7 @@ listing_first s i old new ids f a e = record {
 }
 
 pub listing_next : {n : ℕ} (s : List ℕ) (i e : ℕ) (old mid new : List Node) (ids more : List ExprId) (b c : Bool) (f : Found) → Listing s i old mid ids e b
-    → byte s e ≡ 44 → ArgumentOutcome s (e + 1) mid new (Some f) → Extends n mid new →
+    → byte s e ≡ 44 → ParsedArgument s (e + 1) mid new (Some f) → Extends n mid new →
     more ≡ ids ++ f.id ∷ [] → c ≡ (b && f.fits) → Listing s i old new more f.end c
 listing_next s i e old mid new ids more b c f a h g x p q = record {
   tree = And a.tree g.tree;
@@ -308,7 +308,7 @@ gives_applied : (s : List ℕ) (i k : ℕ) (old last new : List Node) (node : No
     ≡ true → IsWholeRun NameByte s i k → IsPair (byte s k) (byte s e) → e < length s →
     (a : GivesList s (k + 1) old last ids e b) → StandsFor new (applied (byte s k) i k a.tree) (id ∷ []) → new ≡ last ++ node ∷ []
     → id.0 ≡ length last → operands node ≡ ids →
-    Outcome s Primary (Stops s 7) i old new (Some (record { id = id; end = e + 1; fits = b }))
+    Parsed s Primary (Stops s 7) i old new (Some (record { id = id; end = e + 1; fits = b }))
 gives_applied s i k old last new node id e b ids h r pair w a st p q o =
     let name : IsName s i k = record { letter = h; rest = r } in
     record {
@@ -348,8 +348,8 @@ operands_applied b span ids = elim (cases_40 b) [
 
 pub gives_call : (s : List ℕ) (i k c : ℕ) (old last new : List Node) (id : ExprId) (f : FoundList) → is_letter (byte s i) ≡ true → IsWholeRun NameByte s i k
     → c ≡ byte s k → IsPair (byte s k) (byte s f.end) → f.end < length s →
-    ListOutcome s (k + 1) old last (Some f) → new ≡ last ++ applied_node c (record { start = i; end = k }) f.ids ∷ [] → id.0 ≡ length last →
-    Outcome s Primary (Stops s 7) i old new (Some (record { id = id; end = f.end + 1; fits = f.fits }))
+    ParsedList s (k + 1) old last (Some f) → new ≡ last ++ applied_node c (record { start = i; end = k }) f.ids ∷ [] → id.0 ≡ length last →
+    Parsed s Primary (Stops s 7) i old new (Some (record { id = id; end = f.end + 1; fits = f.fits }))
 gives_call s i k c old last new id f h r g pair w a p q =
     gives_applied s i k old last new _ id f.end f.fits f.ids.items h r pair w a (stands_applied last new (byte s k) c i k a.tree f.ids id g a.stands p q) p q
     (operands_applied c _ f.ids)
@@ -377,13 +377,13 @@ refused_apply s i k h r o f = refuses_apply s i k (record { letter = h; rest = r
 
 pub refused_unpaired : (s : List ℕ) (i k : ℕ) (old last : List Node) (f : FoundList) → is_letter (byte s i) ≡ true → IsWholeRun NameByte s i k
     → is_opening (byte s k) ≡ true → (IsPair (byte s k) (byte s f.end) → ⊥) →
-    ListOutcome s (k + 1) old last (Some f) → Refuses s Primary (Stops s 7) i
+    ParsedList s (k + 1) old last (Some f) → Refuses s Primary (Stops s 7) i
 refused_unpaired s i k old last f h r o never a = refuses_unpaired s i k f.end a.tree (record { letter = h; rest = r }) o never a.finds
 
 -- The table grows by a sound node: an operator between operands, a unary operator, a name with arguments.
-pub extends_binary : {n : ℕ} {p : Part} {stops : ℕ → Type 0} (s : List ℕ) (l i k : ℕ) (old mid last new : List Node) (o : Operator) (f g : Found)
+pub extends_binary : {n : ℕ} {p : Nonterminal} {stops : ℕ → Type 0} (s : List ℕ) (l i k : ℕ) (old mid last new : List Node) (o : Operator) (f g : Found)
     → Growing s l i old mid f → Extends n old mid →
-    Outcome s p stops k mid last (Some g) → Extends n mid last → new ≡ last ++ nodes.Binary o f.id g.id ∷ [] → Extends n old new
+    Parsed s p stops k mid last (Some g) → Extends n mid last → new ≡ last ++ nodes.Binary o f.id g.id ∷ [] → Extends n old new
 extends_binary {n} s l i k old mid last new o f g a x b y e =
     extends_trans n old last new (extends_trans n old mid last x y)
     (extends_push n last new _ e (record {
@@ -396,8 +396,8 @@ extends_binary {n} s l i k old mid last new o f g a x b y e =
       named = tt;
     }))
 
-pub extends_unary : {n : ℕ} {p : Part} {stops : ℕ → Type 0} (s : List ℕ) (i : ℕ) (old mid new : List Node) (o : UnaryOperator) (f : Found)
-    → Outcome s p stops i old mid (Some f) → Extends n old mid →
+pub extends_unary : {n : ℕ} {p : Nonterminal} {stops : ℕ → Type 0} (s : List ℕ) (i : ℕ) (old mid new : List Node) (o : UnaryOperator) (f : Found)
+    → Parsed s p stops i old mid (Some f) → Extends n old mid →
     new ≡ mid ++ nodes.Unary o f.id ∷ [] → Extends n old new
 extends_unary {n} s i old mid new o f a x e =
     extends_trans n old mid new x (extends_push n mid new _ e (record { operands = stands_id_below mid a.tree f.id a.stands; spans = tt; named = tt }))
@@ -410,7 +410,7 @@ sound_applied n id b span ids f g h = elim (cases_40 b) [
 ]
 
 pub extends_applied : {n : ℕ} (s : List ℕ) (i c : ℕ) (old last new : List Node) (span : Span) (f : FoundList)
-    → ListOutcome s i old last (Some f) → Extends n old last →
+    → ParsedList s i old last (Some f) → Extends n old last →
     IsWithin span n → span.start < span.end → new ≡ last ++ applied_node c span f.ids ∷ [] → Extends n old new
 extends_applied {n} s i c old last new span f a x w h e =
     extends_trans n old last new x

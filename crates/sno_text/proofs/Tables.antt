@@ -16,7 +16,7 @@ use Rattle.sno_text.specs.Trees.{Tree, Variable, Integer, Literal, Keyword, Unar
 use Rattle.sno_text.specs.Trees.{IsPart, whole, operand, Uses}
 use Rattle.sno_text.specs.Grammar.{decimal, IsLiteral, Level, Primary}
 use Rattle.sno_text.specs.Links.{Stops, Finds, Refuses}
-use Rattle.sno_text.specs.Outcome.{IsSound, Grown, Extends, extended, Outcome}
+use Rattle.sno_text.specs.Parsed.{IsSound, Grown, Extends, extended, Parsed}
 use Rattle.sno_text.proofs.Primaries.{finds_keyword, refuses_keyword, finds_variable, finds_literal, refuses_literal, finds_integer, finds_group, refuses_group}
 use Rattle.sno_text.proofs.Primaries.{refuses_unclosed}
 
@@ -190,7 +190,7 @@ uses_pushed n last new node id a p q = record {
 -- a token
 gives_token : (s : List ℕ) (i e : ℕ) (old new : List Node) (id : ExprId) (node : Node) (t : Tree) (f : Bool) → Finds s Primary (Stops s 7) i e t
     → StandsFor new t (id ∷ []) → f ≡ fits t →
-    i < e → e ≤ length s → new ≡ old ++ node ∷ [] → id.0 ≡ length old → Outcome s Primary (Stops s 7) i old new (Some (record { id = id; end = e; fits = f }))
+    i < e → e ≤ length s → new ≡ old ++ node ∷ [] → id.0 ≡ length old → Parsed s Primary (Stops s 7) i old new (Some (record { id = id; end = e; fits = f }))
 gives_token s i e old new id node t f d st g o w p q = record {
   tree = t;
   finds = d;
@@ -205,7 +205,7 @@ gives_token s i e old new id node t f d st g o w p q = record {
 pub gives_keyword : (s : List ℕ) (i e : ℕ) (old new : List Node) (id : ExprId) → byte s i ≡ 38 → is_letter (byte s (i + 1)) ≡ true
     → IsWholeRun NameByte s (i + 1) e → e ≤ length s →
     new ≡ old ++ nodes.Keyword (record { start = i + 1; end = e }) ∷ [] → id.0 ≡ length old
-    → Outcome s Primary (Stops s 7) i old new (Some (record { id = id; end = e; fits = true }))
+    → Parsed s Primary (Stops s 7) i old new (Some (record { id = id; end = e; fits = true }))
 gives_keyword s i e old new id h l r w p q =
     gives_token s i e old new id _ (Keyword (i + 1) e) true (finds_keyword s i e h (record { letter = l; rest = r }))
     (id, refl, holds_pushed old new _ id p q) refl
@@ -225,7 +225,7 @@ run_some c s i e r h = elim (cases_lt i e) [
 pub gives_variable : (s : List ℕ) (i e : ℕ) (old new : List Node) (id : ExprId) → is_letter (byte s i) ≡ true → IsWholeRun NameByte s i e
     → is_opening (byte s e) ≡ false → e ≤ length s →
     new ≡ old ++ nodes.Variable (record { start = i; end = e }) ∷ [] → id.0 ≡ length old
-    → Outcome s Primary (Stops s 7) i old new (Some (record { id = id; end = e; fits = true }))
+    → Parsed s Primary (Stops s 7) i old new (Some (record { id = id; end = e; fits = true }))
 gives_variable s i e old new id l r h w p q =
     gives_token s i e old new id _ (Variable i e) true (finds_variable s i e (record { letter = l; rest = r }) h) (id, refl, holds_pushed old new _ id p q) refl
     (run_some NameByte s i e r (letter_is_name_byte _ l)) w p q
@@ -246,7 +246,7 @@ next_literal s i at e b q f n g = let o = n.order in record {
 pub gives_literal : (s : List ℕ) (i at b : ℕ) (old new : List Node) (id : ExprId) → (byte s i ≡ 39) ⊎ (byte s i ≡ 34) → b ≡ byte s i
     → IsLiteralEnd s b (i + 1) at →
     new ≡ old ++ nodes.Literal (record { start = i + 1; end = at }) ∷ [] → id.0 ≡ length old
-    → Outcome s Primary (Stops s 7) i old new (Some (record { id = id; end = at + 1; fits = true }))
+    → Parsed s Primary (Stops s 7) i old new (Some (record { id = id; end = at + 1; fits = true }))
 gives_literal s i at b old new id h f n p q =
     let e : (at + 1) - 1 ≡ at = omega arith in
     let l = next_literal s i at (at + 1) b h f n refl in
@@ -275,16 +275,16 @@ pub gives_integer : (s : List ℕ) (i e n : ℕ) (f : Bool) (old new : List Node
     → IsWholeRun Digit s i e → e ≤ length s →
     n ≡ decimal 0 (take (e - i) (drop i s)) → f ≡ nat_lt n (2 ^ 63) →
     new ≡ old ++ nodes.Integer (pos (min n (2 ^ 63 - 1))) ∷ [] → id.0 ≡ length old
-    → Outcome s Primary (Stops s 7) i old new (Some (record { id = id; end = e; fits = f }))
+    → Parsed s Primary (Stops s 7) i old new (Some (record { id = id; end = e; fits = f }))
 gives_integer s i e n f old new id h r w d g p q =
     let some = run_some Digit s i e r h in
     gives_token s i e old new id _ (Integer n) f (rw d (finds_integer s i e (record { some = some; digits = r }))) (id, refl, holds_pushed old new _ id p q) g
     some w p q
 
 pub gives_group : (s : List ℕ) (i k l : ℕ) (old new : List Node) (f : Found) → byte s i ≡ 40 → IsWholeRun Blank s (i + 1) k
-    → Outcome s (Level 0) (Stops s 0) k old new (Some f) →
+    → Parsed s (Level 0) (Stops s 0) k old new (Some f) →
     IsWholeRun Blank s f.end l → byte s l ≡ 41 → l < length s
-    → Outcome s Primary (Stops s 7) i old new (Some (record { id = f.id; end = l + 1; fits = f.fits }))
+    → Parsed s Primary (Stops s 7) i old new (Some (record { id = f.id; end = l + 1; fits = f.fits }))
 gives_group s i k l old new f h g d r c w = record {
   tree = d.tree;
   finds = finds_group s i k f.end l d.tree h g d.finds r c;
@@ -297,7 +297,7 @@ gives_group s i k l old new f h g d r c w = record {
 }
 
 pub refused_unclosed : (s : List ℕ) (i k l : ℕ) (old new : List Node) (f : Found) → byte s i ≡ 40 → IsWholeRun Blank s (i + 1) k
-    → Outcome s (Level 0) (Stops s 0) k old new (Some f) →
+    → Parsed s (Level 0) (Stops s 0) k old new (Some f) →
     IsWholeRun Blank s f.end l → byte s l ≢ 41 → Refuses s Primary (Stops s 7) i
 refused_unclosed s i k l old new f h g d r c = refuses_unclosed s i k f.end l d.tree h g d.finds r c
 

@@ -14,9 +14,9 @@ use Rattle.sno_text.specs.Bytes.{byte, is_blank, is_letter, is_digit, is_name_by
 use Rattle.sno_text.specs.Trees.{Tree}
 use Rattle.sno_text.specs.Grammar.{IsGap, Element, Reads}
 use Rattle.sno_text.specs.Links.{Stops, Refuses}
-use Rattle.sno_text.specs.Outcome.{Outcome as Found_outcome}
+use Rattle.sno_text.specs.Parsed.{Parsed as Found_outcome}
 use Rattle.sno_text.specs.Statements.{TargetTree, Label, Computed, IsLabel, IsPlace, label, computed, IsTarget, HasOther, target_fits, target_option_fits}
-use Rattle.sno_text.specs.Source.{target_ids, target_option_ids}
+use Rattle.sno_text.specs.Program.{target_ids, target_option_ids}
 use Rattle.sno_text.specs.Pieces.{MeetsEnd, Anywhere, Gives, Lacks, StandsTarget, StandsTargets}
 use Rattle.sno_text.proofs.Runs.{run_end_unique}
 use Rattle.sno_text.proofs.Primaries.{gap_stops, end_byte_bracket}

@@ -71,14 +71,14 @@ pub record IsLiteral (s : List ℕ) (i j : ℕ) : Type 0 where
   pub closed : byte s (j - 1) ≡ byte s i
 
 -- Rest L t is what follows an operand of level L once t has been read.
-pub data Part : Type 0 where
-  Level : ℕ → Part
-  Rest : ℕ → Tree → Part
-  Element : Part
-  Primary : Part
-  Arguments : Part
-  More : Tree → Part
-  Argument : Part
+pub data Nonterminal : Type 0 where
+  Level : ℕ → Nonterminal
+  Rest : ℕ → Tree → Nonterminal
+  Element : Nonterminal
+  Primary : Nonterminal
+  Arguments : Nonterminal
+  More : Tree → Nonterminal
+  Argument : Nonterminal
 
 -- ( with ), < with >, [ with ]
 abbrev pub IsPair : ℕ → ℕ → Type 0
@@ -88,7 +88,7 @@ abbrev pub applied : ℕ → ℕ → ℕ → Tree → Tree
 applied bracket from to t = if bracket == 40 then Call from to t else Item from to t
 
 -- Reads s p i j t: the text s, from i to j, is a p, and t is its tree.
-pub data Reads (s : List ℕ) : Part → ℕ → ℕ → Tree → Type 0 where
+pub data Reads (s : List ℕ) : Nonterminal → ℕ → ℕ → Tree → Type 0 where
   -- expr = cat .. ; cat = sum .. ; .. ; assign = element ..
   chain : {l i m j : ℕ} {u t : Tree} → l < 7 → Reads s (Level (l + 1)) i m u → Reads s (Rest l u) m j t
       → Reads s (Level l) i j t

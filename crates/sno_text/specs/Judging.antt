@@ -9,10 +9,10 @@ use Rattle.sno_text.specs.declared.node.Span.{Span}
 use Rattle.sno_text.specs.declared.phrase.Phrase.{Phrase}
 use Rattle.sno_text.specs.declared.statement.Statement.{Statement}
 use Rattle.sno_text.specs.Refusals.{HasOpenLiteral}
-use Rattle.sno_text.specs.Outcome.{Extends}
+use Rattle.sno_text.specs.Parsed.{Extends}
 use Rattle.sno_text.specs.Lines.{extents, part}
 use Rattle.sno_text.specs.Trees.{Uses}
-use Rattle.sno_text.specs.Source.{program_ids, number_of, IsIndex, IsStatementOf}
+use Rattle.sno_text.specs.Program.{program_ids, number_of, IsIndex, IsStatementOf}
 use Rattle.sno_text.specs.Statements.{StatementTree}
 use Rattle.sno_text.specs.Phrases.{phrase_ids, StandsPhrase, StandsStatement}
 use Rattle.sno_text.specs.Programs.{Row, HasLabelled, IsAcceptedAt, Begins, IsTooLargeBytes}

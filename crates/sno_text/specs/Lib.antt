@@ -2,9 +2,9 @@ pub mod Bytes
 pub mod Trees
 pub mod Grammar
 pub mod Refusals
-pub mod Source
+pub mod Program
 pub mod Links
-pub mod Outcome
+pub mod Parsed
 pub mod Lines
 pub mod Layouts
 pub mod Statements

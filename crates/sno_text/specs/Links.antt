@@ -7,7 +7,7 @@ use Rattle.sno_text.specs.declared.node.Operator.TheVariants.{Alternate, Concate
 use Rattle.sno_text.specs.declared.node.Operator.TheVariants.{Power, Conditional, Immediate}
 use Rattle.sno_text.specs.Bytes.{byte, is_blank, is_first, is_opening, is_closing, can_start, IsRun, IsWholeRun}
 use Rattle.sno_text.specs.Trees.{Tree}
-use Rattle.sno_text.specs.Grammar.{level_of, Part, Level, Rest, Arguments, More, Reads}
+use Rattle.sno_text.specs.Grammar.{level_of, Nonterminal, Level, Rest, Arguments, More, Reads}
 
 -- unary signs, and then what a primary may begin with
 pub record Starts (s : List ℕ) (i : ℕ) : Type 0 where
@@ -66,12 +66,12 @@ abbrev pub Closes : List ℕ → ℕ → Type 0
 Closes s j = (byte s j ≡ 44) ⊎ Shuts s j
 
 -- From i to j stands a part with this tree, and no other from i ends where the level stops.
-pub record Finds (s : List ℕ) (p : Part) (stops : ℕ → Type 0) (i j : ℕ) (t : Tree) : Type 0 where
+pub record Finds (s : List ℕ) (p : Nonterminal) (stops : ℕ → Type 0) (i j : ℕ) (t : Tree) : Type 0 where
   pub reads : Reads s p i j t
   pub only : (k : ℕ) (u : Tree) → Reads s p i k u → stops k → (k ≡ j) × (u ≡ t)
 
 -- Nothing from i is such a part that ends where the level stops.
-pub record Refuses (s : List ℕ) (p : Part) (stops : ℕ → Type 0) (i : ℕ) : Type 0 where
+pub record Refuses (s : List ℕ) (p : Nonterminal) (stops : ℕ → Type 0) (i : ℕ) : Type 0 where
   pub none : (k : ℕ) (u : Tree) → Reads s p i k u → stops k → ⊥
 
 -- From i to j stand the operands so far, with the tree u.

@@ -9,7 +9,7 @@ use Rattle.sno_text.specs.Statements.{StatementTree, Fall, HasCore, HasJump, Has
 use Rattle.sno_text.specs.Lines.{extents, line_of}
 use Rattle.sno_value.specs.declared.ids.ExprId.{ExprId}
 use Rattle.sno_text.specs.Trees.{Uses}
-use Rattle.sno_text.specs.Source.{Source, core_option_ids, jump_ids, program_ids}
+use Rattle.sno_text.specs.Program.{Program, core_option_ids, jump_ids, program_ids}
 use Rattle.sno_text.specs.Pieces.{MeetsEnd, StandsCores, StandsJump}
 use Rattle.sno_text.specs.declared.table.Read.{Read}
 
@@ -83,7 +83,7 @@ pub record StandsStatement (s : List ℕ) (table : List Node) (st : Statement) (
   pub entry : st.entry ≡ t.entry
 
 -- The statements of a program stand for these trees, in order, and each node of the table is a part of one.
-pub record StandsProgram (p : Source) (s : List ℕ) (ts : List StatementTree) : Type 0 where
+pub record StandsProgram (p : Program) (s : List ℕ) (ts : List StatementTree) : Type 0 where
   pub count : length p.statements ≡ length ts
   pub each : (k : ℕ) (st : Statement) (span : Span) (t : StatementTree) → slice_get p.statements k ≡ Some st
       → slice_get (extents s) k ≡ Some span → slice_get ts k ≡ Some t →

@@ -10,7 +10,7 @@ use Rattle.sno_text.specs.declared.statement.Jump.TheVariants as jumps
 use Rattle.sno_text.specs.declared.statement.Core.{Core}
 use Rattle.sno_value.specs.declared.ids.ExprId.{ExprId}
 use Rattle.sno_text.specs.Bytes.{byte, IsWholeRun}
-use Rattle.sno_text.specs.Source.{option_ids, target_ids, target_option_ids}
+use Rattle.sno_text.specs.Program.{option_ids, target_ids, target_option_ids}
 use Rattle.sno_text.specs.Trees.{Tree, Stands, Uses}
 use Rattle.sno_text.specs.Statements.{TargetTree, Label, Computed, JumpTree, Fall, Always, Either, CoreTree, HasObject}
 use Rattle.sno_text.specs.Statements.{HasTargets, option_fits, target_fits, target_option_fits}
@@ -54,10 +54,11 @@ pub record Gives (V C : Type 0) (P : ℕ → V → Type 0) (stops : ℕ → Type
 pub record Lacks (V : Type 0) (P : ℕ → V → Type 0) (stops : ℕ → Type 0) : Type 0 where
   pub none : (k : ℕ) (u : V) → P k u → stops k → ⊥
 
-abbrev pub Outcome : (V C : Type 0) → (ℕ → V → Type 0) → (ℕ → Type 0) → (List Node → C → V → Type 0) → (C → List ExprId)
+abbrev pub ParsedPiece : (V C : Type 0) → (ℕ → V → Type 0) → (ℕ → Type 0)
+    → (List Node → C → V → Type 0) → (C → List ExprId)
     → (V → Bool) → ℕ → ℕ → List Node → List Node → Option (Read C) → Type 0
-Outcome V C P stops stands held fit n i old new None = Lacks V P stops
-Outcome V C P stops stands held fit n i old new (Some f) = Gives V C P stops stands held fit n i old new f
+ParsedPiece V C P stops stands held fit n i old new None = Lacks V P stops
+ParsedPiece V C P stops stands held fit n i old new (Some f) = Gives V C P stops stands held fit n i old new f
 
 abbrev pub StandsTarget : List Node → Target → TargetTree → Type 0
 StandsTarget table (targets.Label span) (Label place) = span ≡ place

@@ -3,9 +3,10 @@ ghost use Rattle.std.specs.Prelude.{◌≡◌, ◌+◌, ◌^◌, ◌<◌, ◌≤
 ghost use Rattle.sno_text.specs.Trees.{Tree};
 ghost use Rattle.sno_text.specs.Statements.{HasExpression, HasObject, IsCore, HasCore, CoreTree, option_fits};
 ghost use Rattle.sno_text.specs.Statements.{core_fits, core_option_fits};
-ghost use Rattle.sno_text.specs.Source.{option_ids, core_ids, core_option_ids};
-ghost use Rattle.sno_text.specs.Outcome.{Extends};
-ghost use Rattle.sno_text.specs.Pieces.{Outcome, MeetsColon, MeetsEquals, StandsExpression, StandsObject, StandsCore};
+ghost use Rattle.sno_text.specs.Program.{option_ids, core_ids, core_option_ids};
+ghost use Rattle.sno_text.specs.Parsed.{Extends};
+ghost use Rattle.sno_text.specs.Pieces.{ParsedPiece, MeetsColon, MeetsEquals, StandsExpression, StandsObject};
+ghost use Rattle.sno_text.specs.Pieces.{StandsCore};
 ghost use Rattle.sno_text.specs.Pieces.{StandsCores, HasObjectPair, object_ids, object_fits};
 
 use crate::bytes::{Class, byte_at, is_in, run_end};
@@ -34,7 +35,7 @@ fn read_optional(
     requires within { from ≤ length text.now }
     requires room { length nodes.old.items + length text.now < from + 2 ^ 32 }
     ensures read { IfOk result
-        (Outcome (Option Tree) (Option ExprId) (HasExpression text.now from) (MeetsEquals text.now) StandsExpression
+        (ParsedPiece (Option Tree) (Option ExprId) (HasExpression text.now from) (MeetsEquals text.now) StandsExpression
         option_ids option_fits (length text.now) from nodes.old.items nodes.new.items) }
     ensures extends { Extends (length text.now) nodes.old.items nodes.new.items }
 {
@@ -67,7 +68,8 @@ fn read_object(
     requires within { from ≤ length text.now }
     requires room { length nodes.old.items + length text.now < from + 2 ^ 32 }
     ensures read { IfOk result
-        (Outcome (Bool × Option Tree) Object (HasObjectPair text.now from) (MeetsColon text.now) StandsObject object_ids
+        (ParsedPiece (Bool × Option Tree) Object (HasObjectPair text.now from)
+        (MeetsColon text.now) StandsObject object_ids
         object_fits (length text.now) from nodes.old.items nodes.new.items) }
     ensures extends { Extends (length text.now) nodes.old.items nodes.new.items }
 {
@@ -108,7 +110,7 @@ fn read_core(
     requires within { from ≤ length text.now }
     requires room { length nodes.old.items + length text.now < from + 2 ^ 32 }
     ensures read { IfOk result
-        (Outcome CoreTree Core (IsCore text.now from) (MeetsColon text.now) StandsCore core_ids core_fits
+        (ParsedPiece CoreTree Core (IsCore text.now from) (MeetsColon text.now) StandsCore core_ids core_fits
         (length text.now) from nodes.old.items nodes.new.items) }
     ensures extends { Extends (length text.now) nodes.old.items nodes.new.items }
 {
@@ -146,7 +148,7 @@ pub fn read_body(
     requires within { from ≤ length text.now }
     requires room { length nodes.old.items + length text.now < from + 2 ^ 32 }
     ensures read { IfOk result
-        (Outcome (Option CoreTree) (Option Core) (HasCore text.now from) (MeetsColon text.now) StandsCores
+        (ParsedPiece (Option CoreTree) (Option Core) (HasCore text.now from) (MeetsColon text.now) StandsCores
         core_option_ids core_option_fits (length text.now) from nodes.old.items nodes.new.items) }
     ensures extends { Extends (length text.now) nodes.old.items nodes.new.items }
 {

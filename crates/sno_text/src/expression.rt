@@ -6,7 +6,7 @@ ghost use Rattle.std.specs.Prelude.{◌≡◌, ◌+◌, ◌^◌, ◌<◌, ◌≤
 ghost use Rattle.sno_text.specs.Bytes.{byte, is_letter};
 ghost use Rattle.sno_text.specs.Grammar.{IsPair, Level, Element, Primary};
 ghost use Rattle.sno_text.specs.Links.{Stops};
-ghost use Rattle.sno_text.specs.Outcome.{Outcome, ArgumentOutcome, ListOutcome, Extends};
+ghost use Rattle.sno_text.specs.Parsed.{Parsed, ParsedArgument, ParsedList, Extends};
 
 use crate::bytes::{Class, byte_at, is_in, run_end};
 use crate::node::{Node, Span};
@@ -54,7 +54,7 @@ pub fn read_level(
     requires level { level ≤ 7 }
     requires room { length nodes.old.items + length text.now < from + 2 ^ 32 }
     ensures read { IfOk result
-        (Outcome text.now (Level level) (Stops text.now level) from nodes.old.items nodes.new.items) }
+        (Parsed text.now (Level level) (Stops text.now level) from nodes.old.items nodes.new.items) }
     ensures extends { Extends (length text.now) nodes.old.items nodes.new.items }
 {
     if level == ELEMENT {
@@ -92,7 +92,7 @@ pub fn read_element(
 ) -> Result<Option<Found>, AllocError>
     requires within { from ≤ length text.now }
     requires room { length nodes.old.items + length text.now < from + 2 ^ 32 }
-    ensures read { IfOk result (Outcome text.now Element (Stops text.now 7) from nodes.old.items nodes.new.items) }
+    ensures read { IfOk result (Parsed text.now Element (Stops text.now 7) from nodes.old.items nodes.new.items) }
     ensures extends { Extends (length text.now) nodes.old.items nodes.new.items }
 {
     let mut at = run_end(text, Class::UnarySign, from);
@@ -123,7 +123,7 @@ fn read_primary(
 ) -> Result<Option<Found>, AllocError>
     requires within { from ≤ length text.now }
     requires room { length nodes.old.items + length text.now < from + 2 ^ 32 }
-    ensures read { IfOk result (Outcome text.now Primary (Stops text.now 7) from nodes.old.items nodes.new.items) }
+    ensures read { IfOk result (Parsed text.now Primary (Stops text.now 7) from nodes.old.items nodes.new.items) }
     ensures extends { Extends (length text.now) nodes.old.items nodes.new.items }
 {
     let first = byte_at(text, from);
@@ -153,7 +153,7 @@ fn read_name(
     requires letter { is_letter (byte text.now from) ≡ true }
     requires within { from ≤ length text.now }
     requires room { length nodes.old.items + length text.now < from + 2 ^ 32 }
-    ensures read { IfOk result (Outcome text.now Primary (Stops text.now 7) from nodes.old.items nodes.new.items) }
+    ensures read { IfOk result (Parsed text.now Primary (Stops text.now 7) from nodes.old.items nodes.new.items) }
     ensures extends { Extends (length text.now) nodes.old.items nodes.new.items }
 {
     let end = run_end(text, Class::NameByte, from);
@@ -197,7 +197,7 @@ fn read_arguments(
 ) -> Result<Option<FoundList>, AllocError>
     requires within { from ≤ length text.now }
     requires room { length nodes.old.items + length text.now < from + 2 ^ 32 }
-    ensures read { IfOk result (ListOutcome text.now from nodes.old.items nodes.new.items) }
+    ensures read { IfOk result (ParsedList text.now from nodes.old.items nodes.new.items) }
     ensures extends { Extends (length text.now) nodes.old.items nodes.new.items }
 {
     let Some(first) = read_argument(alloc, text, nodes, from)? else {
@@ -229,7 +229,7 @@ fn read_argument(
 ) -> Result<Option<Found>, AllocError>
     requires within { from ≤ length text.now }
     requires room { length nodes.old.items + length text.now < from + 2 ^ 32 }
-    ensures read { IfOk result (ArgumentOutcome text.now from nodes.old.items nodes.new.items) }
+    ensures read { IfOk result (ParsedArgument text.now from nodes.old.items nodes.new.items) }
     ensures extends { Extends (length text.now) nodes.old.items nodes.new.items }
 {
     let start = run_end(text, Class::Blank, from);
@@ -265,7 +265,7 @@ fn read_group(
     requires opening { byte text.now from ≡ 40 }
     requires within { from < length text.now }
     requires room { length nodes.old.items + length text.now < from + 2 ^ 32 }
-    ensures read { IfOk result (Outcome text.now Primary (Stops text.now 7) from nodes.old.items nodes.new.items) }
+    ensures read { IfOk result (Parsed text.now Primary (Stops text.now 7) from nodes.old.items nodes.new.items) }
     ensures extends { Extends (length text.now) nodes.old.items nodes.new.items }
 {
     let start = run_end(text, Class::Blank, from + 1);

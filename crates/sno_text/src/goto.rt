@@ -3,9 +3,10 @@ ghost use Rattle.std.specs.Prelude.{◌≡◌, ◌+◌, ◌^◌, ◌<◌, ◌≤
 ghost use Rattle.sno_text.specs.Statements.{IsLabel, IsPlace, IsTarget, HasOther, IsBranch, HasJump, TargetTree};
 ghost use Rattle.sno_text.specs.Statements.{JumpTree, target_fits, target_option_fits, jump_fits};
 ghost use Rattle.sno_text.specs.Links.{Stops};
-ghost use Rattle.sno_text.specs.Source.{target_ids, target_option_ids, jump_ids};
-ghost use Rattle.sno_text.specs.Outcome.{Extends};
-ghost use Rattle.sno_text.specs.Pieces.{Outcome, MeetsEnd, StandsTarget, StandsTargets, StandsTargetPair, StandsJump};
+ghost use Rattle.sno_text.specs.Program.{target_ids, target_option_ids, jump_ids};
+ghost use Rattle.sno_text.specs.Parsed.{Extends};
+ghost use Rattle.sno_text.specs.Pieces.{ParsedPiece, MeetsEnd, StandsTarget, StandsTargets, StandsTargetPair};
+ghost use Rattle.sno_text.specs.Pieces.{StandsJump};
 ghost use Rattle.sno_text.specs.Pieces.{HasTargetPair, pair_ids, pair_fits, Anywhere};
 
 use crate::bytes::{Class, byte_at, is_in, run_end};
@@ -42,7 +43,7 @@ fn read_place(
     requires within { from ≤ length text.now }
     requires room { length nodes.old.items + length text.now < from + 2 ^ 32 }
     ensures read { IfOk result
-        (Outcome TargetTree Target (IsPlace text.now from) (Stops text.now 7) StandsTarget target_ids target_fits
+        (ParsedPiece TargetTree Target (IsPlace text.now from) (Stops text.now 7) StandsTarget target_ids target_fits
         (length text.now) from nodes.old.items nodes.new.items) }
     ensures extends { Extends (length text.now) nodes.old.items nodes.new.items }
 {
@@ -78,7 +79,7 @@ pub fn read_target(
     requires within { from ≤ length text.now }
     requires room { length nodes.old.items + length text.now < from + 2 ^ 32 }
     ensures read { IfOk result
-        (Outcome TargetTree Target (IsTarget text.now from) Anywhere StandsTarget target_ids target_fits
+        (ParsedPiece TargetTree Target (IsTarget text.now from) Anywhere StandsTarget target_ids target_fits
         (length text.now) from nodes.old.items nodes.new.items) }
     ensures extends { Extends (length text.now) nodes.old.items nodes.new.items }
 {
@@ -113,7 +114,8 @@ fn read_other(
     requires within { from ≤ length text.now }
     requires room { length nodes.old.items + length text.now < from + 2 ^ 32 }
     ensures read { IfOk result
-        (Outcome (Option TargetTree) (Option Target) (HasOther text.now letter from) (MeetsEnd text.now) StandsTargets
+        (ParsedPiece (Option TargetTree) (Option Target) (HasOther text.now letter from)
+        (MeetsEnd text.now) StandsTargets
         target_option_ids target_option_fits (length text.now) from nodes.old.items nodes.new.items) }
     ensures extends { Extends (length text.now) nodes.old.items nodes.new.items }
 {
@@ -154,7 +156,8 @@ fn read_targets(
     requires letter { (letter ≡ 70) ⊎ (letter ≡ 83) }
     requires within { from ≤ length text.now }
     requires room { length nodes.old.items + length text.now < from + 2 ^ 32 }
-    ensures read { IfOk result (Outcome (TargetTree × Option TargetTree) Targets (HasTargetPair text.now letter from)
+    ensures read { IfOk result
+        (ParsedPiece (TargetTree × Option TargetTree) Targets (HasTargetPair text.now letter from)
         (MeetsEnd text.now) StandsTargetPair pair_ids pair_fits (length text.now) from
         nodes.old.items nodes.new.items) }
     ensures extends { Extends (length text.now) nodes.old.items nodes.new.items }
@@ -188,7 +191,7 @@ fn read_branch(
     requires within { from ≤ length text.now }
     requires room { length nodes.old.items + length text.now < from + 2 ^ 32 }
     ensures read { IfOk result
-        (Outcome JumpTree Jump (IsBranch text.now from) (MeetsEnd text.now) StandsJump jump_ids jump_fits
+        (ParsedPiece JumpTree Jump (IsBranch text.now from) (MeetsEnd text.now) StandsJump jump_ids jump_fits
         (length text.now) from nodes.old.items nodes.new.items) }
     ensures extends { Extends (length text.now) nodes.old.items nodes.new.items }
 {
@@ -236,7 +239,7 @@ pub fn read_jump(
     requires within { from ≤ length text.now }
     requires room { length nodes.old.items + length text.now < from + 2 ^ 32 }
     ensures read { IfOk result
-        (Outcome JumpTree Jump (HasJump text.now from) (MeetsEnd text.now) StandsJump jump_ids jump_fits
+        (ParsedPiece JumpTree Jump (HasJump text.now from) (MeetsEnd text.now) StandsJump jump_ids jump_fits
         (length text.now) from nodes.old.items nodes.new.items) }
     ensures extends { Extends (length text.now) nodes.old.items nodes.new.items }
 {

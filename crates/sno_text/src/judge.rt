@@ -4,9 +4,9 @@ ghost use Rattle.std.specs.Prelude.{length, codes, is_some, IfOk, IfErr, IfNone,
 ghost use Rattle.sno_text.specs.Lines as lines;
 ghost use Rattle.sno_text.specs.Lines.{part};
 ghost use Rattle.sno_text.specs.Refusals.{HasOpenLiteral};
-ghost use Rattle.sno_text.specs.Source.{number_of, IsIndex, IsWithin, IsOptionWithin};
+ghost use Rattle.sno_text.specs.Program.{number_of, IsIndex, IsWithin, IsOptionWithin};
 ghost use Rattle.sno_text.specs.Statements.{StatementTree};
-ghost use Rattle.sno_text.specs.Outcome.{Extends};
+ghost use Rattle.sno_text.specs.Parsed.{Extends};
 ghost use Rattle.sno_text.specs.Programs.{IsTooLargeBytes, IsRefusedAt};
 ghost use Rattle.sno_text.specs.Judging.{Knows, Accepts, IsShapeRefused, IsLabelRefused, statement_of};
 

@@ -1,7 +1,7 @@
 //! Whole statements.
 ghost use Rattle.std.specs.Prelude.{◌≡◌, ◌≢◌, ◌+◌, ◌^◌, ◌<◌, ◌≤◌, ℕ, length, true, false, Some, None, IfOk};
 ghost use Rattle.sno_text.specs.Lines.{part};
-ghost use Rattle.sno_text.specs.Outcome.{Extends};
+ghost use Rattle.sno_text.specs.Parsed.{Extends};
 ghost use Rattle.sno_text.specs.Phrases.{PlainOutcome, EndOutcome, StatementOutcome, FindsEntry};
 
 use crate::body::read_body;

@@ -1,7 +1,7 @@
 //! What the reader gives.
 ghost use Rattle.std.specs.Prelude.{◌≡◌, ◌≤◌, ◌<◌, ◌-◌, ◌^◌, ◌==◌, ℕ, length, None, Some, IfSome, IfNone};
 ghost use Rattle.std.specs.Prelude.{if◌then◌else◌, option_copied, slice_get, slice_range};
-ghost use Rattle.sno_text.specs.Source.{IsTable, OperandsBelow, SpansWithin, IsStatementOf, IsLabelled, IsWhole};
+ghost use Rattle.sno_text.specs.Program.{IsTable, OperandsBelow, SpansWithin, IsStatementOf, IsLabelled, IsWhole};
 
 use crate::node::{Node, Span};
 use crate::statement::Statement;
@@ -20,9 +20,9 @@ pub struct Program {
 }
 
 impl Model for Program {
-    ghost use Rattle.sno_text.specs.Source.{Source, IsWhole};
+    ghost use Rattle.sno_text.specs.Program.{Program, IsWhole};
 
-    ghost Value = { Source };
+    ghost Value = { Program };
 
     ghost view = { λ p. record { text = p.text.items; nodes = p.nodes.items; statements = p.statements.items } };
 

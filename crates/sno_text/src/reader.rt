@@ -1,6 +1,6 @@
 //! The readers of a whole text.
 ghost use Rattle.std.specs.Prelude.{◌≡◌, ◌<◌, ◌≤◌, ◌^◌, [], ◌∷◌, true, false, ℕ, List, Contains, length, IfOk, IfErr};
-ghost use Rattle.sno_text.specs.Source.{IsTable};
+ghost use Rattle.sno_text.specs.Program.{IsTable};
 ghost use Rattle.sno_text.specs.Trees.{Tree, Stands, Uses};
 ghost use Rattle.sno_text.specs.Refusals.{IsAccepted, IsRefused};
 

@@ -3,7 +3,7 @@ ghost use Rattle.std.specs.Prelude.{◌≡◌, ◌+◌, ◌-◌, ◌^◌, ◌<�
 ghost use Rattle.sno_text.specs.Bytes.{byte, is_digit};
 ghost use Rattle.sno_text.specs.Grammar.{decimal, Primary};
 ghost use Rattle.sno_text.specs.Links.{Stops};
-ghost use Rattle.sno_text.specs.Outcome.{Outcome, Extends};
+ghost use Rattle.sno_text.specs.Parsed.{Parsed, Extends};
 
 use crate::bytes::{Class, byte_at, is_in, literal_end, run_end};
 use crate::node::{Node, Span};
@@ -37,7 +37,7 @@ pub fn read_integer(
     requires digit { is_digit (byte text.now from) ≡ true }
     requires within { from ≤ length text.now }
     requires room { length nodes.old.items + length text.now < from + 2 ^ 32 }
-    ensures read { IfOk result (Outcome text.now Primary (Stops text.now 7) from nodes.old.items nodes.new.items) }
+    ensures read { IfOk result (Parsed text.now Primary (Stops text.now 7) from nodes.old.items nodes.new.items) }
     ensures extends { Extends (length text.now) nodes.old.items nodes.new.items }
 {
     let end = run_end(text, Class::Digit, from);
@@ -59,7 +59,7 @@ pub fn read_literal(
     requires quote { (byte text.now from ≡ 39) ⊎ (byte text.now from ≡ 34) }
     requires within { from < length text.now }
     requires room { length nodes.old.items + length text.now < from + 2 ^ 32 }
-    ensures read { IfOk result (Outcome text.now Primary (Stops text.now 7) from nodes.old.items nodes.new.items) }
+    ensures read { IfOk result (Parsed text.now Primary (Stops text.now 7) from nodes.old.items nodes.new.items) }
     ensures extends { Extends (length text.now) nodes.old.items nodes.new.items }
 {
     let start = from + 1;
@@ -84,7 +84,7 @@ pub fn read_keyword(
     requires ampersand { byte text.now from ≡ 38 }
     requires within { from < length text.now }
     requires room { length nodes.old.items + length text.now < from + 2 ^ 32 }
-    ensures read { IfOk result (Outcome text.now Primary (Stops text.now 7) from nodes.old.items nodes.new.items) }
+    ensures read { IfOk result (Parsed text.now Primary (Stops text.now 7) from nodes.old.items nodes.new.items) }
     ensures extends { Extends (length text.now) nodes.old.items nodes.new.items }
 {
     let start = from + 1;

@@ -2,7 +2,7 @@
 ghost use Rattle.std.specs.Prelude.{◌≡◌, ◌≢◌, ◌+◌, ◌<◌, ◌≤◌, ◌==◌, ◌⊎◌, Some, true, false, ℕ, List, length, take};
 ghost use Rattle.std.specs.Prelude.{codes, IfOk, IfErr};
 ghost use Rattle.std.specs.List.{count_by, prefix_len};
-ghost use Rattle.sno_text.specs.Source.{IsWithin, IsOptionWithin};
+ghost use Rattle.sno_text.specs.Program.{IsWithin, IsOptionWithin};
 ghost use Rattle.sno_text.specs.Lines.{part};
 ghost use Rattle.sno_text.specs.Statements.{StatementTree};
 ghost use Rattle.sno_text.specs.Programs.{IsProgram, IsRefusedProgram};

@@ -6,18 +6,18 @@ use Rattle.sno_value.specs.declared.value.Value.{Value as Stored}
 use Rattle.sno_value.specs.declared.ids.ExprId.{ExprId}
 use Rattle.sno_text.specs.declared.node.UnaryOperator.{UnaryOperator}
 use Rattle.sno_text.specs.declared.node.UnaryOperator.TheVariants.{Plus, Minus, Indirect, NameOf, Defer, Cursor, Query, Not}
-use Rattle.sno_machine.specs.declared.machine.Exit.{Exit}
-use Rattle.sno_machine.specs.declared.machine.Exit.TheVariants.{Failure, Halt}
-use Rattle.sno_machine.specs.declared.machine.Stop.{Stop}
-use Rattle.sno_machine.specs.Action.{Action, gives, settles}
-use Rattle.sno_machine.specs.Operators.{answer, unary}
-use Rattle.sno_machine.specs.State.{State, Does, tree_of, IsPatternOf}
-use Rattle.sno_machine.specs.Values.{Value, shown, IsValueOf}
-use Rattle.sno_machine.proofs.Outcomes.{gives_does, then_got, then_err}
+use Rattle.sno_runtime.specs.declared.runtime.Exit.{Exit}
+use Rattle.sno_runtime.specs.declared.runtime.Exit.TheVariants.{Failure, Halt}
+use Rattle.sno_runtime.specs.declared.runtime.Stop.{Stop}
+use Rattle.sno_runtime.specs.Action.{Action, gives, settles}
+use Rattle.sno_runtime.specs.Operators.{answer, unary}
+use Rattle.sno_runtime.specs.Runtime.{Runtime, Does, tree_of, IsPatternOf}
+use Rattle.sno_runtime.specs.Values.{Value, shown, IsValueOf}
+use Rattle.sno_runtime.proofs.Outcomes.{gives_does, then_got, then_err}
 use Rattle.snobol.specs.Evaluate.{unary_value}
 use Rattle.snobol.specs.Given.{given_of, IsGivenOf}
 use Rattle.snobol.specs.Running.{Devices, Runs}
-use Rattle.snobol.specs.Sessions.{answer_of}
+use Rattle.snobol.specs.Turns.{answer_of}
 use Rattle.snobol.proofs.RunningLaws.{does_runs, runs_got, runs_failed, runs_halt}
 
 -- an operator that isn't `*` is applied
@@ -33,7 +33,7 @@ unary_applied Not e x other = refl
 
 -- the pattern of what an expression gave
 
-pub answered : (primitive : Option PrimitiveKind) (act : Action Value) (a b c : State) (d e : Devices) (v : Stored) (id : PatId)
+pub answered : (primitive : Option PrimitiveKind) (act : Action Value) (a b c : Runtime) (d e : Devices) (v : Stored) (id : PatId)
     → Runs shown IsValueOf act a b d e (Ok v) → Does tree_of IsPatternOf (answer primitive (shown b.nodes v)) b c (Ok id)
     → Runs given_of IsGivenOf (settles act (answer_of primitive)) a c d e (Ok (Some id))
 answered primitive act a b c d e v id did made =
@@ -42,7 +42,7 @@ answered primitive act a b c d e v id did made =
     (then_got tree_of IsPatternOf given_of IsGivenOf (answer primitive (shown b.nodes v)) (λ p. gives (Some p)) b c c id (Ok (Some id)) made
     (gives_does given_of IsGivenOf c (Some id) (Some (tree_of c.nodes id)) refl made.answer)))
 
-pub refused : (primitive : Option PrimitiveKind) (act : Action Value) (a b c : State) (d e : Devices) (v : Stored) (x : Exit)
+pub refused : (primitive : Option PrimitiveKind) (act : Action Value) (a b c : Runtime) (d e : Devices) (v : Stored) (x : Exit)
     → Runs shown IsValueOf act a b d e (Ok v) → Does {X = PatId} tree_of IsPatternOf (answer primitive (shown b.nodes v)) b c (Err x)
     → Runs {X = Option PatId} given_of IsGivenOf (settles act (answer_of primitive)) a c d e (Err x)
 refused primitive act a b c d e v x did made =
@@ -50,7 +50,7 @@ refused primitive act a b c d e v x did made =
     (does_runs {X = Option PatId} given_of IsGivenOf _ b c e (Err x) did.ready
     (then_err {X = PatId} {Y = Option PatId} tree_of IsPatternOf given_of IsGivenOf (answer primitive (shown b.nodes v)) (λ p. gives (Some p)) b c x made))
 
-pub none_given : (primitive : Option PrimitiveKind) (act : Action Value) (a b : State) (d e : Devices)
+pub none_given : (primitive : Option PrimitiveKind) (act : Action Value) (a b : Runtime) (d e : Devices)
     → Runs {X = Stored} shown IsValueOf act a b d e (Err Failure)
     → Runs {X = Option PatId} given_of IsGivenOf (settles act (answer_of primitive)) a b d e (Ok None)
 none_given primitive act a b d e did =
@@ -58,7 +58,7 @@ none_given primitive act a b d e did =
     (does_runs {X = Option PatId} given_of IsGivenOf (gives None) b b e (Ok None) did.ready
     (gives_does {X = Option PatId} given_of IsGivenOf b None None refl tt))
 
-pub halted : (primitive : Option PrimitiveKind) (act : Action Value) (a b : State) (d e : Devices) (why : Stop)
+pub halted : (primitive : Option PrimitiveKind) (act : Action Value) (a b : Runtime) (d e : Devices) (why : Stop)
     → Runs {X = Stored} shown IsValueOf act a b d e (Err (Halt why))
     → Runs {X = Option PatId} given_of IsGivenOf (settles act (answer_of primitive)) a b d e (Err (Halt why))
 halted primitive act a b d e why did = runs_halt {X = Stored} {Y = Option PatId} shown IsValueOf given_of IsGivenOf act (answer_of primitive) a b d e why did

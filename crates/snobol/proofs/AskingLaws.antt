@@ -4,24 +4,24 @@ use Rattle.std.proofs.Common.{length, refl, ap, subst, Option, None, Some, Resul
 use Rattle.std.proofs.lemmas.List.{length-append, length-take, length-drop}
 use Rattle.std.specs.Result.{result_err}
 use Rattle.sno_io.specs.declared.jobs.Limits.{Limits}
-use Rattle.sno_store.specs.Contents.{is_symbol}
+use Rattle.sno_store.specs.Store.{is_symbol}
 use Rattle.sno_pattern.specs.Table.{Node as Part}
 use Rattle.sno_text.specs.declared.node.Node.{Node}
 use Rattle.sno_text.specs.declared.node.Node.TheVariants as nodes
 use Rattle.sno_text.specs.declared.node.Span.{Span}
-use Rattle.sno_text.specs.Source.{Source, IsTable, IsNamed, SpansWithin}
+use Rattle.sno_text.specs.Program.{Program, IsTable, IsNamed, SpansWithin}
 use Rattle.snobol.specs.Forms.{token}
-use Rattle.sno_machine.specs.declared.machine.Exit.{Exit}
-use Rattle.sno_machine.specs.declared.machine.Exit.TheVariants.{Failure, Halt}
-use Rattle.sno_machine.specs.declared.machine.Stop.TheVariants.{Error as HasError, ErrorIn as HasErrorIn, NoMemory, ReadFault, WriteFault, Ended as HasEnded}
+use Rattle.sno_runtime.specs.declared.runtime.Exit.{Exit}
+use Rattle.sno_runtime.specs.declared.runtime.Exit.TheVariants.{Failure, Halt}
+use Rattle.sno_runtime.specs.declared.runtime.Stop.TheVariants.{Error as HasError, ErrorIn as HasErrorIn, NoMemory, ReadFault, WriteFault, Ended as HasEnded}
 use Rattle.snobol.specs.declared.execution.Outcome.TheVariants as ran
-use Rattle.sno_machine.specs.World.{World, new_keywords}
-use Rattle.sno_machine.specs.Action.{Error, Ending, Got, Fails, Stops, Outcome, Action, settled, settles, either, and_then, gives, fails}
-use Rattle.sno_machine.specs.Variables.{variable_named}
+use Rattle.sno_runtime.specs.World.{World, new_keywords}
+use Rattle.sno_runtime.specs.Action.{Error, Ending, Got, Fails, Stops, Outcome, Action, settled, settles, either, and_then, gives, fails}
+use Rattle.sno_runtime.specs.Variables.{variable_named}
 use Rattle.snobol.specs.Meaning.{name_in, joins_name, joins_names}
-use Rattle.sno_machine.specs.State.{State, new_state, Does, Grows, OnAnswer, OnGoing, itself, any}
+use Rattle.sno_runtime.specs.Runtime.{Runtime, new_runtime, Does, Grows, OnAnswer, OnGoing, itself, any}
 use Rattle.snobol.specs.Running.{Devices, HasFault, ran_in}
-use Rattle.snobol.specs.Asking.{answered, stopped_by, IsTooMuch, IsRefusal}
+use Rattle.snobol.specs.Machine.{answered, stopped_by, IsTooMuch, IsRefusal}
 
 -- what a call answers
 
@@ -162,16 +162,16 @@ names_stop text (node ∷ nodes) w h =
 
 -- why there is no machine
 
-pub machine_refused : (source : Source) (limits : Limits) (s : State) (x : Exit) → IsTable (length source.text) source.nodes
-    → Does {X = Unit} itself any (joins_names source.text source.nodes) (new_state (new_keywords false limits.statements limits.match_steps)) s (Err x)
-    → IsRefusal source limits (ran_in 0 x)
-machine_refused source limits s Failure table did = absurd (names_fail_not source.text source.nodes _ (ap (λ (o : Outcome Unit). o.ending) (did.meets [])))
-machine_refused source limits s (Halt (HasError code)) table did =
-    let named : (id : ℕ) (node : Node) → slice_get source.nodes id ≡ Some node → IfSome (name_in source.text node) (λ bytes. 0 < length bytes) =
-    λ id node at. named_some source.text node (table.named id node at) (table.spans id node at) in
-    (refl, names_stop source.text source.nodes _ named code (did.meets []).0, λ input. (did.meets input).0)
-machine_refused source limits s (Halt NoMemory) table did = tt
-machine_refused source limits s (Halt ReadFault) table did = absurd (did.meets [])
-machine_refused source limits s (Halt WriteFault) table did = absurd (did.meets [])
-machine_refused source limits s (Halt (HasErrorIn code statement)) table did = absurd (did.meets [])
-machine_refused source limits s (Halt HasEnded) table did = absurd (did.meets [])
+pub machine_refused : (program : Program) (limits : Limits) (s : Runtime) (x : Exit) → IsTable (length program.text) program.nodes
+    → Does {X = Unit} itself any (joins_names program.text program.nodes) (new_runtime (new_keywords false limits.statements limits.match_steps)) s (Err x)
+    → IsRefusal program limits (ran_in 0 x)
+machine_refused program limits s Failure table did = absurd (names_fail_not program.text program.nodes _ (ap (λ (o : Outcome Unit). o.ending) (did.meets [])))
+machine_refused program limits s (Halt (HasError code)) table did =
+    let named : (id : ℕ) (node : Node) → slice_get program.nodes id ≡ Some node → IfSome (name_in program.text node) (λ bytes. 0 < length bytes) =
+    λ id node at. named_some program.text node (table.named id node at) (table.spans id node at) in
+    (refl, names_stop program.text program.nodes _ named code (did.meets []).0, λ input. (did.meets input).0)
+machine_refused program limits s (Halt NoMemory) table did = tt
+machine_refused program limits s (Halt ReadFault) table did = absurd (did.meets [])
+machine_refused program limits s (Halt WriteFault) table did = absurd (did.meets [])
+machine_refused program limits s (Halt (HasErrorIn code statement)) table did = absurd (did.meets [])
+machine_refused program limits s (Halt HasEnded) table did = absurd (did.meets [])

@@ -8,7 +8,7 @@ use Rattle.sno_value.specs.declared.value.Name.{Name as Target}
 use Rattle.sno_value.specs.declared.value.Name.TheVariants.{Var}
 use Rattle.sno_value.specs.declared.value.Value.{Value as Stored}
 use Rattle.sno_value.specs.declared.value.Value.TheVariants as stored
-use Rattle.sno_text.specs.Source.{Source}
+use Rattle.sno_text.specs.Program.{Program}
 use Rattle.sno_text.specs.declared.node.Node.{Node as Form}
 use Rattle.sno_text.specs.declared.node.Node.TheVariants.{Literal, Integer, Variable, Unary, Binary, Call, Keyword, Item}
 use Rattle.sno_text.specs.declared.node.Span.{Span}
@@ -16,18 +16,18 @@ use Rattle.sno_store.specs.Calls.{saved, function_value}
 use Rattle.sno_store.specs.Definitions.{Definition}
 use Rattle.sno_store.specs.Functions.{definition_at}
 use Rattle.sno_store.specs.Names.{place, is_symbol}
-use Rattle.sno_machine.specs.declared.machine.Exit.{Exit}
-use Rattle.sno_machine.specs.declared.machine.Exit.TheVariants.{Failure, Halt}
-use Rattle.sno_machine.specs.declared.machine.Stop.{Stop}
-use Rattle.sno_machine.specs.declared.machine.Stop.TheVariants.{Error as HasError, ErrorIn as HasErrorIn, NoMemory, ReadFault, WriteFault, Ended as HasEnded}
-use Rattle.sno_machine.specs.World.{World, Keywords}
-use Rattle.sno_machine.specs.Action.{Error, Got, Fails, Outcome, Action, settled, settles, either, and_then, gives, fails, stops}
-use Rattle.sno_machine.specs.Calls.{shown_saved, left_world, Entered, Enters, Leaves}
-use Rattle.sno_machine.specs.State.{State, world, Does, Grows, OnGoing, OnAnswer, itself, any}
-use Rattle.sno_machine.specs.Values.{Value, Str, shown, IsValueOf}
-use Rattle.sno_machine.specs.Variables.{variable_named, symbol, joins}
-use Rattle.sno_machine.proofs.Calls.{saved_shown}
-use Rattle.sno_machine.proofs.Outcomes.{gives_does, no_memory_does, grows_none, then_got, then_err, saved_shown_stay}
+use Rattle.sno_runtime.specs.declared.runtime.Exit.{Exit}
+use Rattle.sno_runtime.specs.declared.runtime.Exit.TheVariants.{Failure, Halt}
+use Rattle.sno_runtime.specs.declared.runtime.Stop.{Stop}
+use Rattle.sno_runtime.specs.declared.runtime.Stop.TheVariants.{Error as HasError, ErrorIn as HasErrorIn, NoMemory, ReadFault, WriteFault, Ended as HasEnded}
+use Rattle.sno_runtime.specs.World.{World, Keywords}
+use Rattle.sno_runtime.specs.Action.{Error, Got, Fails, Outcome, Action, settled, settles, either, and_then, gives, fails, stops}
+use Rattle.sno_runtime.specs.Calls.{shown_saved, left_world, Entered, Enters, Leaves}
+use Rattle.sno_runtime.specs.Runtime.{Runtime, world, Does, Grows, OnGoing, OnAnswer, itself, any}
+use Rattle.sno_runtime.specs.Values.{Value, Str, shown, IsValueOf}
+use Rattle.sno_runtime.specs.Variables.{variable_named, symbol, joins}
+use Rattle.sno_runtime.proofs.Calls.{saved_shown}
+use Rattle.sno_runtime.proofs.Outcomes.{gives_does, no_memory_does, grows_none, then_got, then_err, saved_shown_stay}
 use Rattle.snobol.specs.declared.forms.Wanted.{Wanted}
 use Rattle.snobol.specs.declared.forms.Wanted.TheVariants as wanted
 use Rattle.snobol.specs.Calling.{RunsAt}
@@ -53,7 +53,7 @@ no_value_wanted text (Some (Call function arguments)) wanted.Field other = refl
 no_value_wanted text (Some (Keyword span)) wants other = refl
 no_value_wanted text (Some (Item function subscripts)) wants other = refl
 
-pub calls_none : (text : List ℕ) (o : Option Form) (wants : Wanted) (s : State) → function_called text o wants ≡ gives None
+pub calls_none : (text : List ℕ) (o : Option Form) (wants : Wanted) (s : Runtime) → function_called text o wants ≡ gives None
     → Does {X = Option SymId} itself any (function_called text o wants) s s (Ok None)
 calls_none text o wants s none = rw none (gives_does {X = Option SymId} itself any s None None refl tt)
 
@@ -65,7 +65,7 @@ form_called : (text : List ℕ) (o : Option Form) (node : Form) (function : Span
 form_called text o node function arguments wants at is value = rw (at, is, value) refl
 
 -- where its name joins no symbols
-pub unnamed : (text : List ℕ) (o : Option Form) (node : Form) (function : Span) (arguments : Vec ExprId Global) (wants : Wanted) (a b : State) (e : Exit)
+pub unnamed : (text : List ℕ) (o : Option Form) (node : Form) (function : Span) (arguments : Vec ExprId Global) (wants : Wanted) (a b : Runtime) (e : Exit)
     → o ≡ Some node → node ≡ Call function arguments → wants ≡ wanted.Value
     → Does {X = Target} itself any (variable_named (token text function)) a b (Err e)
     → Does {X = Option SymId} itself any (function_called text o wants) a b (Err e)
@@ -73,7 +73,7 @@ unnamed text o node function arguments wants a b e at is value did =
     rw (form_called text o node function arguments wants at is value)
     (then_err {X = Target} {Y = Option SymId} itself any itself any (variable_named (token text function)) function_of a b e did)
 
-pub named : (text : List ℕ) (o : Option Form) (node : Form) (function : Span) (arguments : Vec ExprId Global) (wants : Wanted) (a b : State) (name : Target)
+pub named : (text : List ℕ) (o : Option Form) (node : Form) (function : Span) (arguments : Vec ExprId Global) (wants : Wanted) (a b : Runtime) (name : Target)
     (r : Option SymId) → o ≡ Some node → node ≡ Call function arguments → wants ≡ wanted.Value
     → Does itself any (variable_named (token text function)) a b (Ok name) → r ≡ made_function b.store.functions name
     → Does itself any (function_called text o wants) a b (Ok r)
@@ -100,21 +100,22 @@ never_fails (byte ∷ bytes) w fails = by (nat_lt 1_000_000 (length (byte ∷ by
     by false false true is = cc is
     by false false false is = cc is
 
-pub named_or_error : (name : List ℕ) (a b : State) (e : Exit) → Does {X = Target} itself any (variable_named name) a b (Err e) → e ≡ Failure → ⊥
+pub named_or_error : (name : List ℕ) (a b : Runtime) (e : Exit) → Does {X = Target} itself any (variable_named name) a b (Err e) → e ≡ Failure → ⊥
 named_or_error name a b e did is = never_fails name (world a []) (ap (λ (o : Outcome Target). o.ending) (rw is at (did.meets [])))
 
 -- the entry of the function
 
 -- a function whose entry label the program lacks
-pub unlabelled : (source : Source) (f levels : ℕ) (xs : List Value) (d : Definition) (s : State) → length s.store.calls < 200 → levels + length s.store.calls
-    ≡ 200 → definition_at s.store.functions f ≡ Some d → label_number source d.entry ≡ None
-    → Does {X = Stored} shown IsValueOf (call_at source levels f xs) s s (Err (Halt (HasError 5)))
-unlabelled source f zero xs d s room left defined missing = absurd (omega arith)
-unlabelled source f (suc levels) xs d s room left defined missing =
-    let same : (more : List ℕ) → call_at source (suc levels) f xs (world s more) ≡ stops (Error 5) (world s more) =
+pub unlabelled : (program : Program) (f levels : ℕ) (xs : List Value) (d : Definition) (s : Runtime) → length s.store.calls < 200
+    → levels + length s.store.calls
+    ≡ 200 → definition_at s.store.functions f ≡ Some d → label_number program d.entry ≡ None
+    → Does {X = Stored} shown IsValueOf (call_at program levels f xs) s s (Err (Halt (HasError 5)))
+unlabelled program f zero xs d s room left defined missing = absurd (omega arith)
+unlabelled program f (suc levels) xs d s room left defined missing =
+    let same : (more : List ℕ) → call_at program (suc levels) f xs (world s more) ≡ stops (Error 5) (world s more) =
     λ more.
-    ap (λ (o : Option Definition). either (stops (Error 4)) (performs_call source (call_at source levels) f xs) o (world s more)) defined
-    ∙ ap (λ (o : Option ℕ). either (stops (Error 5)) (performs_function source (call_at source levels) f d xs) o (world s more)) missing
+    ap (λ (o : Option Definition). either (stops (Error 4)) (performs_call program (call_at program levels) f xs) o (world s more)) defined
+    ∙ ap (λ (o : Option ℕ). either (stops (Error 5)) (performs_function program (call_at program levels) f d xs) o (world s more)) missing
     in
     record {
       grows = grows_none s.nodes;
@@ -133,35 +134,35 @@ answered true value = Ok value
 answered false value = Err Failure
 
 -- what a call that begins has saved of the store
-abbrev stored_call : ℕ → Definition → State → List (ℕ × Stored)
+abbrev stored_call : ℕ → Definition → Runtime → List (ℕ × Stored)
 stored_call f d before = saved (stored.Str []) f d before.store.values
 
 -- one more call is open behind its beginning
-opened_level : (f : ℕ) (d : Definition) (xs : List Value) (before mid : State) → Entered f d xs before mid → length mid.store.calls
+opened_level : (f : ℕ) (d : Definition) (xs : List Value) (before mid : Runtime) → Entered f d xs before mid → length mid.store.calls
     ≡ length before.store.calls + 1
 opened_level f d xs before mid begun = ap length begun.opened ∙ length-append before.store.calls (stored_call f d before ∷ [])
 
-module _ (source : Source) (f n : ℕ) (d : Definition) (xs : List Value) (before mid : State) (begun : Entered f d xs before mid)
-    (defined : definition_at before.store.functions f ≡ Some d) (found : label_number source d.entry ≡ Some n) where
+module _ (program : Program) (f n : ℕ) (d : Definition) (xs : List Value) (before mid : Runtime) (begun : Entered f d xs before mid)
+    (defined : definition_at before.store.functions f ≡ Some d) (found : label_number program d.entry ≡ Some n) where
   -- what it has saved of the world
   abbrev shown_call : List (ℕ × Value)
   shown_call = saved (Str []) f d (map (shown before.nodes) before.store.values)
 
   -- its statements, and its end
   abbrev body : Caller → Action Value
-  body call = and_then (chain source call (mid.keywords.cap + 1) n) (leaves shown_call before.keywords.statement)
+  body call = and_then (chain program call (mid.keywords.cap + 1) n) (leaves shown_call before.keywords.statement)
 
-  call_is : (levels : ℕ) (more : List ℕ) → call_at source (suc levels) f xs (world before more) ≡ body (call_at source levels) (world mid more)
+  call_is : (levels : ℕ) (more : List ℕ) → call_at program (suc levels) f xs (world before more) ≡ body (call_at program levels) (world mid more)
   unfolding settles
   call_is levels more =
-      ap (λ (o : Option Definition). either (stops (Error 4)) (performs_call source (call_at source levels) f xs) o (world before more)) defined
-      ∙ (ap (λ (o : Option ℕ). either (stops (Error 5)) (performs_function source (call_at source levels) f d xs) o (world before more)) found
-      ∙ (ap (λ (w : World). and_then (chain source (call_at source levels) (before.keywords.cap + 1) n) (leaves shown_call before.keywords.statement) w)
+      ap (λ (o : Option Definition). either (stops (Error 4)) (performs_call program (call_at program levels) f xs) o (world before more)) defined
+      ∙ (ap (λ (o : Option ℕ). either (stops (Error 5)) (performs_function program (call_at program levels) f d xs) o (world before more)) found
+      ∙ (ap (λ (w : World). and_then (chain program (call_at program levels) (before.keywords.cap + 1) n) (leaves shown_call before.keywords.statement) w)
       (sym (begun.meets more))
-      ∙ ap (λ (k : Keywords). and_then (chain source (call_at source levels) (k.cap + 1) n) (leaves shown_call before.keywords.statement) (world mid more))
+      ∙ ap (λ (k : Keywords). and_then (chain program (call_at program levels) (k.cap + 1) n) (leaves shown_call before.keywords.statement) (world mid more))
       (sym begun.keywords)))
 
-  module _ (late after : State) (value : Stored) (grew : Grows mid.nodes late.nodes)
+  module _ (late after : Runtime) (value : Stored) (grew : Grows mid.nodes late.nodes)
       (left : Leaves before.store.calls (stored_call f d before) before.keywords.statement late after value) where
     -- what was saved is shown the same behind the statements
     saved_same : shown_saved late.nodes (stored_call f d before) ≡ shown_call
@@ -212,9 +213,9 @@ module _ (source : Source) (f n : ℕ) (d : Definition) (xs : List Value) (befor
     left_goes went = let k = ap (λ (q : Keywords). q.cap) left.keywords in let m = ap (λ (q : Keywords). q.begun) left.keywords in let w = went.begun in
         record { cap = k ∙ (went.cap ∙ ap (λ (q : Keywords). q.cap) begun.keywords); begun = omega (arith, ap (λ (q : Keywords). q.begun) begun.keywords) }
 
-    left_runs : (levels : ℕ) (success : Bool) (old new : Devices) → Runs {X = Bool} itself any (chain source (call_at source levels) (mid.keywords.cap + 1) n)
+    left_runs : (levels : ℕ) (success : Bool) (old new : Devices) → Runs {X = Bool} itself any (chain program (call_at program levels) (mid.keywords.cap + 1) n)
         mid late old new (Ok success)
-        → Runs shown IsValueOf (call_at source (suc levels) f xs) before after old new (answered success value)
+        → Runs shown IsValueOf (call_at program (suc levels) f xs) before after old new (answered success value)
     unfolding settles
     left_runs levels success old new p = record {
       given = p.given;
@@ -229,7 +230,7 @@ module _ (source : Source) (f n : ℕ) (d : Definition) (xs : List Value) (befor
       meets = λ more none.
           subst (λ (o : Outcome Value). MeetsRunning (shown after.nodes) o (world after more) p.wrote (answered success value))
           (sym (call_is levels (p.given ++ more)))
-          (left_meets success p.wrote more (chain source (call_at source levels) (mid.keywords.cap + 1) n (world mid (p.given ++ more)))
+          (left_meets success p.wrote more (chain program (call_at program levels) (mid.keywords.cap + 1) n (world mid (p.given ++ more)))
           (p.meets more (λ told. none (rw left.reading told))));
       answer = left_answer success;
       ready = left_going success (CanRun after new) (can_end new p.ready);
@@ -237,11 +238,11 @@ module _ (source : Source) (f n : ℕ) (d : Definition) (xs : List Value) (befor
     }
 
   -- a call within which the run ended
-  halted_runs : (levels : ℕ) (late : State) (old new : Devices) (why : Stop)
-      → Runs {X = Bool} itself any (chain source (call_at source levels) (mid.keywords.cap + 1) n) mid late old new (Err (Halt why))
-      → Runs {X = Stored} shown IsValueOf (call_at source (suc levels) f xs) before late old new (Err (Halt why))
+  halted_runs : (levels : ℕ) (late : Runtime) (old new : Devices) (why : Stop)
+      → Runs {X = Bool} itself any (chain program (call_at program levels) (mid.keywords.cap + 1) n) mid late old new (Err (Halt why))
+      → Runs {X = Stored} shown IsValueOf (call_at program (suc levels) f xs) before late old new (Err (Halt why))
   halted_runs levels late old new why p =
-      let q = runs_halt {X = Bool} {Y = Stored} itself any shown IsValueOf (chain source (call_at source levels) (mid.keywords.cap + 1) n)
+      let q = runs_halt {X = Bool} {Y = Stored} itself any shown IsValueOf (chain program (call_at program levels) (mid.keywords.cap + 1) n)
       (either fails (leaves shown_call before.keywords.statement)) mid late old new why p in
       record {
         given = q.given;
@@ -261,7 +262,7 @@ module _ (source : Source) (f n : ℕ) (d : Definition) (xs : List Value) (befor
       }
 
   -- the calls that are open behind its statements
-  innermost : (late : State) → late.store.calls ≡ mid.store.calls → late.store.calls ≡ before.store.calls ++ (stored_call f d before) ∷ []
+  innermost : (late : Runtime) → late.store.calls ≡ mid.store.calls → late.store.calls ≡ before.store.calls ++ (stored_call f d before) ∷ []
   innermost late same = same ∙ begun.opened
 
   -- one more call is open where its statements are performed
@@ -270,41 +271,41 @@ module _ (source : Source) (f n : ℕ) (d : Definition) (xs : List Value) (befor
 
   -- a whole call, whose statements may call others
 
-  pub call_runs : (level : ℕ) (late after : State) (value : Stored) (success : Bool) (old new : Devices) → level ≡ length mid.store.calls
-      → RunsAt {X = Bool} itself any (λ call. chain source call (mid.keywords.cap + 1) n) source level mid late old new (Ok success)
+  pub call_runs : (level : ℕ) (late after : Runtime) (value : Stored) (success : Bool) (old new : Devices) → level ≡ length mid.store.calls
+      → RunsAt {X = Bool} itself any (λ call. chain program call (mid.keywords.cap + 1) n) program level mid late old new (Ok success)
       → ((calls : List (List (ℕ × Stored))) (call : List (ℕ × Stored)) → late.store.calls ≡ calls ++ call ∷ []
       → Leaves calls call before.keywords.statement late after value)
-      → RunsAt shown IsValueOf (λ call. call f xs) source (length before.store.calls) before after old new (answered success value)
+      → RunsAt shown IsValueOf (λ call. call f xs) program (length before.store.calls) before after old new (answered success value)
   call_runs level late after value success old new inside p leave =
       rw (deeper level inside) (left_runs late after value p.grows (leave before.store.calls (stored_call f d before) (innermost late p.calls))
       (200 - level) success old new p)
 
   -- a chain of statements never fails
-  pub call_ended : (level : ℕ) (late : State) (old new : Devices) (x : Exit) → level ≡ length mid.store.calls
+  pub call_ended : (level : ℕ) (late : Runtime) (old new : Devices) (x : Exit) → level ≡ length mid.store.calls
       → (◌≡◌ {A = Result Bool Exit} (Err x) (Err Failure) → ⊥)
-      → RunsAt {X = Bool} itself any (λ call. chain source call (mid.keywords.cap + 1) n) source level mid late old new (Err x)
-      → RunsAt {X = Stored} shown IsValueOf (λ call. call f xs) source (length before.store.calls) before late old new (Err x)
+      → RunsAt {X = Bool} itself any (λ call. chain program call (mid.keywords.cap + 1) n) program level mid late old new (Err x)
+      → RunsAt {X = Stored} shown IsValueOf (λ call. call f xs) program (length before.store.calls) before late old new (Err x)
   call_ended level late old new Failure inside never p = absurd (never refl)
   call_ended level late old new (Halt why) inside never p = rw (deeper level inside) (halted_runs (200 - level) late old new why p)
 
 -- a call that could not begin
 
-pub not_begun : (source : Source) (f : ℕ) (d : Definition) (xs : List Value) (before mid : State) (e : Devices) (x : Exit) → CanRun before e
+pub not_begun : (program : Program) (f : ℕ) (d : Definition) (xs : List Value) (before mid : Runtime) (e : Devices) (x : Exit) → CanRun before e
     → length before.store.calls < 200 → Enters f d xs before mid (Err x)
-    → RunsAt {X = Stored} shown IsValueOf (λ call. call f xs) source (length before.store.calls) before mid e e (Err x)
-not_begun source f d xs before mid e Failure can room began = absurd began
-not_begun source f d xs before mid e (Halt (HasError code)) can room began = absurd (let n = began.1 in omega arith)
-not_begun source f d xs before mid e (Halt (HasErrorIn code statement)) can room began = absurd began
-not_begun source f d xs before mid e (Halt NoMemory) can room began =
-    let act = call_at source (200 - length before.store.calls) f xs in
+    → RunsAt {X = Stored} shown IsValueOf (λ call. call f xs) program (length before.store.calls) before mid e e (Err x)
+not_begun program f d xs before mid e Failure can room began = absurd began
+not_begun program f d xs before mid e (Halt (HasError code)) can room began = absurd (let n = began.1 in omega arith)
+not_begun program f d xs before mid e (Halt (HasErrorIn code statement)) can room began = absurd began
+not_begun program f d xs before mid e (Halt NoMemory) can room began =
+    let act = call_at program (200 - length before.store.calls) f xs in
     rw began (does_runs shown IsValueOf act before before e (Err (Halt NoMemory)) can
     (no_memory_does shown IsValueOf act before before (grows_none before.nodes) refl))
-not_begun source f d xs before mid e (Halt ReadFault) can room began = absurd began
-not_begun source f d xs before mid e (Halt WriteFault) can room began = absurd began
-not_begun source f d xs before mid e (Halt HasEnded) can room began = absurd began
+not_begun program f d xs before mid e (Halt ReadFault) can room began = absurd began
+not_begun program f d xs before mid e (Halt WriteFault) can room began = absurd began
+not_begun program f d xs before mid e (Halt HasEnded) can room began = absurd began
 
-pub call_refused : (source : Source) (f : ℕ) (xs : List Value) (s : State) (e : Devices) (x : Exit) → CanRun s e → length s.store.calls ≤ 200
-    → ((levels : ℕ) (xs : List Value) → levels + length s.store.calls ≡ 200 → Does {X = Stored} shown IsValueOf (call_at source levels f xs) s s (Err x))
-    → RunsAt {X = Stored} shown IsValueOf (λ call. call f xs) source (length s.store.calls) s s e e (Err x)
-call_refused source f xs s e x can most refused = does_runs shown IsValueOf (call_at source (200 - length s.store.calls) f xs) s s e (Err x) can
+pub call_refused : (program : Program) (f : ℕ) (xs : List Value) (s : Runtime) (e : Devices) (x : Exit) → CanRun s e → length s.store.calls ≤ 200
+    → ((levels : ℕ) (xs : List Value) → levels + length s.store.calls ≡ 200 → Does {X = Stored} shown IsValueOf (call_at program levels f xs) s s (Err x))
+    → RunsAt {X = Stored} shown IsValueOf (λ call. call f xs) program (length s.store.calls) s s e e (Err x)
+call_refused program f xs s e x can most refused = does_runs shown IsValueOf (call_at program (200 - length s.store.calls) f xs) s s e (Err x) can
     (refused (200 - length s.store.calls) xs (omega arith))

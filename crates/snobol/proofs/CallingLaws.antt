@@ -1,11 +1,11 @@
 -- What is common to the functions whose parts may call functions of the program.
 use Rattle.std.proofs.Common.{List, Result}
 use Rattle.sno_pattern.specs.Table.{Node}
-use Rattle.sno_machine.specs.declared.machine.Exit.{Exit}
-use Rattle.sno_machine.specs.Action.{Action}
-use Rattle.sno_machine.specs.State.{State}
+use Rattle.sno_runtime.specs.declared.runtime.Exit.{Exit}
+use Rattle.sno_runtime.specs.Action.{Action}
+use Rattle.sno_runtime.specs.Runtime.{Runtime}
 use Rattle.snobol.specs.Running.{Devices, Runs}
 
 -- what the other action does from there on, the first one does from here on
-abbrev pub Leads : {X A : Type 0} → (List Node → X → A) → (List Node → X → Type 0) → Action A → Action A → State → State → Devices → Devices → Type 0
-Leads {X} see fits act other a b d e = (c : State) (f : Devices) (r : Result X Exit) → Runs see fits other b c e f r → Runs see fits act a c d f r
+abbrev pub Leads : {X A : Type 0} → (List Node → X → A) → (List Node → X → Type 0) → Action A → Action A → Runtime → Runtime → Devices → Devices → Type 0
+Leads {X} see fits act other a b d e = (c : Runtime) (f : Devices) (r : Result X Exit) → Runs see fits other b c e f r → Runs see fits act a c d f r

@@ -2,9 +2,9 @@
 use Rattle.std.proofs.Common.{◌≡◌, ◌-◌, arith, Bool, true, false, ◌||◌, refl, Some, slice_get}
 use Rattle.sno_match.specs.declared.event.Event.{Event as Told}
 use Rattle.sno_match.specs.Events.{in_trace}
-use Rattle.sno_match.specs.Session.{Session, SameMatch, IsTold, trace_of}
+use Rattle.sno_match.specs.Matching.{Matching, SameMatch, IsTold, trace_of}
 
-pub told_next : (old new : Session) (event : Told) → SameMatch old new → IsTold old new event → old.ended ≡ false → slice_get (trace_of old) old.told
+pub told_next : (old new : Matching) (event : Told) → SameMatch old new → IsTold old new event → old.ended ≡ false → slice_get (trace_of old) old.told
     ≡ Some (in_trace event new.way, new.steps)
 told_next old new event same told going =
     let grows = told.grows going in

@@ -5,18 +5,18 @@ use Rattle.sno_pattern.specs.Table.{Node}
 use Rattle.sno_store.specs.declared.functions.Function.{Function}
 use Rattle.sno_store.specs.declared.functions.Function.TheVariants.{Undefined, Defined, Constructs, IsField}
 use Rattle.sno_store.specs.Functions.{function_at, as_constructor, is_field}
-use Rattle.sno_machine.specs.declared.machine.Exit.{Exit}
-use Rattle.sno_machine.specs.Action.{Action, Outcome}
-use Rattle.sno_machine.specs.Fields.{constructs, field_value}
-use Rattle.sno_machine.specs.Operators.{argument}
-use Rattle.sno_machine.specs.State.{State, world, Does}
-use Rattle.sno_machine.specs.Values.{Value, shown, IsValueOf}
+use Rattle.sno_runtime.specs.declared.runtime.Exit.{Exit}
+use Rattle.sno_runtime.specs.Action.{Action, Outcome}
+use Rattle.sno_runtime.specs.Fields.{constructs, field_value}
+use Rattle.sno_runtime.specs.Operators.{argument}
+use Rattle.sno_runtime.specs.Runtime.{Runtime, world, Does}
+use Rattle.sno_runtime.specs.Values.{Value, shown, IsValueOf}
 use Rattle.snobol.specs.Evaluate.{Caller, call_as, made_call}
 use Rattle.snobol.specs.Running.{Devices, CanRun, Runs, MeetsRunning}
 use Rattle.snobol.proofs.RunningLaws.{does_runs}
 
 -- an action that is another one in the worlds of a state
-runs_as : {X A : Type 0} (see : List Node → X → A) (fits : List Node → X → Type 0) (act other : Action A) (a b : State) (d e : Devices) (r : Result X Exit)
+runs_as : {X A : Type 0} (see : List Node → X → A) (fits : List Node → X → Type 0) (act other : Action A) (a b : Runtime) (d e : Devices) (r : Result X Exit)
     → ((more : List ℕ) → act (world a more) ≡ other (world a more)) → Runs see fits other a b d e r → Runs see fits act a b d e r
 runs_as {A = A} see fits act other a b d e r same p = record {
   given = p.given;
@@ -53,7 +53,7 @@ module _ (call : Caller) (f : ℕ) (xs : List Value) where
   other_call (Constructs n) none other = absurd (cc none)
   other_call IsField none other = absurd (cc other)
 
-  module _ (a b : State) (d : Devices) (r : Result Stored Exit) where
+  module _ (a b : Runtime) (d : Devices) (r : Result Stored Exit) where
     pub constructed_runs : (number : ℕ) → CanRun a d → as_constructor (function_at a.store.functions f) ≡ Some number
         → Does shown IsValueOf (constructs number xs) a b r → Runs shown IsValueOf (made_call call f xs) a b d d r
     constructed_runs number can is did =

@@ -5,18 +5,18 @@ use Rattle.std.proofs.lemmas.List.{append-nil}
 use Rattle.sno_io.specs.Devices.{Begins, Drain, Feed}
 use Rattle.sno_io.proofs.Bytes.{consumes_then, appends_then}
 use Rattle.sno_pattern.specs.Table.{Node}
-use Rattle.sno_machine.specs.declared.machine.Exit.{Exit}
-use Rattle.sno_machine.specs.declared.machine.Exit.TheVariants.{Failure, Halt}
-use Rattle.sno_machine.specs.declared.machine.Stop.{Stop}
-use Rattle.sno_machine.specs.declared.machine.Stop.TheVariants.{Error as HasError, ErrorIn as HasErrorIn, NoMemory, ReadFault, WriteFault, Ended as HasEnded}
-use Rattle.sno_machine.specs.World.{World, Keywords}
-use Rattle.sno_machine.specs.Action.{Ending, Got, Fails, Stops, Outcome, Action, settled, settles, either, and_then, fails}
-use Rattle.sno_machine.specs.State.{State, world, untouched, MeetsReading, Does, Reads, IsReady, OnAnswer, OnGoing, HasCause, itself, any}
-use Rattle.sno_machine.specs.Performs.{Ends, Performs}
+use Rattle.sno_runtime.specs.declared.runtime.Exit.{Exit}
+use Rattle.sno_runtime.specs.declared.runtime.Exit.TheVariants.{Failure, Halt}
+use Rattle.sno_runtime.specs.declared.runtime.Stop.{Stop}
+use Rattle.sno_runtime.specs.declared.runtime.Stop.TheVariants.{Error as HasError, ErrorIn as HasErrorIn, NoMemory, ReadFault, WriteFault, Ended as HasEnded}
+use Rattle.sno_runtime.specs.World.{World, Keywords}
+use Rattle.sno_runtime.specs.Action.{Ending, Got, Fails, Stops, Outcome, Action, settled, settles, either, and_then, fails}
+use Rattle.sno_runtime.specs.Runtime.{Runtime, world, untouched, MeetsReading, Does, Reads, IsReady, OnAnswer, OnGoing, HasCause, itself, any}
+use Rattle.sno_runtime.specs.Performs.{Ends, Performs}
 use Rattle.snobol.specs.Running.{Devices, devices, CanRun, MeetsRunning, HasFault, Goes, Runs}
-use Rattle.sno_machine.proofs.Outcomes.{grows_twice, fails_does}
-use Rattle.sno_machine.proofs.Reading.{consumes_nothing, none_given, reads_nothing, same_reading, same_keywords, same_calls, ready_unread}
-use Rattle.sno_machine.proofs.Performing.{appends_nothing}
+use Rattle.sno_runtime.proofs.Outcomes.{grows_twice, fails_does}
+use Rattle.sno_runtime.proofs.Reading.{consumes_nothing, none_given, reads_nothing, same_reading, same_keywords, same_calls, ready_unread}
+use Rattle.sno_runtime.proofs.Performing.{appends_nothing}
 
 goes_not : (a b : Keywords) → b ≡ a → Goes a b
 goes_not a b e = rw e (record { cap = refl; begun = omega arith })
@@ -48,7 +48,7 @@ running_meets see o w (Err (Halt WriteFault)) h = absurd h
 running_meets see o w (Err (Halt (HasErrorIn code statement))) h = absurd h
 running_meets see o w (Err (Halt HasEnded)) h = absurd h
 
-running_ready : {X : Type 0} (r : Result X Exit) (s : State) (f : Feed) (w : Drain) → w.broken ≡ false → OnGoing r (IsReady s f)
+running_ready : {X : Type 0} (r : Result X Exit) (s : Runtime) (f : Feed) (w : Drain) → w.broken ≡ false → OnGoing r (IsReady s f)
     → OnGoing r (CanRun s (devices f w))
 running_ready (Ok x) s f w sound h = record { reads = h; writes = sound }
 running_ready (Err Failure) s f w sound h = record { reads = h; writes = sound }
@@ -65,7 +65,7 @@ running_cause see o v (Err (Halt WriteFault)) f w m h = absurd m
 running_cause see o v (Err (Halt (HasErrorIn code statement))) f w m h = tt
 running_cause see o v (Err (Halt HasEnded)) f w m h = tt
 
-pub reads_runs : {X A : Type 0} (see : List Node → X → A) (fits : List Node → X → Type 0) (act : Action A) (a b : State) (f g : Feed) (w : Drain)
+pub reads_runs : {X A : Type 0} (see : List Node → X → A) (fits : List Node → X → Type 0) (act : Action A) (a b : Runtime) (f g : Feed) (w : Drain)
     (r : Result X Exit) → w.broken ≡ false
     → Reads see fits act a b f g r → Runs see fits act a b (devices f w) (devices g w) r
 reads_runs see fits act a b f g w r sound did = record {
@@ -85,7 +85,7 @@ reads_runs see fits act a b f g w r sound did = record {
 }
 
 -- what reads and writes nothing
-pub does_runs : {X A : Type 0} (see : List Node → X → A) (fits : List Node → X → Type 0) (act : Action A) (a b : State) (d : Devices) (r : Result X Exit)
+pub does_runs : {X A : Type 0} (see : List Node → X → A) (fits : List Node → X → Type 0) (act : Action A) (a b : Runtime) (d : Devices) (r : Result X Exit)
     → CanRun a d → Does see fits act a b r → Runs see fits act a b d d r
 does_runs see fits act a b d r can did =
     reads_runs see fits act a b d.reader d.reader d.writer r can.writes (reads_nothing see fits act a b d.reader r can.reads did)
@@ -115,7 +115,7 @@ performed_cause o w wrote (Err WriteFault) d h fault = fault refl
 performed_cause o w wrote (Err (HasErrorIn code statement)) d h fault = tt
 performed_cause o w wrote (Err HasEnded) d h fault = tt
 
-performed_ready : (r : Result Unit Stop) (a b : State) (f : Feed) (w : Drain) → untouched b ≡ untouched a → IsReady a f → OnOk r (w.broken ≡ false)
+performed_ready : (r : Result Unit Stop) (a b : Runtime) (f : Feed) (w : Drain) → untouched b ≡ untouched a → IsReady a f → OnOk r (w.broken ≡ false)
     → OnGoing (exited r) (CanRun b (devices f w))
 performed_ready (Ok done) a b f w u ready sound = record { reads = ready_unread a b f u ready; writes = sound }
 performed_ready (Err why) a b f w u ready sound = tt
@@ -124,7 +124,7 @@ performed_answer : (nodes : List Node) (r : Result Unit Stop) → OnAnswer {X = 
 performed_answer nodes (Ok done) = tt
 performed_answer nodes (Err why) = tt
 
-pub performs_runs : (act : Action Unit) (a b : State) (f : Feed) (v w : Drain) (r : Result Unit Stop) → IsReady a f → b.nodes ≡ a.nodes
+pub performs_runs : (act : Action Unit) (a b : Runtime) (f : Feed) (v w : Drain) (r : Result Unit Stop) → IsReady a f → b.nodes ≡ a.nodes
     → OnOk r (w.broken ≡ false) → (r ≡ Err WriteFault → w.broken ≡ true)
     → Performs act a b v.taken w.taken r → Runs {X = Unit} itself any act a b (devices f v) (devices f w) (exited r)
 performs_runs act a b f v w r ready nodes sound fault did = record {
@@ -174,7 +174,7 @@ settled_fails look k o v w front wrote r is h =
     (meets_behind look (k None v) w front wrote r h)
 
 pub runs_got : {X Y A B : Type 0} (see : List Node → X → A) (fits : List Node → X → Type 0) (look : List Node → Y → B) (suits : List Node → Y → Type 0)
-    (act : Action A) (k : Option A → Action B) (a b c : State) (d e f : Devices) (x : X) (r : Result Y Exit)
+    (act : Action A) (k : Option A → Action B) (a b c : Runtime) (d e f : Devices) (x : X) (r : Result Y Exit)
     → Runs see fits act a b d e (Ok x) → Runs look suits (k (Some (see b.nodes x))) b c e f r → Runs look suits (settles act k) a c d f r
 unfolding settles
 runs_got {A = A} see fits look suits act k a b c d e f x r p q = record {
@@ -198,7 +198,7 @@ runs_got {A = A} see fits look suits act k a b c d e f x r p q = record {
 }
 
 pub runs_failed : {X Y A B : Type 0} (see : List Node → X → A) (fits : List Node → X → Type 0) (look : List Node → Y → B) (suits : List Node → Y → Type 0)
-    (act : Action A) (k : Option A → Action B) (a b c : State) (d e f : Devices) (r : Result Y Exit)
+    (act : Action A) (k : Option A → Action B) (a b c : Runtime) (d e f : Devices) (r : Result Y Exit)
     → Runs {X = X} see fits act a b d e (Err Failure) → Runs look suits (k None) b c e f r → Runs look suits (settles act k) a c d f r
 unfolding settles
 runs_failed {A = A} see fits look suits act k a b c d e f r p q = record {
@@ -247,7 +247,7 @@ same_fault X Y (HasErrorIn code statement) d h = tt
 same_fault X Y HasEnded d h = tt
 
 pub runs_halt : {X Y A B : Type 0} (see : List Node → X → A) (fits : List Node → X → Type 0) (look : List Node → Y → B) (suits : List Node → Y → Type 0)
-    (act : Action A) (k : Option A → Action B) (a b : State) (d e : Devices) (why : Stop)
+    (act : Action A) (k : Option A → Action B) (a b : Runtime) (d e : Devices) (why : Stop)
     → Runs {X = X} see fits act a b d e (Err (Halt why)) → Runs {X = Y} look suits (settles act k) a b d e (Err (Halt why))
 unfolding settles
 runs_halt {X = X} {Y = Y} see fits look suits act k a b d e why p = record {
@@ -269,12 +269,12 @@ runs_halt {X = X} {Y = Y} see fits look suits act k a b d e why p = record {
 -- the same of what goes on only with a value
 
 pub then_runs : {X Y A B : Type 0} (see : List Node → X → A) (fits : List Node → X → Type 0) (look : List Node → Y → B) (suits : List Node → Y → Type 0)
-    (act : Action A) (next : A → Action B) (a b c : State) (d e f : Devices) (x : X) (r : Result Y Exit)
+    (act : Action A) (next : A → Action B) (a b c : Runtime) (d e f : Devices) (x : X) (r : Result Y Exit)
     → Runs see fits act a b d e (Ok x) → Runs look suits (next (see b.nodes x)) b c e f r → Runs look suits (and_then act next) a c d f r
 then_runs see fits look suits act next a b c d e f x r p q = runs_got see fits look suits act (either fails next) a b c d e f x r p q
 
 pub then_ended : {X Y A B : Type 0} (see : List Node → X → A) (fits : List Node → X → Type 0) (look : List Node → Y → B) (suits : List Node → Y → Type 0)
-    (act : Action A) (next : A → Action B) (a b : State) (d e : Devices) (x : Exit)
+    (act : Action A) (next : A → Action B) (a b : Runtime) (d e : Devices) (x : Exit)
     → Runs {X = X} see fits act a b d e (Err x) → Runs {X = Y} look suits (and_then act next) a b d e (Err x)
 then_ended see fits look suits act next a b d e Failure p =
     runs_failed see fits look suits act (either fails next) a b b d e e (Err Failure) p
@@ -282,7 +282,7 @@ then_ended see fits look suits act next a b d e Failure p =
 then_ended see fits look suits act next a b d e (Halt why) p = runs_halt see fits look suits act (either fails next) a b d e why p
 
 -- a result that is known to be another
-pub answered : {X A : Type 0} {see : List Node → X → A} {fits : List Node → X → Type 0} {act : Action A} {a b : State} {d e : Devices} {r s : Result X Exit}
+pub answered : {X A : Type 0} {see : List Node → X → A} {fits : List Node → X → Type 0} {act : Action A} {a b : Runtime} {d e : Devices} {r s : Result X Exit}
     → r ≡ s → Runs see fits act a b d e s → Runs see fits act a b d e r
 answered {X} {see = see} {fits = fits} {act = act} {a = a} {b = b} {d = d} {e = e} same did =
     subst (λ (result : Result X Exit). Runs see fits act a b d e result) (sym same) did

@@ -13,7 +13,7 @@ use Rattle.sno_text.specs.Statements.{StatementTree}
 use Rattle.sno_text.specs.Programs.{IsProgram, IsRefusedProgram}
 use Rattle.snobol.specs.declared.enumeration.WaysOutcome.{WaysOutcome}
 use Rattle.snobol.specs.declared.enumeration.WaysOutcome.TheVariants.{Done, Refused, Error, NoMemory, WriteFault}
-use Rattle.sno_text.specs.Source.{Source}
+use Rattle.sno_text.specs.Program.{Program}
 use Rattle.sno_text.specs.Phrases.{StandsProgram}
 use Rattle.snobol.specs.Listing.{IsListing}
 use Rattle.snobol.specs.declared.execution.Outcome.{Outcome as RunOutcome}
@@ -113,12 +113,12 @@ pub data IsChecked (text : List ℕ) (report : Report) : Type 0 where
 pub record IsRunOf (text : List ℕ) (limits : Limits) (outcome : RunOutcome) (given : List ℕ) (at_end : Bool)
     (wrote : List ℕ) : Type 0 where
   pub statements : List StatementTree
-  pub program : IsProgram text statements
-  pub source : Source
-  pub stands : StandsProgram source text statements
-  pub source_text : source.text ≡ text
+  pub accepted : IsProgram text statements
+  pub program : Program
+  pub stands : StandsProgram program text statements
+  pub program_text : program.text ≡ text
   pub meets : (input : List ℕ) → IsPossible given at_end input
-      → MeetsOutcome (meaning source limits input) wrote outcome
+      → MeetsOutcome (meaning program limits input) wrote outcome
 
 -- the text is refused, which reads and writes nothing, or it was run
 pub data IsRunFile (text : List ℕ) (limits : Limits) (report : Report) (given : List ℕ) (at_end : Bool)

@@ -3,7 +3,7 @@ pub mod Endings
 pub mod Evaluate
 pub mod Flat
 pub mod Reading
-pub mod Sessions
+pub mod Turns
 pub mod Given
 pub mod Matches
 pub mod Begun
@@ -12,7 +12,7 @@ pub mod Meaning
 pub mod Running
 pub mod Targets
 pub mod Calling
-pub mod Asking
+pub mod Machine
 pub mod Listing
 pub mod Told
 pub mod Jobs

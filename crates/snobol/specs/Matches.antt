@@ -3,14 +3,14 @@ use Rattle.std.specs.Prelude.{ℕ, Bool, List, [], ◌∷◌}
 use Rattle.sno_match.specs.declared.event.Pending.{Pending}
 use Rattle.sno_pattern.specs.Pattern.{Pattern}
 use Rattle.sno_match.specs.Search.{Event, Answer, Way, Ended, Exhausted, Aborted, Limit, Waiting, CutOff, trace}
-use Rattle.sno_machine.specs.Values.{Str}
-use Rattle.sno_machine.specs.Action.{Error, Action, gives, fails, stops, and_then}
-use Rattle.sno_machine.specs.Variables.{assigns}
-use Rattle.sno_machine.specs.Keywords.{is_anchored}
-use Rattle.sno_machine.specs.Session.{part_of, effect}
-use Rattle.sno_text.specs.Source.{Source}
+use Rattle.sno_runtime.specs.Values.{Str}
+use Rattle.sno_runtime.specs.Action.{Error, Action, gives, fails, stops, and_then}
+use Rattle.sno_runtime.specs.Variables.{assigns}
+use Rattle.sno_runtime.specs.Keywords.{is_anchored}
+use Rattle.sno_runtime.specs.Effects.{part_of, effect}
+use Rattle.sno_text.specs.Program.{Program}
 use Rattle.snobol.specs.Evaluate.{Caller}
-use Rattle.snobol.specs.Sessions.{answers, session, most_events}
+use Rattle.snobol.specs.Turns.{answers, session, most_events}
 
 -- the assignments that waited for the end of the match, in their order
 abbrev pub performs_pending : List ℕ → List Pending → Action Unit
@@ -31,12 +31,12 @@ after_event subject (Ended (CutOff mark)) next = fails
 after_event subject event next = and_then (effect subject event) (λ done. next)
 
 -- the events of a match, up to the first way
-abbrev pub first_way : Source → Caller → Pattern → List ℕ → Bool → ℕ → ℕ → List Answer → ℕ → Action (ℕ × ℕ)
-first_way source call p subject anchored limit =
-    session (after_event subject) (answers source call) (λ given. trace p subject anchored limit given) fails
+abbrev pub first_way : Program → Caller → Pattern → List ℕ → Bool → ℕ → ℕ → List Answer → ℕ → Action (ℕ × ℕ)
+first_way program call p subject anchored limit =
+    session (after_event subject) (answers program call) (λ given. trace p subject anchored limit given) fails
 
 -- a pattern is matched against a subject, and gives where it begins and ends
-abbrev pub matches : Source → Caller → Pattern → List ℕ → Action (ℕ × ℕ)
-matches source call p subject w =
-    first_way source call p subject (is_anchored w.keywords.anchor) w.keywords.steps
+abbrev pub matches : Program → Caller → Pattern → List ℕ → Action (ℕ × ℕ)
+matches program call p subject w =
+    first_way program call p subject (is_anchored w.keywords.anchor) w.keywords.steps
     (most_events w.keywords.steps) [] 0 w

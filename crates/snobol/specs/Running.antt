@@ -3,16 +3,16 @@ use Rattle.std.specs.Prelude.{◌≡◌, ℕ, ◌≤◌, Bool, true, false, List
 use Rattle.std.specs.Io.KnownBytes.{Consumes, Appends}
 use Rattle.sno_io.specs.Devices.{Begins, Drain, Feed}
 use Rattle.sno_pattern.specs.Table.{Node}
-use Rattle.sno_machine.specs.declared.machine.Exit.{Exit}
-use Rattle.sno_machine.specs.declared.machine.Exit.TheVariants.{Failure, Halt}
-use Rattle.sno_machine.specs.declared.machine.Stop.TheVariants.{Error as HasError, ErrorIn as HasErrorIn, NoMemory}
-use Rattle.sno_machine.specs.declared.machine.Stop.TheVariants.{ReadFault, WriteFault, Ended as HasEnded}
+use Rattle.sno_runtime.specs.declared.runtime.Exit.{Exit}
+use Rattle.sno_runtime.specs.declared.runtime.Exit.TheVariants.{Failure, Halt}
+use Rattle.sno_runtime.specs.declared.runtime.Stop.TheVariants.{Error as HasError, ErrorIn as HasErrorIn, NoMemory}
+use Rattle.sno_runtime.specs.declared.runtime.Stop.TheVariants.{ReadFault, WriteFault, Ended as HasEnded}
 use Rattle.sno_io.specs.declared.jobs.Limits.{Limits}
 use Rattle.snobol.specs.declared.execution.Outcome.{Outcome as RunOutcome}
 use Rattle.snobol.specs.declared.execution.Outcome.TheVariants as ran
-use Rattle.sno_machine.specs.World.{World, Keywords}
-use Rattle.sno_machine.specs.Action.{Error, ErrorIn, Ended, Got, Fails, Stops, Outcome, Action}
-use Rattle.sno_machine.specs.State.{State, world, IsReady, Grows, OnAnswer, OnGoing}
+use Rattle.sno_runtime.specs.World.{World, Keywords}
+use Rattle.sno_runtime.specs.Action.{Error, ErrorIn, Ended, Got, Fails, Stops, Outcome, Action}
+use Rattle.sno_runtime.specs.Runtime.{Runtime, world, IsReady, Grows, OnAnswer, OnGoing}
 
 -- what a reader and a writer tell
 pub record Devices : Type 0 where
@@ -27,7 +27,7 @@ abbrev pub no_input : Bool → Feed
 no_input told_end = record { left = Some []; at_end = told_end; broken = false }
 
 -- neither has failed, and the reader is that of the call before
-pub record CanRun (s : State) (d : Devices) : Type 0 where
+pub record CanRun (s : Runtime) (d : Devices) : Type 0 where
   pub reads : IsReady s d.reader
   pub writes : d.writer.broken ≡ false
 
@@ -62,7 +62,7 @@ pub record Goes (before after : Keywords) : Type 0 where
 -- The code did what the action does, and wrote what it writes, for whatever input may still come behind what the reader
 -- gave; nothing comes once the end was told.
 pub record Runs {X A : Type 0} (see : List Node → X → A) (fits : List Node → X → Type 0) (act : Action A)
-    (before after : State) (old new : Devices) (result : Result X Exit) : Type 0 where
+    (before after : Runtime) (old new : Devices) (result : Result X Exit) : Type 0 where
   pub given : List ℕ
   pub wrote : List ℕ
   pub consumed : Consumes old.reader.left new.reader.left given
@@ -99,7 +99,7 @@ HasCauseOf ran.ReadFault d = d.reader.broken ≡ true
 HasCauseOf ran.WriteFault d = d.writer.broken ≡ true
 
 -- The code did what a part of the program does that ends the run.
-pub record Stopped {A : Type 0} (act : Action A) (before after : State) (old new : Devices)
+pub record Stopped {A : Type 0} (act : Action A) (before after : Runtime) (old new : Devices)
     (outcome : RunOutcome) : Type 0 where
   pub given : List ℕ
   pub wrote : List ℕ

@@ -1,11 +1,11 @@
 -- How a listing ended, as the code tells it. These words are private to the interpreter.
 use Rattle.std.specs.Prelude.{◌≡◌, ℕ, List, Result, Ok, Err}
 use Rattle.sno_io.specs.Devices.{Begins}
-use Rattle.sno_machine.specs.declared.machine.Exit.{Exit}
-use Rattle.sno_machine.specs.declared.machine.Exit.TheVariants.{Failure, Halt}
-use Rattle.sno_machine.specs.declared.machine.Stop.TheVariants.{Error as HasError, ErrorIn as HasErrorIn, NoMemory}
-use Rattle.sno_machine.specs.declared.machine.Stop.TheVariants.{ReadFault, WriteFault, Ended as HasEnded}
-use Rattle.sno_machine.specs.Action.{Error, ErrorIn, Ended, Got, Fails, Stops, Outcome}
+use Rattle.sno_runtime.specs.declared.runtime.Exit.{Exit}
+use Rattle.sno_runtime.specs.declared.runtime.Exit.TheVariants.{Failure, Halt}
+use Rattle.sno_runtime.specs.declared.runtime.Stop.TheVariants.{Error as HasError, ErrorIn as HasErrorIn, NoMemory}
+use Rattle.sno_runtime.specs.declared.runtime.Stop.TheVariants.{ReadFault, WriteFault, Ended as HasEnded}
+use Rattle.sno_runtime.specs.Action.{Error, ErrorIn, Ended, Got, Fails, Stops, Outcome}
 use Rattle.snobol.specs.declared.enumeration.WaysOutcome.{WaysOutcome}
 use Rattle.snobol.specs.declared.enumeration.WaysOutcome.TheVariants as ways
 

@@ -1,29 +1,29 @@
 //! The answer to a deferred part that a match has reached.
-ghost use Rattle.sno_machine.specs.Action.{Action, settles};
-ghost use Rattle.sno_machine.specs.State.{OnAnswer, State};
-ghost use Rattle.sno_machine.specs.Values.{Value as Shown, shown, IsValueOf};
+ghost use Rattle.sno_runtime.specs.Action.{Action, settles};
+ghost use Rattle.sno_runtime.specs.Runtime.{OnAnswer, Runtime};
+ghost use Rattle.sno_runtime.specs.Values.{Value as Shown, shown, IsValueOf};
 ghost use Rattle.snobol.specs.Given.{IsGivenOf, given_of};
 ghost use Rattle.snobol.specs.Running.{Devices, Runs};
-ghost use Rattle.snobol.specs.Sessions.{answer_of};
+ghost use Rattle.snobol.specs.Turns.{answer_of};
 
-use sno_machine::{Exit, Machine, answer};
+use sno_runtime::{Exit, Runtime, answer};
 use sno_value::{PatId, Prim, Value};
 
 /// The pattern that stands in the place of a deferred part: that of its expression's value or, for a primitive, the
 /// primitive with that value. It is None where the expression fails, and then the part does.
 pub(crate) fn answer_of(
-    machine: &mut Machine,
+    runtime: &mut Runtime,
     prim: Option<Prim>,
     value: Result<Value, Exit>,
 ) -> Result<Option<PatId>, Exit>
-    requires { OnAnswer (IsValueOf machine.old.nodes) value }
-    ensures { (act : Action Shown) (before : State) (old new : Devices)
-        → Runs shown IsValueOf act before machine.old old new value
-        → Runs given_of IsGivenOf (settles act (answer_of prim)) before machine.new old new result }
+    requires { OnAnswer (IsValueOf runtime.old.nodes) value }
+    ensures { (act : Action Shown) (before : Runtime) (old new : Devices)
+        → Runs shown IsValueOf act before runtime.old old new value
+        → Runs given_of IsGivenOf (settles act (answer_of prim)) before runtime.new old new result }
 {
     match value {
         Ok(value) => {
-            let pattern = answer(machine, prim, value)?;
+            let pattern = answer(runtime, prim, value)?;
             Ok(Some(pattern))
         }
         Err(Exit::Failure) => Ok(None),

@@ -130,7 +130,8 @@ impl<'a> Ending<'a> {
     pub fn tell<E: Sink>(&self, errors: &mut E) -> u8
         requires { (E.drain errors.old).broken ≡ false }
         ensures status { result ≡ self.now.status }
-        ensures line { Tells (E.drain errors.old).taken (E.drain errors.new).taken (E.drain errors.new).broken self.now.line }
+        ensures line { Tells (E.drain errors.old).taken (E.drain errors.new).taken
+            (E.drain errors.new).broken self.now.line }
     {
         if let Some(line) = self.line {
             let _ = put_line(errors, line);

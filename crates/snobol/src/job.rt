@@ -33,7 +33,8 @@ pub fn perform<R: Source, W: Sink, E: Sink>(
         × Consumes (R.feed reader.old).left (R.feed reader.new).left given
         × Appends (W.drain writer.old).taken (W.drain writer.new).taken wrote
         × IsDone job.now file.entry report given (R.feed reader.new).at_end wrote
-        × (result ≡ report.status) × Tells (E.drain errors.old).taken (E.drain errors.new).taken (E.drain errors.new).broken report.line }
+        × (result ≡ report.status) × Tells (E.drain errors.old).taken (E.drain errors.new).taken
+        (E.drain errors.new).broken report.line }
 {
     let ending = end_of(alloc, job, file, reader, writer);
     ending.tell(errors)

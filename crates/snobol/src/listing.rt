@@ -3,21 +3,21 @@ ghost use Rattle.std.specs.Prelude.{◌≡◌, ◌<◌, ◌≤◌, [], false, tr
 ghost use Rattle.sno_pattern.specs.Table.{tree};
 ghost use Rattle.sno_match.specs.Events.{in_trace};
 ghost use Rattle.sno_match.specs.Within.{IsWithin};
-ghost use Rattle.sno_machine.specs.Session.{listed};
-ghost use Rattle.sno_machine.specs.Performs.{Performs};
-ghost use Rattle.sno_machine.specs.State.{itself, any};
+ghost use Rattle.sno_runtime.specs.Effects.{listed};
+ghost use Rattle.sno_runtime.specs.Performs.{Performs};
+ghost use Rattle.sno_runtime.specs.Runtime.{itself, any};
 ghost use Rattle.snobol.specs.Calling.{Calling};
 ghost use Rattle.snobol.specs.Listing.{lists_events};
 ghost use Rattle.snobol.specs.Running.{Runs, CanRun, devices};
-ghost use Rattle.snobol.specs.Sessions.{most_events};
+ghost use Rattle.snobol.specs.Turns.{most_events};
 
 use crate::answers::answer_of;
 use crate::evaluate::evaluate;
 use crate::forms::value_of;
 use crate::scope::Scope;
 use sno_io::{Sink, Source, put};
-use sno_machine::{Exit, Machine, Stop, line_of, take_effect};
 use sno_match::{Event, Matcher, Pending};
+use sno_runtime::{Exit, Runtime, Stop, line_of, take_effect};
 use sno_value::{PatId, SymId, Value};
 
 /// Lists the events of a match, up to the last: each event's line is written, and then it takes effect. A deferred part
@@ -25,9 +25,9 @@ use sno_value::{PatId, SymId, Value};
 pub(crate) fn list_ways<
     R: Source,
     W: Sink,
-    C: Fn(&mut Machine, &mut R, &mut W, SymId, Vec<Value>) -> Result<Value, Exit>,
+    C: Fn(&mut Runtime, &mut R, &mut W, SymId, Vec<Value>) -> Result<Value, Exit>,
 >(
-    machine: &mut Machine,
+    runtime: &mut Runtime,
     scope: &Scope<C>,
     reader: &mut R,
     pattern: PatId,
@@ -38,39 +38,39 @@ pub(crate) fn list_ways<
 ) -> Result<(), Exit>
     requires calls { Calling R.feed W.drain scope.now.code.now scope.now.level (C.pre scope.now.call)
         (C.post scope.now.call) }
-    requires level { length machine.old.store.calls ≡ scope.now.level }
+    requires level { length runtime.old.store.calls ≡ scope.now.level }
     requires outermost { scope.now.level ≡ 0 }
-    requires pattern { pattern.0 < length machine.old.nodes }
+    requires pattern { pattern.0 < length runtime.old.nodes }
     requires subject { length subject.now ≤ 1_000_000 }
-    requires ready { CanRun machine.old (devices (R.feed reader.old) (W.drain writer.old)) }
+    requires ready { CanRun runtime.old (devices (R.feed reader.old) (W.drain writer.old)) }
     ensures { Runs itself any
-        (lists_events scope.now.code.now (tree machine.old.nodes pattern.0) subject.now anchored limit
-        (most_events limit) [] 0) machine.old machine.new
+        (lists_events scope.now.code.now (tree runtime.old.nodes pattern.0) subject.now anchored limit
+        (most_events limit) [] 0) runtime.old runtime.new
         (devices (R.feed reader.old) (W.drain writer.old))
         (devices (R.feed reader.new) (W.drain writer.new)) result }
 {
-    let alloc = machine.alloc();
-    let mut matcher = Matcher::new(alloc, machine.patterns(), pattern, subject, anchored, limit)?;
+    let alloc = runtime.alloc();
+    let mut matcher = Matcher::new(alloc, runtime.patterns(), pattern, subject, anchored, limit)?;
     'events: loop {
-        let event = matcher.next(machine.patterns())?;
+        let event = matcher.next(runtime.patterns())?;
         match event {
             Event::Value { prim, expr } => {
-                let value = evaluate(machine, scope, reader, writer, Some(value_of(expr)));
-                let given = answer_of(machine, prim, value)?;
-                matcher.answer(machine.patterns(), given)?;
+                let value = evaluate(runtime, scope, reader, writer, Some(value_of(expr)));
+                let given = answer_of(runtime, prim, value)?;
+                matcher.answer(runtime.patterns(), given)?;
             }
             Event::Exhausted | Event::Aborted | Event::Limit => {
-                list_event(machine, subject, event, matcher.pending(), writer)?;
+                list_event(runtime, subject, event, matcher.pending(), writer)?;
                 return Ok(());
             }
-            _ => list_event(machine, subject, event, matcher.pending(), writer)?,
+            _ => list_event(runtime, subject, event, matcher.pending(), writer)?,
         }
     }
 }
 
 /// Writes the line of an event, which then takes effect.
 fn list_event<W: Sink>(
-    machine: &mut Machine,
+    runtime: &mut Runtime,
     subject: &[u8],
     event: Event,
     way: &[Pending],
@@ -80,12 +80,12 @@ fn list_event<W: Sink>(
     requires within { IsWithin (length subject.now) (in_trace event way.now) }
     requires sound { (W.drain writer.old).broken ≡ false }
     ensures does { Performs (listed subject.now (in_trace event way.now))
-        machine.old machine.new (W.drain writer.old).taken (W.drain writer.new).taken result }
-    ensures nodes { machine.new.nodes ≡ machine.old.nodes }
+        runtime.old runtime.new (W.drain writer.old).taken (W.drain writer.new).taken result }
+    ensures nodes { runtime.new.nodes ≡ runtime.old.nodes }
     ensures sound { OnOk result ((W.drain writer.new).broken ≡ false) }
     ensures fault { result ≡ Err Stop.WriteFault → (W.drain writer.new).broken ≡ true }
 {
-    let line = line_of(machine, event, way)?;
+    let line = line_of(runtime, event, way)?;
     put(writer, &line)?;
-    take_effect(machine, subject, event, writer)
+    take_effect(runtime, subject, event, writer)
 }

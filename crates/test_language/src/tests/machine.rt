@@ -1,10 +1,10 @@
 //! Values that no expression gives yet: names of elements and entries, arrays, tables and expressions.
 ghost use Rattle.std.specs.Prelude.{List};
 ghost use Rattle.sno_pattern.specs.Table.{Node};
-ghost use Rattle.sno_machine.specs.Values.{IsValueOf};
+ghost use Rattle.sno_runtime.specs.Values.{IsValueOf};
 
 use super::rows::{Question, check_rows};
-use sno_machine::{
+use sno_runtime::{
     Exit, Keywords, Machine, Stop, assign, called, function_named, operation, unary_name,
 };
 use sno_text::{Operator, UnaryOperator};

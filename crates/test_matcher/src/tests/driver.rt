@@ -1,6 +1,6 @@
 //! Asks a match for all its events.
 ghost use Rattle.std.specs.Prelude.{◌≡◌, ◌<◌, ◌↔◌, false, true, length, IfOk, IfSome, IsTrue, OnErr, OnOk};
-ghost use Rattle.sno_match.specs.Session.{Begins};
+ghost use Rattle.sno_match.specs.Matching.{Begins};
 
 use sno_match::{Engine, Event, Pending, Points};
 use sno_pattern::Patterns;

@@ -1,6 +1,6 @@
 //! Trees written as text, with all brackets: `X (Y | -1)` as `(cat X (| Y (- 1)))`.
 ghost use Rattle.std.specs.Prelude.{◌<◌, length};
-ghost use Rattle.sno_text.specs.Source.{IsCoreOf, IsOptionWithin, IsTargetOf, IsJumpOf};
+ghost use Rattle.sno_text.specs.Program.{IsCoreOf, IsOptionWithin, IsTargetOf, IsJumpOf};
 
 use sno_text::{Core, Jump, Node, Operator, Program, Span, Target, UnaryOperator};
 use sno_value::ExprId;

@@ -3,7 +3,7 @@ use Rattle.sno_text.specs.declared.bytes.Class.TheVariants.{NameByte}
 use Rattle.sno_text.specs.Bytes.{byte, is_unary, is_closing, is_letter, is_opening}
 use Rattle.sno_text.specs.Grammar.{IsPair, Element}
 use Rattle.sno_text.specs.Links.{Stops}
-use Rattle.sno_text.specs.Outcome.{Outcome}
+use Rattle.sno_text.specs.Parsed.{Parsed}
 use Rattle.sno_text.proofs.Primaries.{refuses_group}
 use Rattle.sno_text.proofs.Tables.{extends_none, gives_variable, gives_group, refused_unclosed, extends_trans, extends_push, letter_is_name_byte, run_some}
 use Rattle.sno_text.proofs.Steps.{extends_binary, extends_unary, extends_applied, gives_signed, listing_next, growing_left, gives_right, refused_left}
@@ -140,7 +140,7 @@ pub read_element-signs-preserved : goal.read_element-signs-preserved
 read_element-signs-preserved t c =
     let sign : is_unary (byte c.args.text.now (c.signs.at - 1)) ≡ true = c.signs.invariant.3.each (c.signs.at - 1) (omega arith) (omega arith) in
     let next : c.signs.at - 1 + 1 ≡ c.signs.at = omega arith in
-    let found : Outcome c.args.text.now Element (Stops c.args.text.now 7) (c.signs.at - 1 + 1) c.args.nodes.now.items c.signs.nodes.items (Some c.signs.found) =
+    let found : Parsed c.args.text.now Element (Stops c.args.text.now 7) (c.signs.at - 1 + 1) c.args.nodes.now.items c.signs.nodes.items (Some c.signs.found) =
     rw next c.signs.invariant.0 in (
       gives_signed _ _ _ _ _ _ c.signs.found _ sign c.unary_operator-operator.ensures found c.in_ok-id.ensures.pushed.1 c.in_ok-id.ensures.pushed.0 refl refl,
       extends_unary _ _ _ _ _ _ c.signs.found c.signs.invariant.0 c.signs.invariant.1 c.in_ok-id.ensures.pushed.1,

@@ -1,7 +1,7 @@
 use Rattle.std.proofs.Common.{◌≡◌, arith, rules, refl, sym, ap, ◌∙◌, Some, true, length}
 use Rattle.sno_text.specs.Grammar.{Level}
 use Rattle.sno_text.specs.Links.{Stops}
-use Rattle.sno_text.specs.Outcome.{Outcome}
+use Rattle.sno_text.specs.Parsed.{Parsed}
 use Rattle.sno_text.proofs.Tables.{stands_id_below}
 use Rattle.sno_text.proofs.Expressions.{refused_three, not_open, accepted, not_large, no_expression, no_end}
 use Rattle.sno_text.proofs.Readings.{expression_whole}
@@ -26,7 +26,7 @@ returns-then-end-text-clause-refused c = (
 
 pub new-program-requires : goal.new-program-requires
 new-program-requires c =
-    let found : Outcome c.args.text.now (Level 0) (Stops c.args.text.now 0) c.run_end-start.result c.new-nodes.result.items c.read_level.new.nodes.items
+    let found : Parsed c.args.text.now (Level 0) (Stops c.args.text.now 0) c.run_end-start.result c.new-nodes.result.items c.read_level.new.nodes.items
     (Some c.in-Some.found) = rw c.in-Some.is at c.in_ok-found.ensures.read in
     let same : c.in_ok-text.text.items ≡ c.args.text.now = search rules in
     let none : length c.new-nodes.result.items ≡ 0 = ap length c.new-nodes.ensures.items in
@@ -35,7 +35,7 @@ new-program-requires c =
 
 pub returns-clause-accepted : goal.returns-clause-accepted
 returns-clause-accepted c =
-    let found : Outcome c.args.text.now (Level 0) (Stops c.args.text.now 0) c.run_end-start.result c.new-nodes.result.items c.read_level.new.nodes.items
+    let found : Parsed c.args.text.now (Level 0) (Stops c.args.text.now 0) c.run_end-start.result c.new-nodes.result.items c.read_level.new.nodes.items
     (Some c.in-Some.found) = rw c.in-Some.is at c.in_ok-found.ensures.read in
     let fits : c.in-Some.found.fits ≡ true = search rules in
     rw c.new-program.ensures.nodes (accepted _ _ _ _ _ c.in-Some.found (not_open c.args.text.now _ c.has_open_literal.ensures c.if-has_open_literal.false)
@@ -44,13 +44,13 @@ returns-clause-accepted c =
 
 pub returns-clause-number : goal.returns-clause-number
 returns-clause-number c =
-    let found : Outcome c.args.text.now (Level 0) (Stops c.args.text.now 0) c.run_end-start.result c.new-nodes.result.items c.read_level.new.nodes.items
+    let found : Parsed c.args.text.now (Level 0) (Stops c.args.text.now 0) c.run_end-start.result c.new-nodes.result.items c.read_level.new.nodes.items
     (Some c.in-Some.found) = rw c.in-Some.is at c.in_ok-found.ensures.read in
     rw c.new-program.ensures.nodes (stands_id_below _ found.tree _ found.stands)
 
 pub returns-clause-table : goal.returns-clause-table
 returns-clause-table c =
-    let found : Outcome c.args.text.now (Level 0) (Stops c.args.text.now 0) c.run_end-start.result c.new-nodes.result.items c.read_level.new.nodes.items
+    let found : Parsed c.args.text.now (Level 0) (Stops c.args.text.now 0) c.run_end-start.result c.new-nodes.result.items c.read_level.new.nodes.items
     (Some c.in-Some.found) = rw c.in-Some.is at c.in_ok-found.ensures.read in
     let same : c.in_ok-text.text.items ≡ c.args.text.now = search rules in
     let none : length c.new-nodes.result.items ≡ 0 = ap length c.new-nodes.ensures.items in

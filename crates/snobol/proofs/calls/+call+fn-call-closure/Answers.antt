@@ -1,6 +1,6 @@
 use Rattle.std.proofs.Common.{true, false, map}
 use Rattle.std.proofs.lemmas.Result.{err_from_is_err_and}
-use Rattle.sno_machine.specs.Values.{shown}
+use Rattle.sno_runtime.specs.Values.{shown}
 use Rattle.snobol.specs.Running.{devices}
 use Rattle.snobol.proofs.CallLaws.{call_runs, call_ended, not_begun, call_refused}
 use Rattle.snobol.proofs.calls.+call+fn-call-closure.Goals as goal
@@ -8,7 +8,7 @@ use Rattle.snobol.proofs.calls.+call+fn-call-closure.Goals as goal
 pub returns-in_err-entry : goal.returns-in_err-entry
 returns-in_err-entry g t c =
     let p = err_from_is_err_and c.from_residual.result c.from_residual.ensures.1 in
-    rw (p.1, p.2) (call_refused c.args.code.now c.args.function.0 (map (shown c.args.machine.now.nodes) c.args.arguments.items) c.args.machine.now
+    rw (p.1, p.2) (call_refused c.args.code.now c.args.function.0 (map (shown c.args.runtime.now.nodes) c.args.arguments.items) c.args.runtime.now
     (devices (g.R.Source.feed c.args.reader.now) (g.W.Sink.drain c.args.writer.now))
     c.in_err-entry.field-0.0 c.requires.ready c.requires.level (rw c.program.ensures.program at c.in_err-entry.ensures.refused))
 
@@ -16,8 +16,8 @@ pub returns-in_err-enter : goal.returns-in_err-enter
 returns-in_err-enter g t c =
     let p = err_from_is_err_and c.from_residual-in_err-enter.result c.from_residual-in_err-enter.ensures.1 in
     let e = c.in_ok-entry.ensures.entry in
-    rw (p.1, p.2) (not_begun c.args.code.now c.args.function.0 e.0 (map (shown c.args.machine.now.nodes) c.args.arguments.items)
-    c.args.machine.now c.enter.new.self
+    rw (p.1, p.2) (not_begun c.args.code.now c.args.function.0 e.0 (map (shown c.args.runtime.now.nodes) c.args.arguments.items)
+    c.args.runtime.now c.enter.new.self
     (devices (g.R.Source.feed c.args.reader.now) (g.W.Sink.drain c.args.writer.now))
     c.in_err-enter.field-0.0 c.requires.ready c.in_ok-entry.ensures.room (c.in_err-enter.ensures e.0 e.1))
 
@@ -25,9 +25,9 @@ pub returns-in_err-success : goal.returns-in_err-success
 returns-in_err-success g t c =
     let p = err_from_is_err_and c.from_residual-in_err-success.result c.from_residual-in_err-success.ensures.1 in
     let e = c.in_ok-entry.ensures.entry in
-    rw (p.1, p.2) (call_ended c.args.code.now c.args.function.0 c.in_ok-entry.entry e.0 (map (shown c.args.machine.now.nodes) c.args.arguments.items)
-    c.args.machine.now c.enter.new.self
-    (c.in_ok-enter.ensures e.0 e.1) e.1 (rw c.program.ensures.program at e.2) c.level-level.result c.chain.new.machine
+    rw (p.1, p.2) (call_ended c.args.code.now c.args.function.0 c.in_ok-entry.entry e.0 (map (shown c.args.runtime.now.nodes) c.args.arguments.items)
+    c.args.runtime.now c.enter.new.self
+    (c.in_ok-enter.ensures e.0 e.1) e.1 (rw c.program.ensures.program at e.2) c.level-level.result c.chain.new.runtime
     (devices (g.R.Source.feed c.args.reader.now) (g.W.Sink.drain c.args.writer.now))
     (devices (g.R.Source.feed c.chain.new.reader) (g.W.Sink.drain c.chain.new.writer))
     c.in_err-success.field-0.0 c.level-level.ensures c.in_err-success.ensures.halts c.in_err-success.ensures.does)
@@ -35,9 +35,9 @@ returns-in_err-success g t c =
 pub returns-then-success : goal.returns-then-success
 returns-then-success g t c =
     let e = c.in_ok-entry.ensures.entry in
-    call_runs c.args.code.now c.args.function.0 c.in_ok-entry.entry e.0 (map (shown c.args.machine.now.nodes) c.args.arguments.items)
-    c.args.machine.now c.enter.new.self
-    (c.in_ok-enter.ensures e.0 e.1) e.1 (rw c.program.ensures.program at e.2) c.level-level.result c.chain.new.machine c.leave-value.new.self
+    call_runs c.args.code.now c.args.function.0 c.in_ok-entry.entry e.0 (map (shown c.args.runtime.now.nodes) c.args.arguments.items)
+    c.args.runtime.now c.enter.new.self
+    (c.in_ok-enter.ensures e.0 e.1) e.1 (rw c.program.ensures.program at e.2) c.level-level.result c.chain.new.runtime c.leave-value.new.self
     c.leave-value.result true
     (devices (g.R.Source.feed c.args.reader.now) (g.W.Sink.drain c.args.writer.now))
     (devices (g.R.Source.feed c.chain.new.reader) (g.W.Sink.drain c.chain.new.writer))
@@ -46,9 +46,9 @@ returns-then-success g t c =
 pub returns-else-success : goal.returns-else-success
 returns-else-success g t c =
     let e = c.in_ok-entry.ensures.entry in
-    call_runs c.args.code.now c.args.function.0 c.in_ok-entry.entry e.0 (map (shown c.args.machine.now.nodes) c.args.arguments.items)
-    c.args.machine.now c.enter.new.self
-    (c.in_ok-enter.ensures e.0 e.1) e.1 (rw c.program.ensures.program at e.2) c.level-level.result c.chain.new.machine c.leave-value.new.self
+    call_runs c.args.code.now c.args.function.0 c.in_ok-entry.entry e.0 (map (shown c.args.runtime.now.nodes) c.args.arguments.items)
+    c.args.runtime.now c.enter.new.self
+    (c.in_ok-enter.ensures e.0 e.1) e.1 (rw c.program.ensures.program at e.2) c.level-level.result c.chain.new.runtime c.leave-value.new.self
     c.leave-value.result false
     (devices (g.R.Source.feed c.args.reader.now) (g.W.Sink.drain c.args.writer.now))
     (devices (g.R.Source.feed c.chain.new.reader) (g.W.Sink.drain c.chain.new.writer))

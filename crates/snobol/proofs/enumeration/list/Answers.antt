@@ -1,6 +1,6 @@
 use Rattle.std.proofs.Common.{◌∙◌, ap, length, refl, codes, Ok, Err}
-use Rattle.sno_machine.specs.declared.machine.Exit.TheVariants.{Halt}
-use Rattle.sno_machine.specs.declared.machine.Stop.TheVariants.{WriteFault}
+use Rattle.sno_runtime.specs.declared.runtime.Exit.TheVariants.{Halt}
+use Rattle.sno_runtime.specs.declared.runtime.Stop.TheVariants.{WriteFault}
 use Rattle.snobol.proofs.RunningLaws.{performs_runs}
 use Rattle.snobol.proofs.EnumerationLaws.{new_closed, new_runs, built_listed, failed_listed, stopped_listed, line_put, line_cut, listed_as, fault_told}
 use Rattle.snobol.proofs.enumeration.list.Goals as goal
@@ -12,10 +12,10 @@ pattern_of-requires-clause-calls g c = record {
 }
 
 pub pattern_of-requires-clause-level : goal.pattern_of-requires-clause-level
-pattern_of-requires-clause-level g c = ap length (new_closed c.in-Ok.machine c.for_listing-keywords.result (rw c.in-Ok.is at c.new.ensures))
+pattern_of-requires-clause-level g c = ap length (new_closed c.in-Ok.runtime c.for_listing-keywords.result (rw c.in-Ok.is at c.new.ensures))
 
 pub pattern_of-requires-clause-ready : goal.pattern_of-requires-clause-ready
-pattern_of-requires-clause-ready g c = new_runs c.in-Ok.machine c.for_listing-keywords.result _ (rw c.in-Ok.is at c.new.ensures) refl c.requires.sound
+pattern_of-requires-clause-ready g c = new_runs c.in-Ok.runtime c.for_listing-keywords.result _ (rw c.in-Ok.is at c.new.ensures) refl c.requires.sound
 
 pub list_ways-requires-clause-calls : goal.list_ways-requires-clause-calls
 list_ways-requires-clause-calls g c = record {
@@ -26,7 +26,7 @@ list_ways-requires-clause-calls g c = record {
 pub list_ways-requires-clause-level : goal.list_ways-requires-clause-level
 list_ways-requires-clause-level g c =
     let did = rw c.in-Ok-pattern_of.is at c.pattern_of.ensures in
-    ap length (did.calls ∙ new_closed c.in-Ok.machine c.for_listing-keywords.result (rw c.in-Ok.is at c.new.ensures))
+    ap length (did.calls ∙ new_closed c.in-Ok.runtime c.for_listing-keywords.result (rw c.in-Ok.is at c.new.ensures))
 
 pub list_ways-requires-clause-pattern : goal.list_ways-requires-clause-pattern
 list_ways-requires-clause-pattern g c =
@@ -64,7 +64,7 @@ returns-in-Err-clause-listing g c =
     let failed = rw (c.in-Err-Failure.is, c.in-Err-Failure.field-0-is, c.in-Ok-of.ensures, start, c.for_listing-keywords.ensures) at did in
     let cut = c.in-Err.ensures.bytes in
     let line = performs_runs _ _ _ _ (g.W.Sink.drain c.pattern_of.new.writer) _ (Err WriteFault) failed.ready.reads refl tt (λ e. c.in-Err.ensures.fault)
-    (line_cut (codes "exhausted\n") cut.0 c.pattern_of.new.machine _ _ cut.1 cut.2) in
+    (line_cut (codes "exhausted\n") cut.0 c.pattern_of.new.runtime _ _ cut.1 cut.2) in
     listed_as _ _ _ _ _ _ _ _ _ c.requires.subject refl (failed_listed c.args.program.now c.args.expression c.args.subject.now c.args.anchored c.args.limit
     _ _ _ _ _ _ _ failed line)
 
@@ -75,7 +75,7 @@ returns-in-Err-Failure-clause-listing g c =
     let failed = rw (c.in-Err-Failure.is, c.in-Err-Failure.field-0-is, c.in-Ok-of.ensures, start, c.for_listing-keywords.ensures) at did in
     let put = c.in_default-put.ensures in
     let line = performs_runs _ _ _ _ (g.W.Sink.drain c.pattern_of.new.writer) _ (Ok tt) failed.ready.reads refl put.sound (λ e. absurd (cc e))
-    (line_put (codes "exhausted\n") c.pattern_of.new.machine _ _ put.bytes) in
+    (line_put (codes "exhausted\n") c.pattern_of.new.runtime _ _ put.bytes) in
     listed_as _ _ _ _ _ _ _ _ _ c.requires.subject refl (failed_listed c.args.program.now c.args.expression c.args.subject.now c.args.anchored c.args.limit
     _ _ _ _ _ _ _ failed line)
 

@@ -1,7 +1,7 @@
 use Rattle.std.proofs.Common.{[], arith}
 use Rattle.snobol.proofs.Ordered.{table_ordered}
 use Rattle.snobol.proofs.EnumerationLaws.{is_listing, is_read, too_long}
-use Rattle.sno_machine.proofs.Performing.{appends_nothing}
+use Rattle.sno_runtime.proofs.Performing.{appends_nothing}
 use Rattle.snobol.proofs.enumeration.ways.Goals as goal
 
 pub list-end-requires-clause-ordered : goal.list-end-requires-clause-ordered

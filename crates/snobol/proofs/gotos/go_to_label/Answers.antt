@@ -7,12 +7,12 @@ use Rattle.snobol.proofs.gotos.go_to_label.Goals as goal
 pub returns-in_err-label-clause-does : goal.returns-in_err-label-clause-does
 returns-in_err-label-clause-does c =
     let p = err_from_is_err_and c.from_residual.result c.from_residual.ensures.1 in
-    let s = c.args.machine.now in
+    let s = c.args.runtime.now in
     rw (p.1, p.2) (textless c.args.program.now c.args.value s _ (c.in_err-label.ensures.text s.nodes))
 
 pub returns-clause-does : goal.returns-clause-does
 returns-clause-does c =
-    let s = c.args.machine.now in
+    let s = c.args.runtime.now in
     let some = not_empty c.in_ok-label.label.items _ _ c.in_ok-label.label.ok.0 c.is_empty.ensures c.if-is_empty.false in
     goes_by_label c.args.program.now c.args.value c.in_ok-label.label.items c.goto_of.result s _ (c.in_ok-label.ensures.text s.nodes) some
     (c.goto_of.ensures ∙ ap (goto_of c.args.program.now) c.deref.ensures.value) c.go_to.ensures.does

@@ -1,7 +1,7 @@
 use Rattle.std.proofs.Common.{[], refl}
 use Rattle.snobol.specs.Jobs.{not_read, was_run}
-use Rattle.sno_machine.proofs.Reading.{consumes_nothing}
-use Rattle.sno_machine.proofs.Performing.{appends_nothing}
+use Rattle.sno_runtime.proofs.Reading.{consumes_nothing}
+use Rattle.sno_runtime.proofs.Performing.{appends_nothing}
 use Rattle.snobol.proofs.JobLaws.{refusal_checked}
 use Rattle.snobol.proofs.job.run_file.Goals as goal
 
@@ -13,7 +13,8 @@ returns-in-Ok g c =
       ran.2,
       ran.3,
       was_run c.run-outcome.result
-          (record { statements = h.0; program = h.1; source = c.in-Ok.program; stands = h.2; source_text = c.in-Ok.ensures.source; meets = ran.4 }) c.ran.ensures,
+          (record { statements = h.0; accepted = h.1; program = c.in-Ok.program; stands = h.2; program_text = c.in-Ok.ensures.source; meets = ran.4 })
+          c.ran.ensures,
     )
 
 pub returns-in-Err : goal.returns-in-Err

@@ -1,5 +1,5 @@
 use Rattle.std.proofs.lemmas.Result.{err_from_is_err_and}
-use Rattle.sno_machine.proofs.Performing.{listed_cut, listed_on}
+use Rattle.sno_runtime.proofs.Performing.{listed_cut, listed_on}
 use Rattle.snobol.proofs.listing.list_event.Goals as goal
 
 pub returns-in_err-put-clause-does : goal.returns-in_err-put-clause-does

@@ -2,7 +2,7 @@ use Rattle.std.proofs.Common.{◌≡◌, ◌∙◌, suc, ap, arith, length, refl
 use Rattle.std.proofs.lemmas.Result.{err_from_is_err_and}
 use Rattle.sno_pattern.specs.Table.{tree}
 use Rattle.sno_match.specs.Search.{Answer, trace}
-use Rattle.sno_match.specs.Session.{Session}
+use Rattle.sno_match.specs.Matching.{Matching}
 use Rattle.snobol.specs.Given.{given_of}
 use Rattle.snobol.proofs.RunningLaws.{performs_runs}
 use Rattle.snobol.proofs.EnumerationLaws.{whole_listing, value_then, value_ended, unlisted, last_told, line_told, events_over, event_then, event_ended}
@@ -71,13 +71,13 @@ events-preserved-in-Continue-branch-4 g c =
     (rw c.in-Value.is refl) in
     let is = rw c.patterns-in-Value.ensures at c.in_ok-answer-in-Value.ensures.ok in
     let given = given_answer c.next.new.self c.answer.new.self _ _ _ _ _ _ x on runs.grows is
-    ∙ ap (λ (before : List Answer). before ++ given_of c.answer_of.new.machine.nodes x ∷ [])
+    ∙ ap (λ (before : List Answer). before ++ given_of c.answer_of.new.runtime.nodes x ∷ [])
     (given_same c.events.matcher c.next.new.self _ i.follows.nodes table c.in_ok-event.ensures.same) in
-    let same = ap (λ (m : Session). m.told) is in
+    let same = ap (λ (m : Matching). m.told) is in
     let next : c.answer.new.self.told ≡ suc c.events.matcher.told = omega arith in
     record {
       follows = follows_answer c.next.new.self c.answer.new.self _ _ _ _ _ _ x on runs.grows runs.answer is;
-      waits = ap (λ (m : Session). m.waits) is;
+      waits = ap (λ (m : Matching). m.waits) is;
       can = runs.ready;
       calls = runs.calls ∙ i.calls;
       leads = λ e z r h. i.leads e z r (value_then _ _ _ _ _ _ _ c.in-Value.prim c.in-Value.expr.0 _ _ _ _ _ _ _ x r turn runs (rw (given, next) at h));
@@ -109,11 +109,11 @@ returns-in-Exhausted g c =
     let grows = told.grows i.follows.ended in
     let over = told.stops (rw last.1 refl) in
     let same = ap length (c.in_ok-event.ensures.same.trace ∙ trace_followed c.events.matcher _ _ _ _ _ i.follows) in
-    let all : length (trace (tree c.args.machine.now.nodes c.args.pattern.0) c.args.subject.now c.args.anchored c.args.limit (given_to c.events.matcher))
+    let all : length (trace (tree c.args.runtime.now.nodes c.args.pattern.0) c.args.subject.now c.args.anchored c.args.limit (given_to c.events.matcher))
     ≤ suc c.events.matcher.told = omega arith in
     rw (← whole_listing c.args.scope.now.code.now _ c.args.subject.now c.args.anchored c.args.limit)
     (i.leads _ _ _ (event_then _ _ _ _ _ _ _ c.in_ok-event.event c.next.new.self.way _ _ _ _ _ _ _ _ last.0 turn.0 turn.1 runs
-    (events_over c.args.scope.now.code.now (tree c.args.machine.now.nodes c.args.pattern.0) c.args.subject.now c.args.anchored c.args.limit _
+    (events_over c.args.scope.now.code.now (tree c.args.runtime.now.nodes c.args.pattern.0) c.args.subject.now c.args.anchored c.args.limit _
     (given_to c.events.matcher) _ _ runs.ready all)))
 
 pub events-preserved : goal.events-preserved

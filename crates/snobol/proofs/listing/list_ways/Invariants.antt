@@ -1,9 +1,9 @@
 use Rattle.std.proofs.Common.{◌≡◌, ◌-◌, [], false, Result}
 use Rattle.sno_pattern.specs.Table.{tree}
-use Rattle.sno_machine.specs.declared.machine.Exit.{Exit}
-use Rattle.sno_machine.specs.State.{State, itself, any}
+use Rattle.sno_runtime.specs.declared.runtime.Exit.{Exit}
+use Rattle.sno_runtime.specs.Runtime.{Runtime, itself, any}
 use Rattle.snobol.specs.Running.{Devices, CanRun, Runs, devices}
-use Rattle.snobol.specs.Sessions.{most_events}
+use Rattle.snobol.specs.Turns.{most_events}
 use Rattle.snobol.proofs.EnumerationLaws.{to_end}
 use Rattle.snobol.proofs.SessionLaws.{Follows, given_to}
 use Rattle.snobol.proofs.listing.list_ways.Given as goal
@@ -11,15 +11,15 @@ use Rattle.snobol.proofs.listing.list_ways.Given as goal
 -- what is left of the events is still to be listed
 abbrev pub invariant-events : goal.invariant-events
 invariant-events g l = record {
-  follows : Follows l.matcher l.machine.nodes (tree l.fn.machine.nodes l.fn.pattern.0) l.fn.subject l.fn.anchored l.fn.limit;
+  follows : Follows l.matcher l.runtime.nodes (tree l.fn.runtime.nodes l.fn.pattern.0) l.fn.subject l.fn.anchored l.fn.limit;
   waits : l.matcher.waits ≡ false;
-  can : CanRun l.machine (devices (g.R.Source.feed l.reader) (g.W.Sink.drain l.writer));
-  calls : l.machine.store.calls ≡ l.fn.machine.store.calls;
-  leads : (c : State) (z : Devices) (r : Result Unit Exit)
-      → Runs itself any (to_end l.scope.code.now (tree l.fn.machine.nodes l.fn.pattern.0) l.fn.subject l.fn.anchored l.fn.limit
-      (given_to l.matcher) l.matcher.told) l.machine c
+  can : CanRun l.runtime (devices (g.R.Source.feed l.reader) (g.W.Sink.drain l.writer));
+  calls : l.runtime.store.calls ≡ l.fn.runtime.store.calls;
+  leads : (c : Runtime) (z : Devices) (r : Result Unit Exit)
+      → Runs itself any (to_end l.scope.code.now (tree l.fn.runtime.nodes l.fn.pattern.0) l.fn.subject l.fn.anchored l.fn.limit
+      (given_to l.matcher) l.matcher.told) l.runtime c
       (devices (g.R.Source.feed l.reader) (g.W.Sink.drain l.writer)) z r
-      → Runs itself any (to_end l.scope.code.now (tree l.fn.machine.nodes l.fn.pattern.0) l.fn.subject l.fn.anchored l.fn.limit [] 0) l.fn.machine c
+      → Runs itself any (to_end l.scope.code.now (tree l.fn.runtime.nodes l.fn.pattern.0) l.fn.subject l.fn.anchored l.fn.limit [] 0) l.fn.runtime c
       (devices (g.R.Source.feed l.fn.reader) (g.W.Sink.drain l.fn.writer)) z r;
 }
 

@@ -15,7 +15,7 @@ pub returns-in_err-target : goal.returns-in_err-target
 returns-in_err-target g c =
     let p = err_from_is_err_and c.from_residual-in_err-target.result c.from_residual-in_err-target.ensures.1 in
     let named = of_part _ _ (ap Some c.name_of.ensures) c.in_ok-name.ensures in
-    answered (p.1 ∙ ap Err p.2) (part_runs _ named (nameless_runs _ _ named.ready (c.in_err-target.ensures c.evaluate.new.machine.nodes)))
+    answered (p.1 ∙ ap Err p.2) (part_runs _ named (nameless_runs _ _ named.ready (c.in_err-target.ensures c.evaluate.new.runtime.nodes)))
 
 pub read-requires : goal.read-requires
 read-requires g c = c.in_ok-name.ensures.ready.reads
@@ -26,14 +26,14 @@ returns-in_err-value g c =
     let named = of_part _ _ (ap Some c.name_of.ensures) c.in_ok-name.ensures in
     let lost = read_runs named.ready c.in_err-value.ensures in
     answered (p.1 ∙ ap Err p.2)
-    (part_runs _ named (name_runs _ _ c.in_ok-target.target (c.in_ok-target.ensures c.evaluate.new.machine.nodes) (part_ended _ lost)))
+    (part_runs _ named (name_runs _ _ c.in_ok-target.target (c.in_ok-target.ensures c.evaluate.new.runtime.nodes) (part_ended _ lost)))
 
 pub returns-in_err-text : goal.returns-in_err-text
 returns-in_err-text g c =
     let p = err_from_is_err_and c.from_residual-in_err-text.result c.from_residual-in_err-text.ensures.1 in
     let named = of_part _ _ (ap Some c.name_of.ensures) c.in_ok-name.ensures in
     let read = read_runs named.ready c.in_ok-value.ensures in
-    answered (p.1 ∙ ap Err p.2) (part_runs _ named (name_runs _ _ c.in_ok-target.target (c.in_ok-target.ensures c.evaluate.new.machine.nodes)
+    answered (p.1 ∙ ap Err p.2) (part_runs _ named (name_runs _ _ c.in_ok-target.target (c.in_ok-target.ensures c.evaluate.new.runtime.nodes)
     (part_runs _ read (textless_runs _ _ read.ready (c.in_err-text.ensures.text c.read.new.self.nodes)))))
 
 pub evaluate-requires-2-clause-level : goal.evaluate-requires-2-clause-level
@@ -48,7 +48,7 @@ returns-in_err-value-2 g c =
     let named = of_part _ _ (ap Some c.name_of.ensures) c.in_ok-name.ensures in
     let read = read_runs named.ready c.in_ok-value.ensures in
     let lost = of_part _ _ (ap Some c.value_of.ensures) c.in_err-value-2.ensures in
-    answered (p.1 ∙ ap Err p.2) (part_runs _ named (name_runs _ _ c.in_ok-target.target (c.in_ok-target.ensures c.evaluate.new.machine.nodes)
+    answered (p.1 ∙ ap Err p.2) (part_runs _ named (name_runs _ _ c.in_ok-target.target (c.in_ok-target.ensures c.evaluate.new.runtime.nodes)
     (part_runs _ read (text_runs _ _ c.in_ok-text.text (c.in_ok-text.ensures.text c.read.new.self.nodes) (part_ended _ (patternless_runs _ _ _ lost))))))
 
 pub matcher_of-requires : goal.matcher_of-requires
@@ -60,7 +60,7 @@ returns-in_err-matcher g c =
     let named = of_part _ _ (ap Some c.name_of.ensures) c.in_ok-name.ensures in
     let read = read_runs named.ready c.in_ok-value.ensures in
     let lost = pattern_runs _ _ c.args.pattern (of_part _ _ (ap Some c.value_of.ensures) c.in_ok-value-2.ensures) c.in_err-matcher.ensures.does in
-    answered (p.1 ∙ ap Err p.2) (part_runs _ named (name_runs _ _ c.in_ok-target.target (c.in_ok-target.ensures c.evaluate.new.machine.nodes)
+    answered (p.1 ∙ ap Err p.2) (part_runs _ named (name_runs _ _ c.in_ok-target.target (c.in_ok-target.ensures c.evaluate.new.runtime.nodes)
     (part_runs _ read (text_runs _ _ c.in_ok-text.text (c.in_ok-text.ensures.text c.read.new.self.nodes) (part_ended _ lost)))))
 
 pub find_first-requires-clause-subject : goal.find_first-requires-clause-subject
@@ -83,7 +83,7 @@ returns-in_err-span g c =
     let read = read_runs named.ready c.in_ok-value.ensures in
     let begun = pattern_runs _ _ c.args.pattern (of_part _ _ (ap Some c.value_of.ensures) c.in_ok-value-2.ensures) c.in_ok-matcher.ensures.does in
     let lost = of_subject _ _ _ c.in_ok-matcher.ensures.subject c.in_err-span.ensures.does in
-    answered (p.1 ∙ ap Err p.2) (part_runs _ named (name_runs _ _ c.in_ok-target.target (c.in_ok-target.ensures c.evaluate.new.machine.nodes)
+    answered (p.1 ∙ ap Err p.2) (part_runs _ named (name_runs _ _ c.in_ok-target.target (c.in_ok-target.ensures c.evaluate.new.runtime.nodes)
     (part_runs _ read (text_runs _ _ c.in_ok-text.text (c.in_ok-text.ensures.text c.read.new.self.nodes) (part_runs _ begun (part_ended _ lost))))))
 
 pub evaluate-requires-3-clause-level : goal.evaluate-requires-3-clause-level
@@ -103,7 +103,7 @@ returns-in_err-value-3 g c =
     let begun = pattern_runs _ _ c.args.pattern (of_part _ _ (ap Some c.value_of.ensures) c.in_ok-value-2.ensures) c.in_ok-matcher.ensures.does in
     let found = of_subject _ _ _ c.in_ok-matcher.ensures.subject c.in_ok-span.ensures.does in
     let lost = of_part _ _ c.object_part.ensures c.in_err-value-3.ensures in
-    answered (p.1 ∙ ap Err p.2) (part_runs _ named (name_runs _ _ c.in_ok-target.target (c.in_ok-target.ensures c.evaluate.new.machine.nodes)
+    answered (p.1 ∙ ap Err p.2) (part_runs _ named (name_runs _ _ c.in_ok-target.target (c.in_ok-target.ensures c.evaluate.new.runtime.nodes)
     (part_runs _ read (text_runs _ _ c.in_ok-text.text (c.in_ok-text.ensures.text c.read.new.self.nodes)
     (part_runs _ begun (part_runs _ found (part_ended _ lost)))))))
 
@@ -133,6 +133,6 @@ returns g c =
     let object = of_part _ _ c.object_part.ensures c.in_ok-value-3.ensures in
     let same = c.subject.ensures ∙ (c.in_ok-span.ensures.subject ∙ c.in_ok-matcher.ensures.subject) in
     let put = rw same at (c.put_value.ensures _ object.ready.reads) in
-    (part_runs _ named (name_runs _ _ c.in_ok-target.target (c.in_ok-target.ensures c.evaluate.new.machine.nodes)
+    (part_runs _ named (name_runs _ _ c.in_ok-target.target (c.in_ok-target.ensures c.evaluate.new.runtime.nodes)
     (part_runs _ read (text_runs _ _ c.in_ok-text.text (c.in_ok-text.ensures.text c.read.new.self.nodes)
     (part_runs _ begun (part_runs _ found (part_runs _ object put)))))))

@@ -1,5 +1,5 @@
 use Rattle.std.proofs.Common.{arith, refl, ◌∙◌, ap}
-use Rattle.sno_match.specs.Session.{Session}
+use Rattle.sno_match.specs.Matching.{Matching}
 use Rattle.sno_match.proofs.LookLaws.{same_looks}
 use Rattle.sno_match.proofs.EngineLaws as laws
 use Rattle.sno_match.proofs.CountLaws.{match_few, match_counted}
@@ -24,7 +24,7 @@ invariant_of-self-in-Some g c =
           c.in-Some.event c.make_move.new.steps c.self.inside.start (g.P.Points.points c.make_move.new.points) c.make_move.new.way.items
           (g.P.Points.records c.make_move.new.points) (rw c.in-Some.is at l) c.state_behind-self-inside.result c.state_behind-self-inside.ensures).0,
       same_looks c.self.inside.lent.value c.args.patterns.now c.self.inside.subject.items c.deref.result.now c.make_move.new.looks
-          (ap (λ (x : Session). x.nodes) c.self.view_is ∙ c.requires.table) c.deref.ensures.value c.in_ok-told-2.ensures.looks,
+          (ap (λ (x : Matching). x.nodes) c.self.view_is ∙ c.requires.table) c.deref.ensures.value c.in_ok-told-2.ensures.looks,
     )
 
 pub returns-in-Some-clause-ok : goal.returns-in-Some-clause-ok
@@ -73,7 +73,7 @@ invariant_of-self-in_default g c =
           c.make_move.new.steps c.self.inside.start (g.P.Points.points c.make_move.new.points) c.make_move.new.way.items
           (g.P.Points.records c.make_move.new.points) (rw c.in_default.is at l) (c.in_ok-told-2.ensures.ok.falls c.in_default.is)).0,
       same_looks c.self.inside.lent.value c.args.patterns.now c.self.inside.subject.items c.deref.result.now c.make_move.new.looks
-          (ap (λ (x : Session). x.nodes) c.self.view_is ∙ c.requires.table) c.deref.ensures.value c.in_ok-told-2.ensures.looks,
+          (ap (λ (x : Matching). x.nodes) c.self.view_is ∙ c.requires.table) c.deref.ensures.value c.in_ok-told-2.ensures.looks,
     )
 
 pub returns-in_default-clause-ok : goal.returns-in_default-clause-ok

@@ -1,5 +1,5 @@
 use Rattle.std.proofs.Common.{ap}
-use Rattle.sno_match.specs.Session.{Session}
+use Rattle.sno_match.specs.Matching.{Matching}
 use Rattle.sno_match.proofs.LookLaws.{lent_looks}
 use Rattle.sno_match.proofs.AnswerLaws as laws
 use Rattle.sno_match.proofs.engine.Engine.answer.Goals as goal
@@ -12,7 +12,7 @@ invariant_of-self g c =
     c.of-self-inside.result.value c.args.patterns.now c.of-self-inside.ensures c.requires.table c.requires.waiting in (
       rw c.in_err-push.ensures.items none.0,
       lent_looks c.args.self.now c.self.inside.lent.value c.of-self-inside.result.value c.args.patterns.now
-          c.self.inside.subject.items c.self.inside.looks (ap (λ (x : Session). x.nodes) c.self.view_is) c.of-self-inside.ensures
+          c.self.inside.subject.items c.self.inside.looks (ap (λ (x : Matching). x.nodes) c.self.view_is) c.of-self-inside.ensures
           c.requires.table c.self.invariant.1,
     )
 
@@ -42,7 +42,7 @@ invariant_of-self-in-Err g c =
     c.push.new.self.ok.0 c.pop-taken_back.ensures.rest in (
       rw (back, c.in-Err.ensures.err.0, c.in-Err.ensures.err.1) none.0,
       lent_looks c.args.self.now c.self.inside.lent.value c.of-self-inside.result.value
-          c.args.patterns.now c.self.inside.subject.items c.self.inside.looks (ap (λ (x : Session). x.nodes) c.self.view_is) c.of-self-inside.ensures
+          c.args.patterns.now c.self.inside.subject.items c.self.inside.looks (ap (λ (x : Matching). x.nodes) c.self.view_is) c.of-self-inside.ensures
           c.requires.table c.self.invariant.1,
     )
 
@@ -76,7 +76,7 @@ invariant_of-self-2 g c =
     c.put_answer.ensures.records in (
       rw c.in_ok-push.ensures.items all.0,
       lent_looks c.args.self.now c.self.inside.lent.value c.of-self-inside.result.value c.args.patterns.now
-          c.self.inside.subject.items c.self.inside.looks (ap (λ (x : Session). x.nodes) c.self.view_is) c.of-self-inside.ensures
+          c.self.inside.subject.items c.self.inside.looks (ap (λ (x : Matching). x.nodes) c.self.view_is) c.of-self-inside.ensures
           c.requires.table c.self.invariant.1,
     )
 

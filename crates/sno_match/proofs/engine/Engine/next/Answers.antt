@@ -1,5 +1,5 @@
 use Rattle.std.proofs.Common.{refl, ◌∙◌, ap}
-use Rattle.sno_match.specs.Session.{Session}
+use Rattle.sno_match.specs.Matching.{Matching}
 use Rattle.sno_match.proofs.LookLaws.{lent_looks}
 use Rattle.std.proofs.lemmas.Result.{err_from_is_err_and}
 use Rattle.sno_match.proofs.CountLaws.{match_counted}
@@ -15,7 +15,7 @@ invariant_of-self g c = (
       (g.P.Points.records c.self.inside.points) c.self.inside.start c.self.view_is c.self.invariant.0
       c.of-self-inside.result.value c.args.patterns.now c.of-self-inside.ensures c.requires.table,
   lent_looks c.args.self.now c.self.inside.lent.value c.of-self-inside.result.value c.args.patterns.now c.self.inside.subject.items c.self.inside.looks
-      (ap (λ (x : Session). x.nodes) c.self.view_is) c.of-self-inside.ensures c.requires.table c.self.invariant.1,
+      (ap (λ (x : Matching). x.nodes) c.self.view_is) c.of-self-inside.ensures c.requires.table c.self.invariant.1,
 )
 
 pub invariant_of-self-2 : goal.invariant_of-self-2
@@ -25,7 +25,7 @@ invariant_of-self-2 g c = (
       (g.P.Points.records c.self.inside.points) c.self.inside.start c.self.view_is c.self.invariant.0
       c.of-self-inside.result.value c.args.patterns.now c.of-self-inside.ensures c.requires.table,
   lent_looks c.args.self.now c.self.inside.lent.value c.of-self-inside.result.value c.args.patterns.now c.self.inside.subject.items c.self.inside.looks
-      (ap (λ (x : Session). x.nodes) c.self.view_is) c.of-self-inside.ensures c.requires.table c.self.invariant.1,
+      (ap (λ (x : Matching). x.nodes) c.self.view_is) c.of-self-inside.ensures c.requires.table c.self.invariant.1,
 )
 
 pub returns-in-Ended-clause-same : goal.returns-in-Ended-clause-same

@@ -1,7 +1,7 @@
 use Rattle.std.proofs.Common.{◌≡◌, ◌<◌, ◌+◌, length, arith, refl, ◌∙◌, ap, []}
 use Rattle.sno_match.specs.declared.event.Event.TheVariants as V
 use Rattle.sno_match.specs.declared.engine.State.TheVariants as S
-use Rattle.sno_match.specs.Session.{Session}
+use Rattle.sno_match.specs.Matching.{Matching}
 use Rattle.sno_match.specs.Running.{later_starts}
 use Rattle.sno_match.proofs.SessionLaws.{anchored_once, last_start}
 use Rattle.sno_match.proofs.EngineLaws as laws
@@ -38,7 +38,7 @@ invariant_of-self g c =
           V.Exhausted (c.self.inside.steps + c.pass_failing_starts-passed.result.steps) c.pass_failing_starts-passed.result.start
           (g.P.Points.points c.self.inside.points) c.self.inside.way.items (g.P.Points.records c.self.inside.points) l (S.Ended V.Exhausted) refl).0,
       same_looks c.self.inside.lent.value c.args.patterns.now c.self.inside.subject.items c.deref.result.now c.pass_failing_starts-passed.new.looks
-          (ap (λ (x : Session). x.nodes) c.self.view_is ∙ c.requires.table) c.deref.ensures.value c.pass_failing_starts-passed.ensures.looks,
+          (ap (λ (x : Matching). x.nodes) c.self.view_is ∙ c.requires.table) c.deref.ensures.value c.pass_failing_starts-passed.ensures.looks,
     )
 
 pub returns-then-self-clause-ok : goal.returns-then-self-clause-ok
@@ -103,7 +103,7 @@ invariant_of-self-then-steps-self g c =
           V.Limit (c.self.inside.steps + c.pass_failing_starts-passed.result.steps) c.pass_failing_starts-passed.result.start
           (g.P.Points.points c.self.inside.points) c.self.inside.way.items (g.P.Points.records c.self.inside.points) l (S.Ended V.Limit) refl).0,
       same_looks c.self.inside.lent.value c.args.patterns.now c.self.inside.subject.items c.deref.result.now c.pass_failing_starts-passed.new.looks
-          (ap (λ (x : Session). x.nodes) c.self.view_is ∙ c.requires.table) c.deref.ensures.value c.pass_failing_starts-passed.ensures.looks,
+          (ap (λ (x : Matching). x.nodes) c.self.view_is ∙ c.requires.table) c.deref.ensures.value c.pass_failing_starts-passed.ensures.looks,
     )
 
 pub returns-then-steps-self-clause-ok : goal.returns-then-steps-self-clause-ok
@@ -165,7 +165,7 @@ invariant_of-self-2 g c =
     c.pass_failing_starts-passed.ensures.passes c.if-self.false room (g.P.Points.points c.begin.new.self) (g.P.Points.records c.begin.new.self)
     c.if-steps-self.false c.in_ok-begin.ensures.ok c.in_ok-begin.ensures.records in
     let size_new = ap length c.in_ok-begin.ensures.ok in
-    let empty = ap (λ (x : Session). x.points) c.self.view_is ∙ c.requires.none in
+    let empty = ap (λ (x : Matching). x.points) c.self.view_is ∙ c.requires.none in
     let due : c.self.inside.steps + c.pass_failing_starts-passed.result.steps < c.self.inside.limit =
     omega (arith, c.self.invariant.0.steps_in, c.pass_failing_starts-passed.ensures.enough, c.if-steps-self.false) in (
       (laws.goes_all c.args.self.now c.self.inside.lent.value c.self.inside.pattern c.self.inside.subject.items c.self.inside.anchored c.self.inside.limit
@@ -175,7 +175,7 @@ invariant_of-self-2 g c =
           (c.self.inside.steps + c.pass_failing_starts-passed.result.steps + 1) (c.pass_failing_starts-passed.result.start + 1)
           (g.P.Points.points c.begin.new.self) c.self.inside.way.items (g.P.Points.records c.begin.new.self) l (omega (arith, size_new, empty, due))).0,
       same_looks c.self.inside.lent.value c.args.patterns.now c.self.inside.subject.items c.deref.result.now c.pass_failing_starts-passed.new.looks
-          (ap (λ (x : Session). x.nodes) c.self.view_is ∙ c.requires.table) c.deref.ensures.value c.pass_failing_starts-passed.ensures.looks,
+          (ap (λ (x : Matching). x.nodes) c.self.view_is ∙ c.requires.table) c.deref.ensures.value c.pass_failing_starts-passed.ensures.looks,
     )
 
 pub returns-clause-ok : goal.returns-clause-ok
@@ -193,7 +193,7 @@ returns-clause-ok g c =
     c.pass_failing_starts-passed.ensures.passes c.if-self.false room (g.P.Points.points c.begin.new.self) (g.P.Points.records c.begin.new.self)
     c.if-steps-self.false c.in_ok-begin.ensures.ok c.in_ok-begin.ensures.records in
     let size_new = ap length c.in_ok-begin.ensures.ok in
-    let empty = ap (λ (x : Session). x.points) c.self.view_is ∙ c.requires.none in
+    let empty = ap (λ (x : Matching). x.points) c.self.view_is ∙ c.requires.none in
     let due : c.self.inside.steps + c.pass_failing_starts-passed.result.steps < c.self.inside.limit =
     omega (arith, c.self.invariant.0.steps_in, c.pass_failing_starts-passed.ensures.enough, c.if-steps-self.false) in
     (laws.goes_all c.args.self.now c.self.inside.lent.value c.self.inside.pattern c.self.inside.subject.items c.self.inside.anchored c.self.inside.limit
@@ -217,7 +217,7 @@ returns-clause-counts g c =
     c.pass_failing_starts-passed.ensures.passes c.if-self.false room (g.P.Points.points c.begin.new.self) (g.P.Points.records c.begin.new.self)
     c.if-steps-self.false c.in_ok-begin.ensures.ok c.in_ok-begin.ensures.records in
     let size_new = ap length c.in_ok-begin.ensures.ok in
-    let empty = ap (λ (x : Session). x.points) c.self.view_is ∙ c.requires.none in
+    let empty = ap (λ (x : Matching). x.points) c.self.view_is ∙ c.requires.none in
     let due : c.self.inside.steps + c.pass_failing_starts-passed.result.steps < c.self.inside.limit =
     omega (arith, c.self.invariant.0.steps_in, c.pass_failing_starts-passed.ensures.enough, c.if-steps-self.false) in
     (laws.goes_all c.args.self.now c.self.inside.lent.value c.self.inside.pattern c.self.inside.subject.items c.self.inside.anchored c.self.inside.limit

@@ -1,7 +1,7 @@
 use Rattle.std.proofs.Common.{◌++◌, ◌∙◌, sym, ap, subst, map}
 use Rattle.sno_store.specs.declared.error.StoreError.TheVariants.{NoMemory}
 use Rattle.sno_value.specs.declared.ids.SymId.{SymId}
-use Rattle.sno_store.specs.Contents.{Contents}
+use Rattle.sno_store.specs.Store.{Store}
 use Rattle.sno_store.specs.declared.functions.Function.TheVariants.{Defined}
 use Rattle.sno_store.specs.Functions.{with_function}
 use Rattle.sno_store.specs.Seen.{prototype_seen}
@@ -52,8 +52,8 @@ returns-in_err-locals c =
 pub returns-in_err-define : goal.returns-in_err-define
 returns-in_err-define c =
     let p = prototype_seen c.args.parts in
-    let same = ap (λ (x : Contents). record x { functions = c.define.new.self }) c.self-2.view_is ∙ ap (λ ds. record c.join-2.new.self { functions = ds })
-    (c.in_err-define.ensures.err ∙ ap (λ (x : Contents). x.functions) c.self-2.view_is) in
+    let same = ap (λ (x : Store). record x { functions = c.define.new.self }) c.self-2.view_is ∙ ap (λ ds. record c.join-2.new.self { functions = ds })
+    (c.in_err-define.ensures.err ∙ ap (λ (x : Store). x.functions) c.self-2.view_is) in
     let more = more_all p c.args.entry.now c.args.self.now c.symbol.new.self c.join.new.self c.join-2.new.self c.in_ok-function.function c.in_ok-formals.formals
     c.in_ok-locals.locals c.in_ok-function.ensures c.in_ok-formals.ensures c.in_ok-locals.ensures in
     parts_passed p c.args.entry.now c.args.self.now _ NoMemory c.from_residual-in_err-define.result c.from_residual-in_err-define.ensures.1
@@ -65,8 +65,8 @@ returns c =
     parts_done p c.args.entry.now c.args.self.now c.symbol.new.self c.join.new.self c.join-2.new.self c.in_ok-function.function c.in_ok-formals.formals
     c.in_ok-locals.locals c.in_ok-function.ensures c.in_ok-formals.ensures c.in_ok-locals.ensures
     _ c.new.result c.define.new.self
-    (ap (λ (x : Contents). record x { functions = c.define.new.self }) c.self-2.view_is)
-    (c.in_ok-define.ensures.ok ∙ ap (λ (x : Contents). with_function c.in_ok-function.function.0 (Defined c.new.result) x.functions) c.self-2.view_is)
+    (ap (λ (x : Store). record x { functions = c.define.new.self }) c.self-2.view_is)
+    (c.in_ok-define.ensures.ok ∙ ap (λ (x : Store). with_function c.in_ok-function.function.0 (Defined c.new.result) x.functions) c.self-2.view_is)
     (c.new.ensures ∙ ap (λ l. record {
       entry = l;
       formals = map (λ (id : SymId). id.0) c.in_ok-formals.formals.items;

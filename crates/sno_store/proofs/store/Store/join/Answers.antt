@@ -6,7 +6,7 @@ use Rattle.std.proofs.lemmas.Iterator.Splits.{YieldsList-from_slice_split}
 use Rattle.std.specs.List.{list_all, slice_split}
 use Rattle.sno_store.specs.declared.error.StoreError.TheVariants.{NoMemory}
 use Rattle.sno_store.specs.Arrays.{is_comma}
-use Rattle.sno_store.specs.Contents.{place}
+use Rattle.sno_store.specs.Store.{place}
 use Rattle.sno_store.specs.Definitions.{is_name, with_names}
 use Rattle.sno_store.specs.Symbols.{HasMore, AreJoined}
 use Rattle.sno_store.proofs.CallLaws.{numbers}

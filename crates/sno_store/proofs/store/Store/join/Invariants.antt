@@ -1,7 +1,7 @@
 use Rattle.std.proofs.Common.{◌≡◌, ◌≤◌, ◌++◌, length, drop, map}
 use Rattle.std.specs.List.{slice_split}
 use Rattle.sno_store.specs.Arrays.{is_comma}
-use Rattle.sno_store.specs.Contents.{place}
+use Rattle.sno_store.specs.Store.{place}
 use Rattle.sno_store.specs.Definitions.{with_names}
 use Rattle.sno_store.specs.Symbols.{HasMore}
 use Rattle.sno_store.proofs.CallLaws.{numbers}

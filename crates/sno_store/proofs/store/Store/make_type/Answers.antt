@@ -1,6 +1,6 @@
 use Rattle.std.proofs.Common.{◌≡◌, ℕ, List, [], ◌∷◌, ◌++◌, ◌∙◌, length, map, sym, ap, subst, arith, rules}
 use Rattle.sno_store.specs.declared.error.StoreError.TheVariants.{NoMemory}
-use Rattle.sno_store.specs.Contents.{Contents}
+use Rattle.sno_store.specs.Store.{Store}
 use Rattle.sno_store.specs.Seen.{prototype_seen}
 use Rattle.sno_store.specs.Symbols.{HasMore}
 use Rattle.sno_store.specs.declared.functions.Function.TheVariants.{Constructs}
@@ -42,8 +42,8 @@ returns-in_err-name c =
 pub returns-in_err-reserve : goal.returns-in_err-reserve
 returns-in_err-reserve c =
     let p = prototype_seen c.args.parts in
-    let types = c.reserve.ensures.items ∙ ap (λ (x : Contents). x.types) c.self-2.view_is in
-    let same = ap (λ (x : Contents). record x { types = c.reserve.new.self.items }) c.self-2.view_is ∙ ap (λ ts. record c.join.new.self { types = ts }) types in
+    let types = c.reserve.ensures.items ∙ ap (λ (x : Store). x.types) c.self-2.view_is in
+    let same = ap (λ (x : Store). record x { types = c.reserve.new.self.items }) c.self-2.view_is ∙ ap (λ ts. record c.join.new.self { types = ts }) types in
     let more = type_more p c.requires.sound c.args.self.now c.symbol.new.self c.join.new.self c.in_ok-constructor.constructor c.in_ok-fields.fields
     c.in_ok-constructor.ensures c.in_ok-fields.ensures in
     type_passed p c.args.self.now _ NoMemory c.from_residual-in_err-reserve.result c.from_residual-in_err-reserve.ensures.1
@@ -52,9 +52,9 @@ returns-in_err-reserve c =
 pub returns-in_err-construct : goal.returns-in_err-construct
 returns-in_err-construct c =
     let p = prototype_seen c.args.parts in
-    let types = c.reserve.ensures.items ∙ ap (λ (x : Contents). x.types) c.self-2.view_is in
-    let functions = c.in_err-construct.ensures.err ∙ ap (λ (x : Contents). x.functions) c.self-2.view_is in
-    let same = ap (λ (x : Contents). record x { types = c.reserve.new.self.items; functions = c.construct.new.self }) c.self-2.view_is
+    let types = c.reserve.ensures.items ∙ ap (λ (x : Store). x.types) c.self-2.view_is in
+    let functions = c.in_err-construct.ensures.err ∙ ap (λ (x : Store). x.functions) c.self-2.view_is in
+    let same = ap (λ (x : Store). record x { types = c.reserve.new.self.items; functions = c.construct.new.self }) c.self-2.view_is
     ∙ (λ i. record c.join.new.self { types = types i; functions = functions i }) in
     let more = type_more p c.requires.sound c.args.self.now c.symbol.new.self c.join.new.self c.in_ok-constructor.constructor c.in_ok-fields.fields
     c.in_ok-constructor.ensures c.in_ok-fields.ensures in
@@ -71,8 +71,8 @@ pub returns : goal.returns
 returns c =
     let p = prototype_seen c.args.parts in
     let ids = c.in_ok-fields.fields.items in
-    let types : c.reserve.new.self.items ≡ c.join.new.self.types = c.reserve.ensures.items ∙ ap (λ (x : Contents). x.types) c.self-2.view_is in
-    let functions : c.self-2.inside.functions ≡ c.join.new.self.functions = ap (λ (x : Contents). x.functions) c.self-2.view_is in
+    let types : c.reserve.new.self.items ≡ c.join.new.self.types = c.reserve.ensures.items ∙ ap (λ (x : Store). x.types) c.self-2.view_is in
+    let functions : c.self-2.inside.functions ≡ c.join.new.self.functions = ap (λ (x : Store). x.functions) c.self-2.view_is in
     let pushed : c.push.new.self.items ≡ c.reserve.new.self.items ++ c.new.result ∷ [] = search rules in
     let items : c.deref.result.now ≡ ids = search rules in
     let number : c.len-number.result ≡ length c.reserve.new.self.items = search (rules, arith) in
@@ -80,7 +80,7 @@ returns c =
     type_done p c.requires.sound c.args.self.now c.symbol.new.self c.join.new.self c.in_ok-constructor.constructor c.in_ok-fields.fields
     c.in_ok-constructor.ensures c.in_ok-fields.ensures
     _ c.new.result c.len-number.result c.push.new.self.items c.construct.new.self
-    (ap (λ (x : Contents). record x { types = c.push.new.self.items; functions = c.construct.new.self }) c.self-2.view_is)
+    (ap (λ (x : Store). record x { types = c.push.new.self.items; functions = c.construct.new.self }) c.self-2.view_is)
     (pushed ∙ ap (λ ts. ts ++ c.new.result ∷ []) types)
     (c.new.ensures ∙ ap named c.in_ok-name.ensures.items)
     (number ∙ ap length types)

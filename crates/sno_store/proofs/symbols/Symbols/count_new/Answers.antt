@@ -5,7 +5,7 @@ use Rattle.std.proofs.lemmas.List.{length_push, take_all}
 use Rattle.std.proofs.lemmas.Iterator.Consumers.{YieldsList-turn, YieldsList-end}
 use Rattle.std.proofs.lemmas.Iterator.Splits.{YieldsList-from_slice_split}
 use Rattle.sno_store.specs.Arrays.{is_comma}
-use Rattle.sno_store.specs.Contents.{is_symbol}
+use Rattle.sno_store.specs.Store.{is_symbol}
 use Rattle.sno_store.specs.Definitions.{listed, with_names}
 use Rattle.sno_store.proofs.CountLaws.{counted_at, one_or_none}
 use Rattle.sno_store.proofs.FunctionLaws.{listed_some}

@@ -2,7 +2,7 @@ use Rattle.std.proofs.Common.{◌≡◌, ◌∙◌, true, false, refl, ap, take,
 use Rattle.std.specs.List.{list_any}
 use Rattle.std.specs.Str.{bytes_eq}
 use Rattle.std.proofs.lemmas.List.{take_all}
-use Rattle.sno_store.specs.Contents.{is_symbol}
+use Rattle.sno_store.specs.Store.{is_symbol}
 use Rattle.sno_store.specs.Definitions.{listed}
 use Rattle.sno_store.proofs.CountLaws.{first_joined}
 use Rattle.sno_store.proofs.symbols.Symbols.has_with.Goals as goal

@@ -1,5 +1,0 @@
-use Rattle.std.proofs.Common.{refl}
-use Rattle.sno_machine.proofs.machine.Machine.begin.Goals as goal
-
-pub returns-clause-begun : goal.returns-clause-begun
-returns-clause-begun c = rw (← c.self.view_is) (c.begin.new.self, c.if-not-begin.ensures.begun refl, refl)

@@ -1,6 +1,0 @@
-use Rattle.std.proofs.Common.{refl}
-use Rattle.sno_machine.proofs.Builders.{made}
-use Rattle.sno_machine.proofs.machine.Machine.defer.Goals as goal
-
-pub returns : goal.returns
-returns c = rw (← c.self.view_is) (made _ _ _ _ c.self.invariant refl c.in_ok-id.ensures.ok)

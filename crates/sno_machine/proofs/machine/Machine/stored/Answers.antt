@@ -1,5 +1,0 @@
-use Rattle.sno_machine.proofs.Stores.{holds_does}
-use Rattle.sno_machine.proofs.machine.Machine.stored.Goals as goal
-
-pub returns : goal.returns
-returns c = rw (← c.self.view_is) (holds_does _ c.args.name _ c.self.invariant (rw c.get.ensures at c.in_ok-value.ensures.equal))

@@ -1,8 +1,0 @@
-use Rattle.std.proofs.Common.{◌≡◌, true, rules}
-use Rattle.sno_machine.proofs.TypeLaws.{with_data}
-use Rattle.sno_machine.proofs.types.define_type.Goals as goal
-
-pub returns : goal.returns
-returns c =
-    let has : c.args.machine.now.keywords.has_data ≡ true = search rules in
-    with_data _ _ _ _ has c.type_made.ensures

@@ -1,0 +1,8 @@
+use Rattle.std.proofs.Common.{◌≡◌, rules}
+use Rattle.sno_runtime.proofs.TypeLaws.{type_given}
+use Rattle.sno_runtime.proofs.types.datatype.Goals as goal
+
+pub returns : goal.returns
+returns c =
+    let made : c.new.result ≡ c.type_name.result.now = search rules in
+    rw made (type_given c.args.runtime.now c.args.x.now c.type_name.result.now c.type_name.ensures.name c.type_name.ensures.short)

@@ -1,0 +1,209 @@
+//! Calls of functions.
+ghost use Rattle.std.specs.Prelude.{◌≡◌, ◌<◌, List, map, pos, slice_set, IsTrue, IsFalse};
+ghost use Rattle.std.specs.List.{AllByRecursion};
+ghost use Rattle.sno_value.specs.Kind.{takes_count};
+ghost use Rattle.sno_pattern.specs.Table.{Node};
+ghost use Rattle.sno_runtime.specs.Values.{shown, IsValueOf};
+ghost use Rattle.sno_runtime.specs.Operators.{answer, argument, called, count_primitive, cut, primitive};
+ghost use Rattle.sno_runtime.specs.Operators.{primitive_value, repetition, set_primitive};
+ghost use Rattle.sno_runtime.specs.Calls.{define};
+ghost use Rattle.sno_runtime.specs.Numbers.{number_of};
+ghost use Rattle.sno_runtime.specs.Functions.{plain};
+ghost use Rattle.sno_runtime.specs.Variables.{text_of};
+ghost use Rattle.sno_runtime.specs.Runtime.{Runtime, Does, tree_of, IsPatternOf};
+
+use crate::builtins::{Builtin, Plain};
+use crate::containers::{array, convert, prototype, table};
+use crate::convert::{as_pattern, null, number_of, text_of};
+use crate::numbers::{comparison, remainder};
+use crate::runtime::{Exit, Runtime, UNDEFINED_FUNCTION, error};
+use crate::texts::{copies, is_after, replaced, size, trimmed};
+use crate::types::{datatype, define_type, differ, ident, integer};
+use sno_pattern::Arg;
+use sno_value::{PatId, Prim, Text, Value};
+use std::alloc::Global;
+
+/// What a function gives of its operands. Missing operands are null, and further ones are dropped.
+pub fn called(
+    runtime: &mut Runtime,
+    function: Option<Builtin>,
+    operands: &mut [Value],
+) -> Result<Value, Exit>
+    requires { AllByRecursion (IsValueOf runtime.old.nodes) operands.old }
+    ensures { Does shown IsValueOf (called function (map (shown runtime.old.nodes) operands.old))
+        runtime.old runtime.new result }
+{
+    match function {
+        None => Err(error(UNDEFINED_FUNCTION)),
+        Some(Builtin::Primitive(prim)) => {
+            let operand = argument(runtime.alloc(), operands, 0);
+            primitive_value(runtime, prim, operand)
+        }
+        Some(Builtin::Arbno) => {
+            let operand = argument(runtime.alloc(), operands, 0);
+            repetition(runtime, operand)
+        }
+        Some(Builtin::Cut) => {
+            let operand = argument(runtime.alloc(), operands, 0);
+            cut(runtime, operand)
+        }
+        Some(Builtin::Convert) => {
+            let x = argument(runtime.alloc(), operands, 0);
+            let t = argument(runtime.alloc(), operands, 1);
+            convert(runtime, x, t)
+        }
+        Some(Builtin::MakeArray) => {
+            let p = argument(runtime.alloc(), operands, 0);
+            let v = argument(runtime.alloc(), operands, 1);
+            array(runtime, p, &v)
+        }
+        Some(Builtin::MakeTable) => table(runtime),
+        Some(Builtin::Prototype) => {
+            let a = argument(runtime.alloc(), operands, 0);
+            prototype(runtime, &a)
+        }
+        Some(Builtin::Define) => {
+            let p = argument(runtime.alloc(), operands, 0);
+            let e = argument(runtime.alloc(), operands, 1);
+            define(runtime, p, e)
+        }
+        Some(Builtin::Data) => {
+            let p = argument(runtime.alloc(), operands, 0);
+            define_type(runtime, p)
+        }
+        Some(Builtin::Datatype) => {
+            let x = argument(runtime.alloc(), operands, 0);
+            datatype(runtime, &x)
+        }
+        Some(Builtin::Plain(function)) => {
+            let alloc = runtime.alloc();
+            let x = argument(alloc, operands, 0);
+            let y = argument(alloc, operands, 1);
+            let z = argument(alloc, operands, 2);
+            plain(alloc, function, x, y, z)
+        }
+    }
+}
+
+/// A function that changes nothing, on its arguments.
+fn plain(alloc: Global, function: Plain, x: Value, y: Value, z: Value) -> Result<Value, Exit>
+    ensures { (s : Runtime) → IsValueOf s.nodes x
+        → Does shown IsValueOf (plain function (shown s.nodes x) (shown s.nodes y) (shown s.nodes z)) s s result }
+{
+    match function {
+        Plain::Compare(relation) => comparison(alloc, relation, &x, &y),
+        Plain::Remdr => remainder(&x, &y),
+        Plain::Ident => ident(alloc, &x, &y),
+        Plain::Differ => differ(alloc, &x, &y),
+        Plain::Lgt => is_after(alloc, x, y),
+        Plain::Integer => integer(alloc, &x),
+        Plain::Size => size(alloc, x),
+        Plain::Trim => trimmed(alloc, x),
+        Plain::Dupl => copies(alloc, x, &y),
+        Plain::Replace => replaced(alloc, x, y, z),
+    }
+}
+
+/// The operand with a number, which is taken out; null where there is none.
+pub fn argument(alloc: Global, operands: &mut [Value], k: usize) -> Value
+    ensures value { (nodes : List Node) → shown nodes result ≡ argument (map (shown nodes) operands.old) k }
+    ensures rest { operands.new ≡ slice_set operands.old k (Value.Int (pos 0)) }
+    ensures known { (nodes : List Node) → AllByRecursion (IsValueOf nodes) operands.old → IsValueOf nodes result }
+{
+    if k < operands.len() {
+        std::mem::replace(&mut operands[k], Value::Int(0))
+    } else {
+        Value::Str(Text::new(Vec::new(alloc)))
+    }
+}
+
+/// What a function that makes a primitive gives of its argument. An expression makes a deferred one.
+fn primitive_value(runtime: &mut Runtime, prim: Prim, operand: Value) -> Result<Value, Exit>
+    ensures { Does shown IsValueOf (primitive_value prim (shown runtime.old.nodes operand))
+        runtime.old runtime.new result }
+{
+    if let Value::Expr(expression) = operand {
+        let id = runtime.defer_prim(prim, expression)?;
+        return Ok(Value::Pat(id));
+    }
+    let id = primitive(runtime, prim, operand)?;
+    Ok(Value::Pat(id))
+}
+
+/// The answer to a deferred part that a match has reached: the pattern that the value stands for, or the primitive
+/// whose argument it is. It is error 1 where there is none.
+pub fn answer(runtime: &mut Runtime, prim: Option<Prim>, value: Value) -> Result<PatId, Exit>
+    requires { IsValueOf runtime.old.nodes value }
+    ensures { Does tree_of IsPatternOf (answer prim (shown runtime.old.nodes value)) runtime.old runtime.new result }
+{
+    match prim {
+        None => as_pattern(runtime, value),
+        Some(prim) => primitive(runtime, prim, value),
+    }
+}
+
+/// A primitive with its argument; error 1 where that has no number, or no text.
+fn primitive(runtime: &mut Runtime, prim: Prim, operand: Value) -> Result<PatId, Exit>
+    ensures { Does tree_of IsPatternOf (primitive prim (shown runtime.old.nodes operand))
+        runtime.old runtime.new result }
+{
+    if prim.takes_count() {
+        count_primitive(runtime, prim, &operand)
+    } else {
+        set_primitive(runtime, prim, operand)
+    }
+}
+
+/// A primitive with a count.
+fn count_primitive(runtime: &mut Runtime, prim: Prim, operand: &Value) -> Result<PatId, Exit>
+    requires { IsTrue (takes_count prim) }
+    ensures { Does tree_of IsPatternOf (count_primitive prim (number_of (shown runtime.old.nodes operand.now)))
+        runtime.old runtime.new result }
+{
+    let count = number_of(operand)?;
+    let id = runtime.prim(prim, Arg::Count(count))?;
+    Ok(id)
+}
+
+/// A primitive with a set of bytes.
+fn set_primitive(runtime: &mut Runtime, prim: Prim, operand: Value) -> Result<PatId, Exit>
+    requires { IsFalse (takes_count prim) }
+    ensures { Does tree_of IsPatternOf (set_primitive prim (text_of (shown runtime.old.nodes operand)))
+        runtime.old runtime.new result }
+{
+    let set = text_of(runtime.alloc(), operand)?;
+    let id = runtime.prim(prim, Arg::Set(&set))?;
+    Ok(id)
+}
+
+/// DEFINE(P,E).
+fn define(runtime: &mut Runtime, prototype: Value, entry: Value) -> Result<Value, Exit>
+    requires { IsValueOf runtime.old.nodes prototype }
+    ensures { Does shown IsValueOf (define (shown runtime.old.nodes prototype) (shown runtime.old.nodes entry))
+        runtime.old runtime.new result }
+{
+    let prototype = text_of(runtime.alloc(), prototype)?;
+    let entry = text_of(runtime.alloc(), entry)?;
+    runtime.define(&prototype, &entry)?;
+    Ok(null(runtime.alloc()))
+}
+
+/// ARBNO(P).
+fn repetition(runtime: &mut Runtime, operand: Value) -> Result<Value, Exit>
+    requires { IsValueOf runtime.old.nodes operand }
+    ensures { Does shown IsValueOf (repetition (shown runtime.old.nodes operand)) runtime.old runtime.new result }
+{
+    let body = as_pattern(runtime, operand)?;
+    let id = runtime.arbno(body)?;
+    Ok(Value::Pat(id))
+}
+
+/// FENCE(P).
+fn cut(runtime: &mut Runtime, operand: Value) -> Result<Value, Exit>
+    requires { IsValueOf runtime.old.nodes operand }
+    ensures { Does shown IsValueOf (cut (shown runtime.old.nodes operand)) runtime.old runtime.new result }
+{
+    let body = as_pattern(runtime, operand)?;
+    let id = runtime.cut(body)?;
+    Ok(Value::Pat(id))
+}

@@ -1,0 +1,98 @@
+//! What evaluation asks of types that a program makes, and of their objects.
+ghost use Rattle.std.specs.Prelude.{◌≡◌, ◌≤◌, ℕ, List, length, map, option_map};
+ghost use Rattle.std.specs.List.{AllByRecursion};
+ghost use Rattle.sno_store.specs.Functions.{constructor_at, function_at, is_field_at};
+ghost use Rattle.sno_store.specs.Symbols.{found};
+ghost use Rattle.sno_store.specs.Types.{field_name};
+ghost use Rattle.sno_runtime.specs.Fields.{makes_object, is_made};
+ghost use Rattle.sno_runtime.specs.Types.{makes_type, type_name};
+ghost use Rattle.sno_runtime.specs.Values.{shown, IsValueOf};
+ghost use Rattle.sno_runtime.specs.Runtime.{Does, itself, any, world};
+
+use crate::runtime::{Exit, Runtime};
+use sno_value::{Name, ObjId, SymId, Value};
+
+impl Runtime {
+    /// Whether DATA is a function.
+    pub fn has_data(&self) -> bool
+        ensures { result ≡ self.now.keywords.has_data }
+    {
+        self.keywords.has_data()
+    }
+
+    /// Makes a type by its prototype, whose names join the symbols: its name is that of a constructor from then on, and
+    /// the others are fields. Another text than a prototype of a type is error 12; more than 100,000 types or 1,000,000
+    /// symbols are error 9.
+    pub fn define_data(&mut self, prototype: &[u8]) -> Result<(), Exit>
+        requires { length prototype.now ≤ 1_000_000 }
+        ensures { Does itself any (makes_type prototype.now) self.old self.new result }
+    {
+        self.store.define_data(prototype)?;
+        Ok(())
+    }
+
+    /// The number of the type whose constructor has this name, if it is one's.
+    pub fn constructor(&self, function: SymId) -> Option<u32>
+        ensures { result ≡ constructor_at self.now.store.functions function.0 }
+    {
+        self.store.constructor(function)
+    }
+
+    /// Whether a function is a field.
+    pub fn is_field(&self, function: SymId) -> bool
+        ensures { result ≡ is_field_at self.now.store.functions function.0 }
+    {
+        self.store.is_field(function)
+    }
+
+    /// Whether the program has made a function of this name: one with a definition, a constructor or a field.
+    pub fn is_made(&self, function: SymId) -> bool
+        ensures { result ≡ is_made (function_at self.now.store.functions function.0) }
+    {
+        self.store.definition(function).is_some()
+            || self.store.constructor(function).is_some()
+            || self.store.is_field(function)
+    }
+
+    /// The symbol that a text is, which joins none.
+    pub fn find_symbol(&self, name: &[u8]) -> Option<SymId>
+        ensures { option_map (λ id. id.0) result ≡ found name.now self.now.store.symbols }
+    {
+        self.store.find_symbol(name)
+    }
+
+    /// A new object of a type: missing fields are null, and extra ones are dropped. Beside 1,000,000 arrays, tables and
+    /// objects it is error 9.
+    pub fn new_data(&mut self, number: u32, fields: Vec<Value>) -> Result<ObjId, Exit>
+        requires { AllByRecursion (IsValueOf self.old.nodes) fields.items }
+        ensures { Does itself any (makes_object number (map (shown self.old.nodes) fields.items))
+            self.old self.new result }
+    {
+        let id = self.store.new_data(number, fields)?;
+        Ok(id)
+    }
+
+    /// The field of an object that a symbol names, if its type has one.
+    pub fn field(&self, object: ObjId, symbol: SymId) -> Option<Name>
+        ensures { result ≡ field_name self.now.store.types self.now.store.objects object symbol.0 }
+    {
+        self.store.field(object, symbol)
+    }
+
+    /// The name of a value's type: of an object that of the type that the program made it of.
+    pub fn type_name(&self, value: &Value) -> &[u8]
+        ensures name { (more : List ℕ) → result.now ≡ type_name (world self.now more) (shown self.now.nodes value.now) }
+        ensures short { length result.now ≤ 1_000_000 }
+    {
+        match value {
+            Value::Str(_) => b"STRING",
+            Value::Int(_) => b"INTEGER",
+            Value::Pat(_) => b"PATTERN",
+            Value::Expr(_) => b"EXPRESSION",
+            Value::Name(_) => b"NAME",
+            Value::Array(_) => b"ARRAY",
+            Value::Table(_) => b"TABLE",
+            Value::Data(object) => self.store.type_name(*object),
+        }
+    }
+}
