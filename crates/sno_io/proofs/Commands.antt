@@ -6,7 +6,7 @@ use Rattle.clap.specs.declared.builder.arg.Arg.{Arg}
 use Rattle.clap.specs.declared.builder.command.Command.{Command}
 use Rattle.clap.specs.declared.builder.command.Command.TheOpen.{Command-F}
 use Rattle.clap.specs.declared.builder.command.Command.TheViews.{out-Command}
-use Rattle.sno_io.specs.Commands.{Makes}
+use Rattle.sno_io.specs.inner.Commands.{Makes}
 
 pub setting_made : (c : Command) (fields : Command-F Command) (app : App) → out-Command c ≡ fields → app_of_fields fields ≡ app
     → fields.has_globals ≡ false → Makes c app

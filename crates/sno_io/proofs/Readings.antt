@@ -9,7 +9,7 @@ use Rattle.std.specs.declared.vec.Vec.{Vec}
 use Rattle.std.specs.declared.alloc.Global.{Global}
 use Rattle.sno_io.specs.declared.lines.LineError.{LineError}
 use Rattle.sno_io.specs.declared.lines.LineError.TheVariants.{NoMemory, ReadFault, TooLong}
-use Rattle.sno_io.specs.Held.{IsSettled, Joins}
+use Rattle.sno_io.specs.inner.Held.{IsSettled, Joins}
 use Rattle.sno_io.specs.Lines.{GivesLine, Input, ReadsLine, first_line, line_length, next_line}
 use Rattle.sno_io.proofs.Bytes.{consumes_then}
 use Rattle.sno_io.proofs.FirstLines.{has_feed, line_length-le, line_length-whole, next_last, next_whole}

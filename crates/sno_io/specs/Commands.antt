@@ -1,14 +1,12 @@
 -- The program's commands, as `clap` knows them, and the job that the words hold.
 use Rattle.std.specs.Prelude.{◌≡◌, ℕ, ◌≤◌, ◌⊎◌, Bool, List, [], Option, None, Some, MatchOption, codes, true, false}
 use Rattle.std.specs.Str.Parse.{IsNumeral, digits_value, without_leading_plus}
-use Rattle.clap.specs.Words.{App, HasKind, Row, Rule, Text, app_of, fault_of, first_of, new_app, new_rule, one_of}
+use Rattle.clap.specs.Words.{App, HasKind, Row, Rule, Text, fault_of, first_of, new_app, new_rule, one_of}
 use Rattle.clap.specs.Words.{subcommand_of, with_rule, with_subcommand}
 use Rattle.clap.specs.Simple.{on_top}
 use Rattle.clap.specs.declared.builder.action.ArgAction.TheVariants.{Set, SetTrue}
 use Rattle.clap.specs.declared.builder.value_parser.ValueParser.{ValueParser}
 use Rattle.clap.specs.declared.builder.value_parser.ValueParser.TheVariants as parsers
-use Rattle.clap.specs.declared.builder.command.Command.{Command}
-use Rattle.clap.specs.declared.builder.command.Command.TheViews.{out-Command}
 use Rattle.clap.specs.declared.error.Error.{Error}
 use Rattle.clap.specs.declared.error.kind.ErrorKind.{ErrorKind}
 use Rattle.clap.specs.declared.error.kind.ErrorKind.TheVariants.{DisplayHelp, DisplayVersion, OutOfMemory}
@@ -64,11 +62,6 @@ bare_app = on_top (λ s. record s { has_version = true; arg_required_else_help =
 -- the program with its commands
 abbrev pub snobol4 : App
 snobol4 = with_subcommand (with_subcommand (with_subcommand bare_app run_app.top) check_app.top) ways_app.top
-
--- the command is that of the definition, and no argument of it is global
-pub record Makes (c : Command) (app : App) : Type 0 where
-  pub is : app_of c ≡ app
-  pub local : (out-Command c).has_globals ≡ false
 
 -- ---- what the words hold, by the rows that `clap` finds in them
 

@@ -1,5 +1,5 @@
 pub mod Commands
 pub mod Devices
-pub mod Held
 pub mod Lines
 pub use Rattle.clap.specs.Words
+pub mod inner

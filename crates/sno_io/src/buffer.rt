@@ -21,7 +21,7 @@ pub(crate) struct Buffer {
 }
 
 impl Buffer {
-    ghost use Rattle.sno_io.specs.Held.{held_in, room_in};
+    ghost use Rattle.sno_io.specs.inner.Held.{held_in, room_in};
 
     /// A buffer that holds nothing. It takes no memory.
     pub fn new(alloc: Global) -> Buffer

@@ -2,7 +2,7 @@
 ghost use Rattle.std.specs.Prelude.{◌≡◌, ◌↔◌, ◌⊎◌, ℕ, ◌≤◌, ◌++◌, [], false, length, true, Contains, IfErr, IfOk};
 ghost use Rattle.std.specs.Prelude.{IfSome, IsErrOf, List, None, OnOk, Some};
 ghost use Rattle.sno_io.specs.Lines.{line_length, GivesLine, ReadsLine};
-ghost use Rattle.sno_io.specs.Held.{IsSettled, Joins};
+ghost use Rattle.sno_io.specs.inner.Held.{IsSettled, Joins};
 
 use crate::buffer::Buffer;
 use crate::devices::{DeviceFault, Source};
@@ -70,7 +70,7 @@ pub struct Lines {
 }
 
 impl Model for Lines {
-    ghost use Rattle.sno_io.specs.Held.{held_in};
+    ghost use Rattle.sno_io.specs.inner.Held.{held_in};
     ghost use Rattle.sno_io.specs.Lines.{Input};
 
     ghost Value = { Input };

@@ -6,7 +6,8 @@ ghost use Rattle.sno_io.specs.declared.jobs.Job.{Job};
 ghost use Rattle.sno_io.specs.declared.jobs.Limits.{Limits};
 ghost use Rattle.sno_io.specs.Commands.{check_app, flag_rule, number_rule, run_app, snobol4, status, ways_app};
 ghost use Rattle.sno_io.specs.Commands.{word_rule, HoldsJob, IsCheck, IsJob, IsJobOf, IsNumber, IsRefusalOf, IsRun};
-ghost use Rattle.sno_io.specs.Commands.{IsWays, Makes};
+ghost use Rattle.sno_io.specs.Commands.{IsWays};
+ghost use Rattle.sno_io.specs.inner.Commands.{Makes};
 
 use crate::help;
 use crate::jobs::{Job, Limits};

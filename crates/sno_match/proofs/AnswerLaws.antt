@@ -13,12 +13,12 @@ use Rattle.sno_match.specs.declared.engine.State.{State}
 use Rattle.sno_match.specs.declared.engine.State.TheVariants as S
 use Rattle.sno_match.specs.Search.{Answer, emit, further, whole}
 use Rattle.sno_match.specs.Point.{Point, with_front, rest_of, below, HasFirst}
-use Rattle.sno_match.specs.Remaining.{AllKnown, AllMarked, Fits, IsStack}
-use Rattle.sno_match.specs.Scopes.{FirstIsPlain, HasCuts}
-use Rattle.sno_match.specs.State.{waits}
-use Rattle.sno_match.specs.Move.{answered}
+use Rattle.sno_match.specs.inner.Remaining.{AllKnown, AllMarked, Fits, IsStack}
+use Rattle.sno_match.specs.inner.Scopes.{FirstIsPlain, HasCuts}
+use Rattle.sno_match.specs.inner.State.{waits}
+use Rattle.sno_match.specs.inner.Move.{answered}
 use Rattle.sno_match.specs.Matching.{Matching, answers_of, told_of, IsCounted, Begins}
-use Rattle.sno_match.specs.Running.{to_come, later, seen, IsMatch, AnswersIn}
+use Rattle.sno_match.specs.inner.Running.{to_come, later, seen, IsMatch, AnswersIn}
 use Rattle.sno_match.proofs.ReadingLaws.{resume-exhausted}
 use Rattle.sno_match.proofs.MoveLaws.{below-kept}
 use Rattle.sno_match.proofs.CutMoves.{cuts-below}

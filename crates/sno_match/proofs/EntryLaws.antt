@@ -5,9 +5,9 @@ use Rattle.sno_match.specs.declared.event.Event.TheVariants as V
 use Rattle.sno_match.specs.declared.event.Pending.{Pending}
 use Rattle.sno_match.specs.Search.{Event, SearchResult, Gives, emit, all_events, last_event}
 use Rattle.sno_match.specs.Events.{is_last, is_value, pending_after, last_pending, last_count}
-use Rattle.sno_match.specs.State.{after, after_move, waits, ended, over, LastIn}
-use Rattle.sno_match.specs.Move.{entries, way_after}
-use Rattle.sno_match.specs.Running.{counted}
+use Rattle.sno_match.specs.inner.State.{after, after_move, waits, ended, over, LastIn}
+use Rattle.sno_match.specs.inner.Move.{entries, way_after}
+use Rattle.sno_match.specs.inner.Running.{counted}
 
 pub all_events-emit : (es : List (Event × ℕ)) (outcome : SearchResult) → all_events (emit es outcome) ≡ es ++ all_events outcome
 all_events-emit es (Gives fs answers left verdict) = append_assoc es fs (last_event verdict left)

@@ -8,9 +8,9 @@ use Rattle.sno_match.specs.declared.engine.State.TheVariants as S
 use Rattle.sno_match.specs.declared.goal.Mark.{Mark}
 use Rattle.sno_match.specs.declared.goal.Mark.TheVariants.{Enter, Next}
 use Rattle.sno_match.specs.Point.{Point}
-use Rattle.sno_match.specs.Remaining.{left_of, goals_of, ends_from, after_pattern, after_goals, behind_mark, behind, resume, from_mark, remaining}
+use Rattle.sno_match.specs.inner.Remaining.{left_of, goals_of, ends_from, after_pattern, after_goals, behind_mark, behind, resume, from_mark, remaining}
 use Rattle.sno_match.specs.Matching.{Matching}
-use Rattle.sno_match.specs.Running.{later, later_starts, to_come}
+use Rattle.sno_match.specs.inner.Running.{later, later_starts, to_come}
 use Rattle.sno_match.specs.Search.{Goal, Match, CloseCond, CloseImm, CloseRepeat, Exhausted, Aborted, Limit, Waiting, Event, Assign, Cursor, Value, Answer}
 use Rattle.sno_match.specs.Search.{SearchResult, Gives, Search, Finder, emit, or_else, further, tries, abort_if_exhausted, with_answer, if_moved, first_goal}
 use Rattle.sno_match.specs.Search.{search_within, search, all_events, Ended, CloseCut, CutOff, cut_off_if_exhausted, exhausted_if_cut_off}

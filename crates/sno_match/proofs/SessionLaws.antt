@@ -16,13 +16,13 @@ use Rattle.sno_match.specs.Search.{Match, Exhausted, Aborted, Limit, Waiting, Ev
 use Rattle.sno_match.specs.Events.{in_trace, is_last, is_value, last_pending, last_count}
 use Rattle.sno_match.specs.Point.{Point, HasFirst}
 use Rattle.sno_match.specs.Top.{first_point}
-use Rattle.sno_match.specs.Remaining.{IsStack}
-use Rattle.sno_match.specs.State.{after, after_move, owed, HasAsked}
-use Rattle.sno_match.specs.Move.{Makes, entries, price, way_after, standing}
-use Rattle.sno_match.specs.Scopes.{HasCuts}
+use Rattle.sno_match.specs.inner.Remaining.{IsStack}
+use Rattle.sno_match.specs.inner.State.{after, after_move, owed, HasAsked}
+use Rattle.sno_match.specs.inner.Move.{Makes, entries, price, way_after, standing}
+use Rattle.sno_match.specs.inner.Scopes.{HasCuts}
 use Rattle.sno_match.specs.Matching.{Matching, answers_of, trace_of, IsTold}
-use Rattle.sno_match.specs.Starts.{Passes}
-use Rattle.sno_match.specs.Running.{later, later_starts, to_come, counted, seen, IsMatch, GoesOn}
+use Rattle.sno_match.specs.inner.Starts.{Passes}
+use Rattle.sno_match.specs.inner.Running.{later, later_starts, to_come, counted, seen, IsMatch, GoesOn}
 use Rattle.sno_match.proofs.EntryLaws.{all_events-emit, length-counted, at_place, last_pending-append, last_count-append, entry-pending, entry-count}
 use Rattle.sno_match.proofs.EntryLaws.{after-last, after-ended, after-waits, entries-tell, tells}
 use Rattle.sno_match.proofs.ReadingLaws.{emit-emit, emit-none, further-emit, further-stop, resume-stop}

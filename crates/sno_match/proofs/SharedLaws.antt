@@ -12,7 +12,7 @@ use Rattle.sno_match.specs.declared.shared.GoalRecord.{GoalRecord}
 use Rattle.sno_match.specs.declared.shared.Held.{Held}
 use Rattle.sno_match.specs.Point.{Point, rest_of, with_front, replaced, branched, closed, below as points_below}
 use Rattle.sno_match.specs.Top.{first_point}
-use Rattle.sno_match.specs.Shared.{goals_at, goals_of, Falls, Fits, Holds, Extends, point_of, points_of, held_of}
+use Rattle.sno_match.specs.inner.Shared.{goals_at, goals_of, Falls, Fits, Holds, Extends, point_of, points_of, held_of}
 
 at_newest : (b : Bool) (xs ys : List Goal) → b ≡ true → (if b then xs else ys) ≡ xs
 at_newest true xs ys h = refl

@@ -8,7 +8,7 @@ use Rattle.sno_pattern.specs.Ends.{ends, count_from}
 use Rattle.sno_pattern.specs.Shape.{end_of, IsPrimitive}
 use Rattle.sno_pattern.specs.Places.{has_end}
 use Rattle.sno_match.specs.Search.{Match, Exhausted, Gives, further, search}
-use Rattle.sno_match.specs.Starts.{searches_behind, FailsAt, FailsWith, Passes}
+use Rattle.sno_match.specs.inner.Starts.{searches_behind, FailsAt, FailsWith, Passes}
 use Rattle.sno_match.proofs.SearchLaws.{search-step}
 use Rattle.sno_match.proofs.ReadingLaws.{emit-none, tries-none}
 

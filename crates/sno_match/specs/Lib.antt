@@ -7,14 +7,6 @@ pub mod Ways
 pub mod Events
 pub mod Within
 pub mod Matching
-pub mod Shared
 pub mod Point
 pub mod Top
-pub mod Remaining
-pub mod Scopes
-pub mod Plan
-pub mod State
-pub mod Move
-pub mod Running
-pub mod Copied
-pub mod Starts
+pub mod inner

@@ -4,8 +4,8 @@ ghost use Rattle.std.specs.Prelude.{IfSome, IsOk, OnOk, OnErr};
 ghost use Rattle.sno_match.specs.Matching.{SameMatch, IsTold, StaysAt, IsCounted, TellsWays, Begins, begins, told_of};
 ghost use Rattle.sno_match.specs.Events.{in_trace, last_pending};
 ghost use Rattle.sno_match.specs.Within.{IsWithin};
-ghost use Rattle.sno_match.specs.State.{after};
-ghost use Rattle.sno_match.specs.Running.{Advances};
+ghost use Rattle.sno_match.specs.inner.State.{after};
+ghost use Rattle.sno_match.specs.inner.Running.{Advances};
 
 use crate::event::{Event, Pending};
 use crate::goal::Goal;
@@ -53,7 +53,7 @@ pub struct Engine<P: Points> {
 
 impl<P: Points> Model for Engine<P> {
     ghost use Rattle.sno_match.specs.Matching.{Matching};
-    ghost use Rattle.sno_match.specs.Running.{IsMatch, seen};
+    ghost use Rattle.sno_match.specs.inner.Running.{IsMatch, seen};
     ghost use Rattle.sno_pattern.specs.Looks.{AreTrue};
 
     ghost Value = { Matching };

@@ -2,11 +2,11 @@
 ghost use Rattle.std.specs.Prelude.{◌≡◌, ◌≤◌, ◌+◌, ◌-◌, ◌*◌, [], ◌∷◌, length, IfOk, OnOk, OnErr};
 ghost use Rattle.sno_pattern.specs.Looks.{AreTrue};
 ghost use Rattle.sno_match.specs.Point.{HasFirst, replaced, branched, below};
-ghost use Rattle.sno_match.specs.Remaining.{IsStack, HasPoint};
-ghost use Rattle.sno_match.specs.Plan.{goals_in};
-ghost use Rattle.sno_match.specs.State.{after_move, owed};
-ghost use Rattle.sno_match.specs.Scopes.{HasCuts};
-ghost use Rattle.sno_match.specs.Move.{Makes, CarriesOut, Costs, answered};
+ghost use Rattle.sno_match.specs.inner.Remaining.{IsStack, HasPoint};
+ghost use Rattle.sno_match.specs.inner.Plan.{goals_in};
+ghost use Rattle.sno_match.specs.inner.State.{after_move, owed};
+ghost use Rattle.sno_match.specs.inner.Scopes.{HasCuts};
+ghost use Rattle.sno_match.specs.inner.Move.{Makes, CarriesOut, Costs, answered};
 
 use crate::event::{Event, Pending};
 use crate::goal::{Goal, Top};

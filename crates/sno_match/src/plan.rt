@@ -4,8 +4,8 @@ ghost use Rattle.sno_pattern.specs.Table.{tree};
 ghost use Rattle.sno_pattern.specs.Shape.{IsPrimitive, end_of};
 ghost use Rattle.sno_pattern.specs.NextEnd.{ends_of};
 ghost use Rattle.sno_pattern.specs.Looks.{AreTrue};
-ghost use Rattle.sno_match.specs.Remaining.{IsKnown, MarkFits, HasNext};
-ghost use Rattle.sno_match.specs.Plan.{IsPlan, KeepsScopes, end_plan};
+ghost use Rattle.sno_match.specs.inner.Remaining.{IsKnown, MarkFits, HasNext};
+ghost use Rattle.sno_match.specs.inner.Plan.{IsPlan, KeepsScopes, end_plan};
 
 use crate::event::Pending;
 use crate::goal::{Goal, Mark};

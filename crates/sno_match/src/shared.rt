@@ -2,7 +2,7 @@
 ghost use Rattle.std.specs.Prelude.{◌≡◌, ℕ, ◌+◌, ◌≤◌, [], ◌∷◌, ◌++◌, length, reverse, take, vec_len, vec_capacity};
 ghost use Rattle.std.specs.Prelude.{IfOk, IfNone, IfSome, OnOk, OnErr};
 ghost use Rattle.sno_match.specs.Point.{rest_of};
-ghost use Rattle.sno_match.specs.Shared.{Falls, Fits, Extends, goals_of};
+ghost use Rattle.sno_match.specs.inner.Shared.{Falls, Fits, Extends, goals_of};
 
 use crate::event::Pending;
 use crate::goal::{Goal, Mark, Top};
@@ -49,7 +49,7 @@ pub struct SharedGoals {
 
 impl Model for SharedGoals {
     ghost use Rattle.std.specs.Prelude.{length};
-    ghost use Rattle.sno_match.specs.Shared.{Seen, Holds, points_of};
+    ghost use Rattle.sno_match.specs.inner.Shared.{Seen, Holds, points_of};
 
     ghost Value = { Seen };
 

@@ -3,7 +3,7 @@ ghost use Rattle.std.specs.Prelude.{◌<◌, ◌≤◌, ◌-◌, length, IfSome}
 ghost use Rattle.sno_pattern.specs.Shape.{IsPrimitive};
 ghost use Rattle.sno_pattern.specs.Looks.{AreTrue};
 ghost use Rattle.sno_pattern.specs.Table.{tree};
-ghost use Rattle.sno_match.specs.Starts.{Passes, FailsWith};
+ghost use Rattle.sno_match.specs.inner.Starts.{Passes, FailsWith};
 
 use sno_pattern::{Looks, Patterns, Shape};
 use sno_value::PatId;

@@ -7,7 +7,7 @@ use Rattle.std.proofs.lemmas.Bool.Decides.{eqb_tells}
 use Rattle.std.proofs.lemmas.List.{length-map}
 use Rattle.std.proofs.lemmas.Simd.{zip2_splat, zip2_of_maps, map-map, mask_l-mod}
 use Rattle.sno_pattern.specs.Ends.{is_in}
-use Rattle.sno_pattern.specs.Lanes.{passes}
+use Rattle.sno_pattern.specs.inner.Lanes.{passes}
 
 -- a lane of a comparison
 abbrev hit : ℕ → ℕ → ℕ

@@ -7,14 +7,17 @@ use Rattle.std.proofs.lemmas.Bool.{ne_eqb}
 use Rattle.std.proofs.lemmas.List.{drop-drop, get_or-set_same, get_or-set_other, length-set}
 use Rattle.sno_pattern.specs.Pattern.{Pattern, Bal, Span, Break, BreakX, Leaf}
 use Rattle.sno_pattern.specs.Ends.{is_in, end_if, run_length, first_in, ends}
-use Rattle.sno_pattern.specs.Places.{IsFirstPlace, leaf_has_end, has_end}
-use Rattle.sno_pattern.specs.Shape.{end_of, end_of_node}
+use Rattle.sno_pattern.specs.Places.{IsFirstPlace, has_end}
+use Rattle.sno_pattern.specs.inner.Places.{leaf_has_end}
+use Rattle.sno_pattern.specs.Shape.{end_of}
+use Rattle.sno_pattern.specs.inner.Shape.{end_of_node}
 use Rattle.sno_pattern.specs.Table.{Node, tree, tree_over, trees_onto}
-use Rattle.sno_pattern.specs.Kinds.{node_of, nodes_of, IsTable}
+use Rattle.sno_pattern.specs.inner.Kinds.{node_of, nodes_of, IsTable}
 use Rattle.sno_pattern.specs.declared.kind.Entry.{Entry}
 use Rattle.sno_pattern.specs.declared.kind.Kind.{Kind}
 use Rattle.sno_pattern.specs.declared.kind.Kind.TheVariants as K
-use Rattle.sno_pattern.specs.Looks.{IsTrueRun, Found, found_of, AreTrue}
+use Rattle.sno_pattern.specs.Looks.{IsTrueRun, Found, AreTrue}
+use Rattle.sno_pattern.specs.inner.Looks.{found_of}
 use Rattle.sno_pattern.specs.declared.looks.Run.{Run}
 use Rattle.sno_pattern.proofs.BalanceLaws.{balanced_next}
 use Rattle.sno_pattern.proofs.PlaceLaws.{same_place, below_or_not}

@@ -12,7 +12,8 @@ use Rattle.sno_pattern.specs.Pattern.{Text, Any, Span, Break}
 use Rattle.sno_pattern.specs.Ends.{is_in, end_if, end_after, run_length, first_in}
 use Rattle.sno_pattern.proofs.SetLaws.{here_or_behind}
 use Rattle.sno_pattern.proofs.LaneLaws.{turned}
-use Rattle.sno_pattern.specs.Places.{IsFirstPlace, leaf_has_end, byte_passes}
+use Rattle.sno_pattern.specs.Places.{IsFirstPlace}
+use Rattle.sno_pattern.specs.inner.Places.{leaf_has_end, byte_passes}
 
 pub same_place : (p q : ℕ → Bool) (from until place : ℕ) → ((c : ℕ) → p c ≡ q c) → IsFirstPlace p from until place → IsFirstPlace q from until place
 same_place p q from until place same first = record {

@@ -5,9 +5,11 @@ use Rattle.std.specs.List.{starts_with}
 use Rattle.sno_pattern.specs.Pattern.{Pattern, Arb, Leaf}
 use Rattle.sno_pattern.specs.Ends.{is_in, count_from, end_if, end_after, run_length, first_in, ends}
 use Rattle.sno_pattern.specs.Table.{Node, LeafNode, FenceNode, CutNode, AbortNode, SucceedNode, ArbnoNode, AltNode, CatNode, CondNode, ImmNode, PlaceNode}
-use Rattle.sno_pattern.specs.Table.{DeferNode, tree_over, trees_onto, tree, PartsBelow}
-use Rattle.sno_pattern.specs.Kinds.{node_of, nodes_of, IsTable}
-use Rattle.sno_pattern.specs.Shape.{HasShape, shape_of, end_of, end_of_node}
+use Rattle.sno_pattern.specs.Table.{DeferNode, tree_over, trees_onto, tree}
+use Rattle.sno_pattern.specs.inner.Table.{PartsBelow}
+use Rattle.sno_pattern.specs.inner.Kinds.{node_of, nodes_of, IsTable}
+use Rattle.sno_pattern.specs.Shape.{HasShape, end_of}
+use Rattle.sno_pattern.specs.inner.Shape.{shape_of, end_of_node}
 use Rattle.sno_pattern.specs.declared.kind.Kind.{Kind}
 use Rattle.sno_pattern.specs.declared.kind.Kind.TheVariants as K
 use Rattle.sno_pattern.specs.declared.kind.Entry.{Entry}

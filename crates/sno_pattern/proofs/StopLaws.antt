@@ -5,7 +5,8 @@ use Rattle.std.proofs.lemmas.List.{drop-drop, length-drop}
 use Rattle.std.specs.Option.{is_some}
 use Rattle.sno_pattern.specs.Pattern.{Break, BreakX}
 use Rattle.sno_pattern.specs.Ends.{is_in, first_in, all_in, ends}
-use Rattle.sno_pattern.specs.Places.{IsFirstPlace, leaf_has_end}
+use Rattle.sno_pattern.specs.Places.{IsFirstPlace}
+use Rattle.sno_pattern.specs.inner.Places.{leaf_has_end}
 use Rattle.sno_pattern.proofs.PlaceLaws.{same_place}
 
 -- the first of all is the first

@@ -2,7 +2,6 @@
 use Rattle.std.specs.Prelude.{ℕ, ◌≡◌, ◌<◌, ◌≤◌, List, length, get_or}
 use Rattle.sno_pattern.specs.declared.looks.Run.{Run}
 use Rattle.sno_pattern.specs.BalanceTable.{IsTableIfMade}
-use Rattle.sno_pattern.specs.Pattern.{Pattern, Bal, BreakX, Leaf}
 use Rattle.sno_pattern.specs.Shape.{end_of}
 use Rattle.sno_pattern.specs.Table.{Node, tree}
 
@@ -16,19 +15,8 @@ pub record Found : Type 0 where
   pub runs : List Run
   pub first_ends : List ℕ
 
-abbrev pub found_of : List Run → List ℕ → Found
-found_of runs first_ends = record { runs = runs; first_ends = first_ends }
-
 -- each run that is remembered is true of this table and this subject, and the ends of BAL are the subject's
 pub record AreTrue (nodes : List Node) (s : List ℕ) (found : Found) : Type 0 where
   pub eight : length found.runs ≡ 8
   pub each : (slot : ℕ) (other : Run) → slot < length found.runs → IsTrueRun nodes s (get_or found.runs slot other)
   pub balance : IsTableIfMade s found.first_ends
-
--- a pattern that is BREAKX
-abbrev pub StopsOften : Pattern → Type 0
-StopsOften pattern = (set : List ℕ) × (pattern ≡ Leaf (BreakX set))
-
--- a pattern that is BAL
-abbrev pub IsBal : Pattern → Type 0
-IsBal pattern = pattern ≡ Leaf Bal

@@ -3,8 +3,8 @@ use Rattle.std.specs.Prelude.{ℕ, ◌<◌, ◌≡◌, List, Option, None, Some,
 use Rattle.sno_pattern.specs.Pattern.{Pattern, Primitive, Leaf, Fence, Cut, Abort, Succeed, Arbno, Alt, Cat, Cond, Imm}
 use Rattle.sno_pattern.specs.Pattern.{Place, Defer}
 use Rattle.sno_pattern.specs.Ends.{ends}
-use Rattle.sno_pattern.specs.Table.{Node, LeafNode, FenceNode, CutNode, AbortNode, SucceedNode, ArbnoNode, AltNode}
-use Rattle.sno_pattern.specs.Table.{CatNode, CondNode, ImmNode, PlaceNode, DeferNode, tree}
+use Rattle.sno_pattern.specs.Table.{Node}
+use Rattle.sno_pattern.specs.Table.{tree}
 use Rattle.sno_value.specs.declared.ids.PatId.{PatId}
 use Rattle.sno_value.specs.declared.ids.ExprId.{ExprId}
 use Rattle.sno_pattern.specs.declared.shape.Shape.{Shape}
@@ -32,22 +32,6 @@ pattern n = record { 0 = n }
 abbrev pub expression : ℕ → ExprId
 expression n = record { 0 = n }
 
--- the shape of a node
-abbrev pub shape_of : Node → Shape
-shape_of (LeafNode a) = S.Primitive
-shape_of FenceNode = S.Fence
-shape_of (CutNode p) = S.Cut (pattern p)
-shape_of AbortNode = S.Abort
-shape_of SucceedNode = S.Succeed
-shape_of (ArbnoNode p) = S.Arbno (pattern p)
-shape_of (AltNode p q) = S.Alt (pattern p) (pattern q)
-shape_of (CatNode p q) = S.Cat (pattern p) (pattern q)
-shape_of (CondNode p target) = S.Cond (pattern p) target
-shape_of (ImmNode p target) = S.Imm (pattern p) target
-shape_of (PlaceNode target) = S.Cursor target
-shape_of (DeferNode None e) = S.Defer (expression e)
-shape_of (DeferNode (Some primitive) e) = S.DeferPrim primitive (expression e)
-
 -- the end with this number of a primitive, in order of trial
 abbrev pub end_of : Pattern → List ℕ → ℕ → ℕ → Option ℕ
 end_of (Leaf a) s c i = slice_get (ends a s c) i
@@ -55,7 +39,3 @@ end_of pattern s c i = None
 
 abbrev pub IsPrimitive : Pattern → Type 0
 IsPrimitive pattern = (a : Primitive) × (pattern ≡ Leaf a)
-
-abbrev pub end_of_node : Node → List ℕ → ℕ → ℕ → Option ℕ
-end_of_node (LeafNode a) s c i = slice_get (ends a s c) i
-end_of_node node s c i = None

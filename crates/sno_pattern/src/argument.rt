@@ -3,7 +3,7 @@ ghost use Rattle.std.specs.Prelude.{◌≡◌, IsTrue, IsFalse};
 ghost use Rattle.sno_value.specs.Kind.{takes_count};
 ghost use Rattle.sno_pattern.specs.Table.{LeafNode};
 ghost use Rattle.sno_pattern.specs.Arguments.{with_count, with_set};
-ghost use Rattle.sno_pattern.specs.Kinds.{node_of};
+ghost use Rattle.sno_pattern.specs.inner.Kinds.{node_of};
 
 use crate::byte_set::ByteSet;
 use crate::kind::Kind;

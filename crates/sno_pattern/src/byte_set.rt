@@ -2,7 +2,7 @@
 ghost use Rattle.std.specs.Prelude.{◌≡◌, ℕ, Bool, not, position, IfSome};
 ghost use Rattle.sno_pattern.specs.Ends.{is_in};
 ghost use Rattle.sno_pattern.specs.Sets.{set_of};
-ghost use Rattle.sno_pattern.specs.Lanes.{passes};
+ghost use Rattle.sno_pattern.specs.inner.Lanes.{passes};
 
 use crate::lanes;
 use std::marker::Model;
@@ -24,7 +24,7 @@ pub(crate) struct ByteSet {
 impl Model for ByteSet {
     ghost use Rattle.std.specs.Prelude.{List, ℕ, IfSome, ◌≡◌};
     ghost use Rattle.sno_pattern.specs.Ends.{is_in};
-    ghost use Rattle.sno_pattern.specs.Masks.{members};
+    ghost use Rattle.sno_pattern.specs.inner.Masks.{members};
 
     ghost Value = { List ℕ };
 

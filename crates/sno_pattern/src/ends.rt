@@ -2,8 +2,8 @@
 ghost use Rattle.std.specs.Prelude.{◌≡◌, ℕ, ◌≤◌, ◌+◌, length, slice_get, Some};
 ghost use Rattle.sno_pattern.specs.Pattern.{Text};
 ghost use Rattle.sno_pattern.specs.Ends.{ends};
-ghost use Rattle.sno_pattern.specs.Shape.{end_of_node};
-ghost use Rattle.sno_pattern.specs.Kinds.{node_of};
+ghost use Rattle.sno_pattern.specs.inner.Shape.{end_of_node};
+ghost use Rattle.sno_pattern.specs.inner.Kinds.{node_of};
 
 use crate::balance::{balanced_end, balanced_end_at};
 use crate::counts::{len_end, pos_end, rpos_end, rtab_end, tab_end};

@@ -1,8 +1,8 @@
 //! What the table stores of a pattern.
 ghost use Rattle.std.specs.Prelude.{◌≡◌, length};
-ghost use Rattle.sno_pattern.specs.Table.{PartsBelow};
-ghost use Rattle.sno_pattern.specs.Shape.{shape_of};
-ghost use Rattle.sno_pattern.specs.Kinds.{node_of, flags_of, quiet_over};
+ghost use Rattle.sno_pattern.specs.inner.Table.{PartsBelow};
+ghost use Rattle.sno_pattern.specs.inner.Shape.{shape_of};
+ghost use Rattle.sno_pattern.specs.inner.Kinds.{node_of, flags_of, quiet_over};
 
 use crate::byte_set::ByteSet;
 use crate::shape::Shape;

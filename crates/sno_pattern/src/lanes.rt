@@ -2,7 +2,7 @@
 ghost use Rattle.std.specs.Prelude.{◌≡◌, ◌≤◌, ℕ, Bool, List, not, length, take, map, position};
 ghost use Rattle.std.specs.Simd.Lanes.{mask_l};
 ghost use Rattle.sno_pattern.specs.Ends.{is_in};
-ghost use Rattle.sno_pattern.specs.Lanes.{passes};
+ghost use Rattle.sno_pattern.specs.inner.Lanes.{passes};
 
 use std::simd::prelude::*;
 

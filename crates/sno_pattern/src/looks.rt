@@ -2,11 +2,13 @@
 ghost use Rattle.std.specs.Prelude.{◌≡◌, ℕ, List, ◌<◌, ◌≤◌, ◌+◌, length, slice_get, IfSome};
 ghost use Rattle.sno_pattern.specs.BalanceTable.{IsTableIfMade};
 ghost use Rattle.sno_pattern.specs.Ends.{ends};
-ghost use Rattle.sno_pattern.specs.Kinds.{node_of};
+ghost use Rattle.sno_pattern.specs.inner.Kinds.{node_of};
 ghost use Rattle.sno_pattern.specs.Looks.{IsTrueRun, AreTrue};
 ghost use Rattle.sno_pattern.specs.Pattern.{Bal};
-ghost use Rattle.sno_pattern.specs.Places.{IsFirstPlace, leaf_has_end};
-ghost use Rattle.sno_pattern.specs.Shape.{end_of, end_of_node};
+ghost use Rattle.sno_pattern.specs.Places.{IsFirstPlace};
+ghost use Rattle.sno_pattern.specs.inner.Places.{leaf_has_end};
+ghost use Rattle.sno_pattern.specs.Shape.{end_of};
+ghost use Rattle.sno_pattern.specs.inner.Shape.{end_of_node};
 ghost use Rattle.sno_pattern.specs.Table.{Node, tree};
 
 use crate::balance_table::Balance;
@@ -37,7 +39,8 @@ pub struct Looks {
 }
 
 impl Model for Looks {
-    ghost use Rattle.sno_pattern.specs.Looks.{Found, found_of};
+    ghost use Rattle.sno_pattern.specs.Looks.{Found};
+    ghost use Rattle.sno_pattern.specs.inner.Looks.{found_of};
 
     ghost Value = { Found };
 

@@ -1,8 +1,9 @@
 //! The next place at which a primitive has an end.
 ghost use Rattle.std.specs.Prelude.{◌≡◌, ◌≤◌, ◌+◌, ◌==◌, ◌-◌, length, take, drop, position};
 ghost use Rattle.sno_pattern.specs.Pattern.{Text, Any, NotAny, Break};
-ghost use Rattle.sno_pattern.specs.Kinds.{node_of};
-ghost use Rattle.sno_pattern.specs.Places.{IsFirstPlace, leaf_has_end, node_has_end, byte_passes};
+ghost use Rattle.sno_pattern.specs.inner.Kinds.{node_of};
+ghost use Rattle.sno_pattern.specs.Places.{IsFirstPlace};
+ghost use Rattle.sno_pattern.specs.inner.Places.{leaf_has_end, node_has_end, byte_passes};
 
 use crate::byte_set::{ByteSet, FEW};
 use crate::ends::first_end;

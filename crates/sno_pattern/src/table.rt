@@ -6,14 +6,16 @@ ghost use Rattle.sno_pattern.specs.Pattern.{Cat, Cond, Imm, Place, Defer};
 ghost use Rattle.sno_pattern.specs.Shape.{HasShape, IsPrimitive, end_of};
 ghost use Rattle.sno_pattern.specs.Table.{tree, tree_over, trees_onto, LeafNode, FenceNode, AbortNode, SucceedNode};
 ghost use Rattle.sno_pattern.specs.Table.{CutNode, ArbnoNode, AltNode, CatNode, CondNode, ImmNode, PlaceNode};
-ghost use Rattle.sno_pattern.specs.Table.{DeferNode, PartsBelow};
+ghost use Rattle.sno_pattern.specs.Table.{DeferNode};
+ghost use Rattle.sno_pattern.specs.inner.Table.{PartsBelow};
 ghost use Rattle.sno_pattern.specs.Arguments.{IsArgOf, IsNullSet, IsBadCount, IsGoodArg, primitive_of};
 ghost use Rattle.sno_pattern.specs.Built.{Appends};
 ghost use Rattle.sno_pattern.specs.Quiet.{IsQuiet};
 ghost use Rattle.sno_pattern.specs.NextEnd.{ends_of, next_end};
 ghost use Rattle.sno_pattern.specs.Places.{IsFirstPlace, has_end};
-ghost use Rattle.sno_pattern.specs.Looks.{AreTrue, IsBal, StopsOften};
-ghost use Rattle.sno_pattern.specs.Kinds.{nodes_of, node_of, IsTable};
+ghost use Rattle.sno_pattern.specs.Looks.{AreTrue};
+ghost use Rattle.sno_pattern.specs.inner.Looks.{IsBal, StopsOften};
+ghost use Rattle.sno_pattern.specs.inner.Kinds.{nodes_of, node_of, IsTable};
 
 use crate::argument::{Arg, among, counted};
 use crate::byte_set::ByteSet;
@@ -62,7 +64,7 @@ impl Model for Patterns {
 
     ghost Value = { List Node };
 
-    ghost use Rattle.sno_pattern.specs.Kinds.{nodes_of, IsTable};
+    ghost use Rattle.sno_pattern.specs.inner.Kinds.{nodes_of, IsTable};
 
     ghost view = { λ p. nodes_of p.entries.items };
 

@@ -11,13 +11,14 @@ use Rattle.sno_value.specs.declared.value.Value.TheVariants as stored
 use Rattle.sno_pattern.specs.declared.argument.Arg.TheVariants.{Count}
 use Rattle.sno_pattern.specs.Pattern.{Pattern}
 use Rattle.sno_pattern.specs.Table.{Node}
-use Rattle.sno_runtime.specs.declared.runtime.Exit.{Exit}
+use Rattle.sno_runtime.specs.declared.stops.Exit.{Exit}
 use Rattle.sno_runtime.specs.Action.{Action, and_then}
 use Rattle.sno_runtime.specs.Values.{Value, shown, IsValueOf}
 use Rattle.sno_runtime.specs.Operators.{argument, as_pattern, makes_value, count_primitive, set_primitive, primitive, primitive_value, rest}
 use Rattle.sno_runtime.specs.Variables.{wrong_type}
-use Rattle.sno_runtime.specs.Runtime.{Runtime, Does, tree_of, IsPatternOf}
-use Rattle.sno_runtime.specs.Primitives.{with_bytes, makes_primitive}
+use Rattle.sno_runtime.specs.Runtime.{Runtime, tree_of, IsPatternOf}
+use Rattle.sno_runtime.specs.inner.Runtime.{Does}
+use Rattle.sno_runtime.specs.inner.Primitives.{with_bytes, makes_primitive}
 use Rattle.sno_runtime.proofs.Outcomes.{then_got, then_err}
 use Rattle.sno_runtime.proofs.Conversions.{as_value}
 

@@ -9,7 +9,8 @@ use Rattle.sno_pattern.proofs.TableLaws.{tree-append}
 use Rattle.sno_pattern.specs.Built.{Appends}
 use Rattle.sno_runtime.specs.Operators.{makes}
 use Rattle.sno_runtime.specs.Values.{shown, shown_objects}
-use Rattle.sno_runtime.specs.Runtime.{Runtime, untouched, Grows, Does, tree_of, IsPatternOf, IsKnown}
+use Rattle.sno_runtime.specs.Runtime.{Runtime, Grows, tree_of, IsPatternOf, IsKnown}
+use Rattle.sno_runtime.specs.inner.Runtime.{untouched, Does}
 use Rattle.sno_runtime.proofs.Outcomes.{all_shown_stay, shown_objects_stay}
 
 -- a pattern stays what it is

@@ -14,13 +14,15 @@ use Rattle.sno_store.specs.Functions.{with_definition}
 use Rattle.sno_store.specs.Outcomes.{IsDefined, IsEntered}
 use Rattle.sno_store.specs.declared.error.StoreError.{StoreError}
 use Rattle.sno_store.specs.declared.error.StoreError.TheVariants.{NullName, Full, WrongType, BadPrototype, CallLevel, NoMemory}
-use Rattle.sno_runtime.specs.declared.runtime.Exit.{Exit}
-use Rattle.sno_runtime.specs.declared.runtime.Exit.TheVariants.{Halt}
-use Rattle.sno_runtime.specs.declared.runtime.Stop.TheVariants.{Error as HasError}
+use Rattle.sno_runtime.specs.declared.stops.Exit.{Exit}
+use Rattle.sno_runtime.specs.declared.stops.Exit.TheVariants.{Halt}
+use Rattle.sno_runtime.specs.declared.stops.Stop.TheVariants.{Error as HasError}
 use Rattle.sno_runtime.specs.Values.{Value, Str, shown, IsValueOf}
 use Rattle.sno_runtime.specs.Action.{Error, Got, Stops, Outcome, Action, gives, and_then}
-use Rattle.sno_runtime.specs.Calls.{after_definition, defines, Enters, Leaves, shown_saved}
-use Rattle.sno_runtime.specs.Runtime.{Runtime, world, IsKnown, Does, itself, any, exit_of_store}
+use Rattle.sno_runtime.specs.Calls.{after_definition, defines}
+use Rattle.sno_runtime.specs.inner.Calls.{Enters, Leaves, shown_saved}
+use Rattle.sno_runtime.specs.Runtime.{Runtime, world, IsKnown, itself}
+use Rattle.sno_runtime.specs.inner.Runtime.{Does, any, exit_of_store}
 use Rattle.sno_runtime.proofs.CallLaws.{entered_map, restored_map, function_value_map, saved_map}
 use Rattle.sno_runtime.proofs.CallsKnown.{without_call, saved_known, function_known}
 use Rattle.sno_runtime.proofs.DefinitionLaws.{defined_numbered, defined_short}

@@ -5,13 +5,14 @@ use Rattle.sno_value.specs.declared.ids.PatId.{PatId}
 use Rattle.sno_value.specs.declared.value.Value.{Value as Stored}
 use Rattle.sno_value.specs.declared.value.Value.TheVariants as stored
 use Rattle.sno_store.specs.Tables.{new_table, table_to_array}
-use Rattle.sno_runtime.specs.declared.runtime.Exit.{Exit}
-use Rattle.sno_runtime.specs.declared.runtime.Exit.TheVariants.{Failure}
+use Rattle.sno_runtime.specs.declared.stops.Exit.{Exit}
+use Rattle.sno_runtime.specs.declared.stops.Exit.TheVariants.{Failure}
 use Rattle.sno_runtime.specs.Action.{Action, gives, fails, either, and_then}
 use Rattle.sno_runtime.specs.Values.{Value, Array, Table, shown, IsValueOf}
 use Rattle.sno_runtime.specs.Operators.{is_patternable, as_pattern, pattern_if}
 use Rattle.sno_runtime.specs.Containers.{notions, does, table, as_array}
-use Rattle.sno_runtime.specs.Runtime.{Runtime, Does, itself, any, tree_of, IsPatternOf}
+use Rattle.sno_runtime.specs.Runtime.{Runtime, itself, tree_of, IsPatternOf}
+use Rattle.sno_runtime.specs.inner.Runtime.{Does, any}
 use Rattle.sno_runtime.proofs.Outcomes.{gives_does, fails_does, then_got, then_err}
 use Rattle.sno_runtime.proofs.Conversions.{value_made, value_refused}
 

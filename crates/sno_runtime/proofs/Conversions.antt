@@ -9,18 +9,19 @@ use Rattle.sno_text.specs.declared.node.Operator.{Operator}
 use Rattle.sno_text.specs.declared.node.Operator.TheVariants.{Alternate, Concatenate, Add, Subtract, Divide, Multiply, Power, Conditional, Immediate}
 use Rattle.sno_pattern.specs.Pattern.{Pattern, Cat}
 use Rattle.sno_pattern.specs.Table.{Node}
-use Rattle.sno_runtime.specs.declared.runtime.Exit.{Exit}
-use Rattle.sno_runtime.specs.declared.runtime.Exit.TheVariants.{Failure, Halt}
-use Rattle.sno_runtime.specs.declared.runtime.Stop.TheVariants.{Error as HasError, ErrorIn as HasErrorIn, NoMemory, ReadFault, WriteFault, Ended as HasEnded}
+use Rattle.sno_runtime.specs.declared.stops.Exit.{Exit}
+use Rattle.sno_runtime.specs.declared.stops.Exit.TheVariants.{Failure, Halt}
+use Rattle.sno_runtime.specs.declared.stops.Stop.TheVariants.{Error as HasError, ErrorIn as HasErrorIn, NoMemory, ReadFault, WriteFault, Ended as HasEnded}
 use Rattle.sno_runtime.specs.Action.{Action, gives, and_then, either}
 use Rattle.sno_runtime.specs.Values.{Value, Pat, Name, shown, IsValueOf, is_null}
 use Rattle.sno_runtime.specs.Operators.{operation, makes_value, is_patternable, as_pattern, joined_patterns, joined, concatenation, pattern_with_target}
 use Rattle.sno_runtime.specs.Numbers.{number_of, on_numbers, result_of}
 use Rattle.sno_value.specs.declared.value.Name.{Name as Target}
 use Rattle.sno_runtime.specs.Variables.{wrong_type, text_of}
-use Rattle.sno_runtime.specs.Runtime.{Runtime, Does, tree_of, IsPatternOf}
-use Rattle.sno_runtime.specs.Converted.{has_text, IsThere}
-use Rattle.sno_runtime.specs.Operations.{both, is_arithmetic, calculated}
+use Rattle.sno_runtime.specs.Runtime.{Runtime, tree_of, IsPatternOf}
+use Rattle.sno_runtime.specs.inner.Runtime.{Does}
+use Rattle.sno_runtime.specs.inner.Converted.{has_text, IsThere}
+use Rattle.sno_runtime.specs.inner.Operations.{both, is_arithmetic, calculated}
 use Rattle.sno_runtime.proofs.Outcomes.{gives_does, stops_does, no_memory_does, grows_none, shown_stays, then_got, then_err}
 use Rattle.sno_runtime.proofs.Builders.{tree_stays}
 

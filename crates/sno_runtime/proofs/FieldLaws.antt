@@ -15,16 +15,17 @@ use Rattle.sno_store.specs.Outcomes.{IsDone, itself as as_told}
 use Rattle.sno_store.specs.Symbols.{found as symbol_found}
 use Rattle.sno_store.specs.Types.{field_name, new_data}
 use Rattle.sno_store.specs.declared.error.StoreError.{StoreError}
-use Rattle.sno_runtime.specs.declared.runtime.Exit.{Exit}
-use Rattle.sno_runtime.specs.declared.runtime.Exit.TheVariants.{Halt}
-use Rattle.sno_runtime.specs.declared.runtime.Stop.TheVariants.{Error as HasError}
+use Rattle.sno_runtime.specs.declared.stops.Exit.{Exit}
+use Rattle.sno_runtime.specs.declared.stops.Exit.TheVariants.{Halt}
+use Rattle.sno_runtime.specs.declared.stops.Stop.TheVariants.{Error as HasError}
 use Rattle.sno_runtime.specs.World.{World}
 use Rattle.sno_runtime.specs.Values.{Value, Str, Data, shown, IsValueOf}
 use Rattle.sno_runtime.specs.Action.{Error, Outcome, Action, gives, stops, either}
 use Rattle.sno_runtime.specs.Variables.{wrong_type, holds}
 use Rattle.sno_runtime.specs.Operators.{as_value}
 use Rattle.sno_runtime.specs.Fields.{makes_object, constructs, field_of, field_value, is_field_named, asks_field, field_as_name, is_made}
-use Rattle.sno_runtime.specs.Runtime.{Runtime, world, Meets, Does, itself, any, exit_of_store}
+use Rattle.sno_runtime.specs.Runtime.{Runtime, world, itself}
+use Rattle.sno_runtime.specs.inner.Runtime.{Meets, Does, any, exit_of_store}
 use Rattle.sno_runtime.proofs.Names.{name_given, name_refused}
 use Rattle.sno_runtime.proofs.ObjectLaws.{done_ok, done_err}
 use Rattle.sno_runtime.proofs.ObjectOperations.{new_data_map, field_name_map}

@@ -8,7 +8,8 @@ use Rattle.sno_store.specs.Store.{value_of}
 use Rattle.sno_runtime.specs.Action.{and_then}
 use Rattle.sno_runtime.specs.Values.{shown, IsValueOf}
 use Rattle.sno_runtime.specs.Variables.{variable_named, holds, is_input, reads, reads_line}
-use Rattle.sno_runtime.specs.Runtime.{Runtime, IsKnown, Does, itself, any}
+use Rattle.sno_runtime.specs.Runtime.{Runtime, IsKnown, itself}
+use Rattle.sno_runtime.specs.inner.Runtime.{Does, any}
 use Rattle.sno_runtime.proofs.Outcomes.{then_got}
 use Rattle.sno_runtime.proofs.Stores.{holds_does}
 

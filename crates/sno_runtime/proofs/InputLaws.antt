@@ -9,13 +9,14 @@ use Rattle.sno_pattern.specs.Table.{Node}
 use Rattle.sno_io.specs.Lines.{Input, next_line, first_line, GivesLine, ReadsLine}
 use Rattle.sno_io.specs.declared.lines.LineError.{LineError}
 use Rattle.sno_io.specs.declared.lines.LineError.TheVariants as too
-use Rattle.sno_runtime.specs.declared.runtime.Exit.{Exit}
+use Rattle.sno_runtime.specs.declared.stops.Exit.{Exit}
 use Rattle.sno_runtime.specs.World.{World}
 use Rattle.sno_runtime.specs.Values.{Value, shown, IsValueOf}
 use Rattle.sno_runtime.specs.Action.{Action}
 use Rattle.sno_value.specs.declared.value.Name.{Name as Target}
 use Rattle.sno_runtime.specs.Variables.{line_kept, reads_line, holds, reads, is_input}
-use Rattle.sno_runtime.specs.Runtime.{Runtime, world, MeetsReading, Reads, IsReady, OnAnswer, OnGoing, HasCause, value_of_line}
+use Rattle.sno_runtime.specs.Runtime.{Runtime, world, IsReady, OnAnswer, OnGoing}
+use Rattle.sno_runtime.specs.inner.Runtime.{MeetsReading, Reads, HasCause, value_of_line}
 use Rattle.sno_io.specs.Devices.{Feed}
 use Rattle.sno_runtime.proofs.Outcomes.{grows_none}
 

@@ -9,16 +9,17 @@ use Rattle.sno_value.specs.declared.value.Value.TheVariants as stored
 use Rattle.sno_pattern.specs.Table.{Node}
 use Rattle.sno_store.specs.Arrays.{element_name}
 use Rattle.sno_store.specs.Tables.{find_entry}
-use Rattle.sno_runtime.specs.declared.runtime.Exit.{Exit}
-use Rattle.sno_runtime.specs.declared.runtime.Exit.TheVariants.{Failure, Halt}
-use Rattle.sno_runtime.specs.declared.runtime.Stop.TheVariants.{Error as HasError, ErrorIn as HasErrorIn, NoMemory, ReadFault, WriteFault, Ended as HasEnded}
+use Rattle.sno_runtime.specs.declared.stops.Exit.{Exit}
+use Rattle.sno_runtime.specs.declared.stops.Exit.TheVariants.{Failure, Halt}
+use Rattle.sno_runtime.specs.declared.stops.Stop.TheVariants.{Error as HasError, ErrorIn as HasErrorIn, NoMemory, ReadFault, WriteFault, Ended as HasEnded}
 use Rattle.sno_runtime.specs.Action.{Action, gives, fails, either}
 use Rattle.sno_runtime.specs.Values.{Value, Str, Array, shown, IsValueOf}
 use Rattle.sno_runtime.specs.Variables.{wrong_type, holds}
 use Rattle.sno_runtime.specs.Numbers.{number_of}
 use Rattle.sno_runtime.specs.Containers.{notions, asks, before, numbers_of, element_numbered, entry_read, item, item_named}
-use Rattle.sno_runtime.specs.Converted.{IsThere}
-use Rattle.sno_runtime.specs.Runtime.{Runtime, Does, itself, any}
+use Rattle.sno_runtime.specs.inner.Converted.{IsThere}
+use Rattle.sno_runtime.specs.Runtime.{Runtime, itself}
+use Rattle.sno_runtime.specs.inner.Runtime.{Does, any}
 use Rattle.sno_runtime.proofs.Outcomes.{gives_does, fails_does, then_got, then_err}
 
 -- the numbers of subscripts

@@ -4,13 +4,14 @@ use Rattle.sno_value.specs.declared.value.Name.{Name as Target}
 use Rattle.sno_value.specs.declared.value.Value.{Value as Stored}
 use Rattle.sno_value.specs.declared.value.Value.TheVariants as stored
 use Rattle.sno_pattern.specs.Table.{Node}
-use Rattle.sno_runtime.specs.declared.runtime.Exit.{Exit}
+use Rattle.sno_runtime.specs.declared.stops.Exit.{Exit}
 use Rattle.sno_runtime.specs.Action.{Action, gives}
 use Rattle.sno_runtime.specs.Values.{Name, shown, IsValueOf}
 use Rattle.sno_runtime.specs.Variables.{wrong_type, text_of, variable_named, named_by}
 use Rattle.sno_runtime.specs.Operators.{as_value}
 use Rattle.sno_runtime.specs.Action.{either}
-use Rattle.sno_runtime.specs.Runtime.{Runtime, Does, itself, any}
+use Rattle.sno_runtime.specs.Runtime.{Runtime, itself}
+use Rattle.sno_runtime.specs.inner.Runtime.{Does, any}
 use Rattle.sno_runtime.proofs.Outcomes.{then_got, then_err, gives_does}
 
 pub name_given : (act : Action Target) (a b : Runtime) (target : Target) → Does itself any act a b (Ok target)

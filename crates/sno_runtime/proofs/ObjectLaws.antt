@@ -11,10 +11,11 @@ use Rattle.sno_store.specs.declared.error.StoreError.{StoreError}
 use Rattle.sno_store.specs.declared.error.StoreError.TheVariants.{NullName, Full, WrongType, BadPrototype, CallLevel, NoMemory}
 use Rattle.sno_runtime.specs.Values.{Value, Str, shown, IsValueOf, is_null as is_null_value}
 use Rattle.sno_runtime.specs.Action.{Error, Got, Stops, Outcome, gives, and_then}
-use Rattle.sno_runtime.specs.declared.runtime.Exit.TheVariants.{Halt}
-use Rattle.sno_runtime.specs.declared.runtime.Stop.TheVariants.{Error as HasError}
+use Rattle.sno_runtime.specs.declared.stops.Exit.TheVariants.{Halt}
+use Rattle.sno_runtime.specs.declared.stops.Stop.TheVariants.{Error as HasError}
 use Rattle.sno_runtime.specs.Containers.{is_key as may_be_key, is_same_key, notions, after_change, answers, does, asks}
-use Rattle.sno_runtime.specs.Runtime.{Runtime, world, Does, IsKnown, itself, any, exit_of_store}
+use Rattle.sno_runtime.specs.Runtime.{Runtime, world, IsKnown, itself}
+use Rattle.sno_runtime.specs.inner.Runtime.{Does, any, exit_of_store}
 use Rattle.sno_runtime.proofs.Objects.{mapped, map_made}
 use Rattle.sno_runtime.proofs.Stores.{calls_untouched, store_untouched}
 use Rattle.sno_runtime.proofs.ObjectOperations.{Agrees}

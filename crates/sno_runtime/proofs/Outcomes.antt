@@ -6,16 +6,17 @@ use Rattle.sno_value.specs.declared.value.Value.{Value as Stored}
 use Rattle.sno_value.specs.declared.value.Value.TheVariants as stored
 use Rattle.sno_pattern.specs.Table.{Node}
 use Rattle.sno_pattern.proofs.TableLaws.{tree-append}
-use Rattle.sno_runtime.specs.declared.runtime.Exit.{Exit}
-use Rattle.sno_runtime.specs.declared.runtime.Exit.TheVariants.{Failure, Halt}
-use Rattle.sno_runtime.specs.declared.runtime.Stop.{Stop}
-use Rattle.sno_runtime.specs.declared.runtime.Stop.TheVariants.{Error as HasError, ErrorIn as HasErrorIn, NoMemory, ReadFault, WriteFault, Ended as HasEnded}
+use Rattle.sno_runtime.specs.declared.stops.Exit.{Exit}
+use Rattle.sno_runtime.specs.declared.stops.Exit.TheVariants.{Failure, Halt}
+use Rattle.sno_runtime.specs.declared.stops.Stop.{Stop}
+use Rattle.sno_runtime.specs.declared.stops.Stop.TheVariants.{Error as HasError, ErrorIn as HasErrorIn, NoMemory, ReadFault, WriteFault, Ended as HasEnded}
 use Rattle.sno_runtime.specs.World.{World}
 use Rattle.sno_store.specs.Objects.{Object, ArrayOf, TableOf, DataOf}
 use Rattle.sno_runtime.specs.Values.{Pat, shown, shown_objects, map_entry, map_object, IsValueOf, IsEntryOf, IsObjectOf}
 use Rattle.sno_runtime.specs.Action.{Error, Got, Outcome, Action, settled, settles, either, and_then, gives, fails, stops}
-use Rattle.sno_runtime.specs.Runtime.{Runtime, world, untouched, Meets, Grows, Does}
-use Rattle.sno_runtime.specs.Calls.{shown_saved}
+use Rattle.sno_runtime.specs.Runtime.{Runtime, world, Grows}
+use Rattle.sno_runtime.specs.inner.Runtime.{untouched, Meets, Does}
+use Rattle.sno_runtime.specs.inner.Calls.{shown_saved}
 
 -- tables that grow
 

@@ -6,26 +6,28 @@ use Rattle.std.specs.Io.KnownBytes.{Appends}
 use Rattle.sno_io.specs.Devices.{Begins}
 use Rattle.sno_io.proofs.Bytes.{appends_then}
 use Rattle.sno_value.specs.declared.value.Name.{Name as Target}
-use Rattle.sno_runtime.specs.declared.runtime.Stop.{Stop}
-use Rattle.sno_runtime.specs.declared.runtime.Stop.TheVariants.{Error as HasError, ErrorIn as HasErrorIn, NoMemory, ReadFault, WriteFault, Ended as HasEnded}
+use Rattle.sno_runtime.specs.declared.stops.Stop.{Stop}
+use Rattle.sno_runtime.specs.declared.stops.Stop.TheVariants.{Error as HasError, ErrorIn as HasErrorIn, NoMemory, ReadFault, WriteFault, Ended as HasEnded}
 use Rattle.sno_runtime.specs.World.{World}
 use Rattle.sno_runtime.specs.Values.{Value}
 use Rattle.sno_runtime.specs.Action.{Ending, Got, Fails, Stops, Outcome, Action, settled, settles, and_then, either, gives, fails}
-use Rattle.sno_runtime.specs.Runtime.{Runtime, world, untouched}
+use Rattle.sno_runtime.specs.Runtime.{Runtime, world}
+use Rattle.sno_runtime.specs.inner.Runtime.{untouched}
 use Rattle.sno_match.specs.Search.{Event}
 use Rattle.sno_match.specs.Events.{in_trace}
 use Rattle.sno_match.specs.Within.{IsWithin}
 use Rattle.sno_match.specs.declared.event.Event.{Event as Told}
 use Rattle.sno_match.specs.declared.event.Event.TheVariants as V
 use Rattle.sno_match.specs.declared.event.Pending.{Pending}
-use Rattle.sno_runtime.specs.Effects.{effect, listed, listed_all}
+use Rattle.sno_runtime.specs.Effects.{effect, listed}
+use Rattle.sno_runtime.specs.inner.Effects.{listed_all}
 use Rattle.sno_value.specs.declared.value.Value.{Value as Stored}
 use Rattle.sno_store.specs.Store.{with_value as with_stored}
 use Rattle.sno_runtime.specs.Values.{shown}
 use Rattle.sno_runtime.specs.Variables.{is_output, assigns, outputs, stores, writes, with_value, text_of, wrong_type}
 use Rattle.sno_runtime.specs.Lines.{line_of}
 use Rattle.sno_runtime.proofs.Stores.{set_seen, set_untouched}
-use Rattle.sno_runtime.specs.Performs.{Ends, Performs, IsLineOf}
+use Rattle.sno_runtime.specs.inner.Performs.{Ends, Performs, IsLineOf}
 
 pub appends_nothing : (taken : Option (List ℕ)) → Appends taken taken []
 appends_nothing None = tt

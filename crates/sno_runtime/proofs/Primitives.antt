@@ -14,12 +14,13 @@ use Rattle.sno_pattern.specs.Table.{LeafNode}
 use Rattle.sno_pattern.specs.Built.{Appends}
 use Rattle.sno_pattern.specs.Arguments.{IsGoodArg, IsNullSet, IsBadCount, primitive_of, with_count, with_set}
 use Rattle.sno_pattern.specs.Sets.{set_of}
-use Rattle.sno_runtime.specs.declared.runtime.Exit.TheVariants.{Halt}
-use Rattle.sno_runtime.specs.declared.runtime.Stop.TheVariants.{Error as HasError}
+use Rattle.sno_runtime.specs.declared.stops.Exit.TheVariants.{Halt}
+use Rattle.sno_runtime.specs.declared.stops.Stop.TheVariants.{Error as HasError}
 use Rattle.sno_runtime.specs.Action.{Error, Stops, Action, stops}
 use Rattle.sno_runtime.specs.Operators.{makes}
-use Rattle.sno_runtime.specs.Runtime.{Runtime, world, untouched, IsKnown, Does, tree_of, IsPatternOf, exit_of}
-use Rattle.sno_runtime.specs.Primitives.{with_bytes, makes_primitive}
+use Rattle.sno_runtime.specs.Runtime.{Runtime, world, IsKnown, tree_of, IsPatternOf}
+use Rattle.sno_runtime.specs.inner.Runtime.{untouched, Does, exit_of}
+use Rattle.sno_runtime.specs.inner.Primitives.{with_bytes, makes_primitive}
 use Rattle.sno_runtime.proofs.Outcomes.{no_memory_does}
 use Rattle.sno_runtime.proofs.Builders.{made}
 

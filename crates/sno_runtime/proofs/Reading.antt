@@ -4,14 +4,15 @@ use Rattle.std.specs.Io.KnownBytes.{Consumes}
 use Rattle.sno_io.proofs.Bytes.{consumes_then}
 use Rattle.sno_value.specs.declared.value.Value.{Value as Stored}
 use Rattle.sno_pattern.specs.Table.{Node}
-use Rattle.sno_runtime.specs.declared.runtime.Exit.{Exit}
-use Rattle.sno_runtime.specs.declared.runtime.Exit.TheVariants.{Failure, Halt}
-use Rattle.sno_runtime.specs.declared.runtime.Stop.{Stop}
-use Rattle.sno_runtime.specs.declared.runtime.Stop.TheVariants.{Error as HasError, ErrorIn as HasErrorIn, NoMemory, ReadFault, WriteFault, Ended as HasEnded}
+use Rattle.sno_runtime.specs.declared.stops.Exit.{Exit}
+use Rattle.sno_runtime.specs.declared.stops.Exit.TheVariants.{Failure, Halt}
+use Rattle.sno_runtime.specs.declared.stops.Stop.{Stop}
+use Rattle.sno_runtime.specs.declared.stops.Stop.TheVariants.{Error as HasError, ErrorIn as HasErrorIn, NoMemory, ReadFault, WriteFault, Ended as HasEnded}
 use Rattle.sno_io.specs.Lines.{Input}
 use Rattle.sno_runtime.specs.World.{World, Keywords}
 use Rattle.sno_runtime.specs.Action.{Outcome, Action, settled, settles, either, and_then, fails}
-use Rattle.sno_runtime.specs.Runtime.{Runtime, world, untouched, Meets, MeetsReading, Does, Reads, IsReady, OnGoing, HasCause}
+use Rattle.sno_runtime.specs.Runtime.{Runtime, world, IsReady, OnGoing}
+use Rattle.sno_runtime.specs.inner.Runtime.{untouched, Meets, MeetsReading, Does, Reads, HasCause}
 use Rattle.sno_io.specs.Devices.{Feed}
 use Rattle.sno_runtime.proofs.Outcomes.{grows_twice, fails_does}
 

@@ -14,13 +14,14 @@ use Rattle.sno_store.specs.First.{first_patterns}
 use Rattle.sno_store.specs.Store.{Store, new_store, place, is_symbol, joining, with_symbol, IsJoined, value_of, with_value as with_stored}
 use Rattle.sno_store.specs.declared.error.StoreError.{StoreError}
 use Rattle.sno_store.specs.declared.error.StoreError.TheVariants.{NullName, Full, WrongType, BadPrototype, CallLevel, NoMemory}
-use Rattle.sno_runtime.specs.declared.runtime.Exit.TheVariants.{Halt}
-use Rattle.sno_runtime.specs.declared.runtime.Stop.TheVariants.{Error as HasError}
+use Rattle.sno_runtime.specs.declared.stops.Exit.TheVariants.{Halt}
+use Rattle.sno_runtime.specs.declared.stops.Stop.TheVariants.{Error as HasError}
 use Rattle.sno_runtime.specs.World.{World}
 use Rattle.sno_runtime.specs.Values.{shown, IsValueOf}
 use Rattle.sno_runtime.specs.Action.{Error, Got, Outcome, gives, stops}
 use Rattle.sno_runtime.specs.Variables.{symbol, variable_named, joins, value_in, with_value, holds, name_value}
-use Rattle.sno_runtime.specs.Runtime.{Runtime, world, untouched, Grows, Does, itself, any, IsKnown, exit_of_store}
+use Rattle.sno_runtime.specs.Runtime.{Runtime, world, Grows, itself, IsKnown}
+use Rattle.sno_runtime.specs.inner.Runtime.{untouched, Does, any, exit_of_store}
 use Rattle.sno_runtime.proofs.Members.{all_end, all_set, all_at}
 use Rattle.sno_runtime.proofs.Numbered.{numbered_with, numbered_place, new_numbered}
 use Rattle.sno_runtime.proofs.Objects.{element_held, entry_held, field_held, element_set, entry_set, field_set}

@@ -14,13 +14,14 @@ use Rattle.sno_store.specs.Outcomes.{IsTyped}
 use Rattle.sno_store.specs.Types.{DataType, makes_type, data_type, with_fields, type_in, type_by, with_type, type_with, type_text}
 use Rattle.sno_store.specs.declared.error.StoreError.{StoreError}
 use Rattle.sno_store.specs.declared.error.StoreError.TheVariants.{NullName, Full, WrongType, BadPrototype, CallLevel, NoMemory}
-use Rattle.sno_runtime.specs.declared.runtime.Exit.{Exit}
-use Rattle.sno_runtime.specs.declared.runtime.Exit.TheVariants.{Halt}
-use Rattle.sno_runtime.specs.declared.runtime.Stop.TheVariants.{Error as HasError}
+use Rattle.sno_runtime.specs.declared.stops.Exit.{Exit}
+use Rattle.sno_runtime.specs.declared.stops.Exit.TheVariants.{Halt}
+use Rattle.sno_runtime.specs.declared.stops.Stop.TheVariants.{Error as HasError}
 use Rattle.sno_runtime.specs.Values.{Value, Str, shown, IsValueOf}
 use Rattle.sno_runtime.specs.Action.{Error, Got, Stops, Outcome, stops}
-use Rattle.sno_runtime.specs.Types.{after_type, makes_type as makes, type_made, data_called, type_name, datatype}
-use Rattle.sno_runtime.specs.Runtime.{Runtime, world, Meets, IsKnown, Does, itself, any, exit_of_store}
+use Rattle.sno_runtime.specs.inner.Types.{after_type, makes_type as makes, type_made, data_called, type_name, datatype}
+use Rattle.sno_runtime.specs.Runtime.{Runtime, world, IsKnown, itself}
+use Rattle.sno_runtime.specs.inner.Runtime.{Meets, Does, any, exit_of_store}
 use Rattle.sno_runtime.proofs.Calls.{more_shown}
 use Rattle.sno_runtime.proofs.DefinitionLaws.{AreShort, names_short, joined_numbered, joined_short}
 use Rattle.sno_runtime.proofs.Members.{IfThere, member, all_end, all_append, all_same}

@@ -1,5 +1,5 @@
 -- What the events of a match do.
-use Rattle.std.specs.Prelude.{ℕ, pos, ◌-◌, List, [], ◌∷◌, take, drop}
+use Rattle.std.specs.Prelude.{ℕ, pos, ◌-◌, List, take, drop}
 use Rattle.sno_match.specs.Search.{Event, Assign, Cursor}
 use Rattle.sno_runtime.specs.Values.{Str, Int}
 use Rattle.sno_runtime.specs.Action.{Action, gives, and_then}
@@ -19,8 +19,3 @@ effect subject event = gives tt
 -- an event's line is written, and then the event takes effect
 abbrev pub listed : List ℕ → Event → Action Unit
 listed subject event = and_then (λ w. writes (line_of w.symbols event) w) (λ done. effect subject event)
-
--- the events in their order
-abbrev pub listed_all : List ℕ → List (Event × ℕ) → Action Unit
-listed_all subject [] = gives tt
-listed_all subject (told ∷ events) = and_then (listed subject told.0) (λ done. listed_all subject events)

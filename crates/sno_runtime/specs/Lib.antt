@@ -9,12 +9,8 @@ pub mod Functions
 pub mod Containers
 pub mod Runtime
 pub mod Calls
-pub mod Types
 pub mod Fields
 pub mod Operators
 pub mod Lines
 pub mod Effects
-pub mod Performs
-pub mod Primitives
-pub mod Converted
-pub mod Operations
+pub mod inner

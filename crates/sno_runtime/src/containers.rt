@@ -3,11 +3,14 @@ ghost use Rattle.sno_runtime.specs.Values.{shown, IsValueOf};
 ghost use Rattle.sno_runtime.specs.Operators.{convert, converted, pattern_if};
 ghost use Rattle.sno_runtime.specs.Containers.{array, table, prototype, as_array};
 ghost use Rattle.sno_runtime.specs.Functions.{with_text};
-ghost use Rattle.sno_runtime.specs.Runtime.{Runtime, Does};
+ghost use Rattle.sno_runtime.specs.Runtime.{Runtime};
+ghost use Rattle.sno_runtime.specs.inner.Runtime.{Does};
 
 use crate::builtins::{Conversion, conversion_named};
 use crate::convert::{as_pattern, has_text, is_patternable, number, text_of};
-use crate::runtime::{DATA_TYPE, Exit, Runtime, error};
+use crate::errors::DATA_TYPE;
+use crate::runtime::Runtime;
+use crate::stops::{Exit, error};
 use sno_value::{Text, Value};
 use std::alloc::Global;
 

@@ -6,10 +6,13 @@ ghost use Rattle.sno_runtime.specs.Operators.{as_pattern, is_patternable};
 ghost use Rattle.sno_runtime.specs.Numbers.{number_of};
 ghost use Rattle.sno_runtime.specs.Functions.{null_where};
 ghost use Rattle.sno_runtime.specs.Variables.{text_of};
-ghost use Rattle.sno_runtime.specs.Converted.{IsThere, has_text};
-ghost use Rattle.sno_runtime.specs.Runtime.{Runtime, Does, tree_of, IsPatternOf};
+ghost use Rattle.sno_runtime.specs.inner.Converted.{IsThere, has_text};
+ghost use Rattle.sno_runtime.specs.Runtime.{Runtime, tree_of, IsPatternOf};
+ghost use Rattle.sno_runtime.specs.inner.Runtime.{Does};
 
-use crate::runtime::{DATA_TYPE, Exit, Runtime, error};
+use crate::errors::DATA_TYPE;
+use crate::runtime::Runtime;
+use crate::stops::{Exit, error};
 use sno_value::{PatId, Text, Value, int_text, to_int};
 use std::alloc::Global;
 

@@ -5,10 +5,13 @@ ghost use Rattle.sno_store.specs.Symbols.{found};
 ghost use Rattle.sno_runtime.specs.Fields.{asks_field, constructs, field_as_name, field_of, field_value};
 ghost use Rattle.sno_runtime.specs.Fields.{is_field_named};
 ghost use Rattle.sno_runtime.specs.Values.{shown, IsValueOf};
-ghost use Rattle.sno_runtime.specs.Runtime.{Does, itself, any};
+ghost use Rattle.sno_runtime.specs.Runtime.{itself};
+ghost use Rattle.sno_runtime.specs.inner.Runtime.{Does, any};
 
 use crate::convert::null;
-use crate::runtime::{DATA_TYPE, Exit, NO_VARIABLE, Runtime, error};
+use crate::errors::{DATA_TYPE, NO_VARIABLE};
+use crate::runtime::Runtime;
+use crate::stops::{Exit, error};
 use sno_value::{Name, SymId, Value};
 
 /// A new object of a type: missing arguments are null, and extra ones are dropped.

@@ -10,13 +10,16 @@ ghost use Rattle.sno_runtime.specs.Calls.{define};
 ghost use Rattle.sno_runtime.specs.Numbers.{number_of};
 ghost use Rattle.sno_runtime.specs.Functions.{plain};
 ghost use Rattle.sno_runtime.specs.Variables.{text_of};
-ghost use Rattle.sno_runtime.specs.Runtime.{Runtime, Does, tree_of, IsPatternOf};
+ghost use Rattle.sno_runtime.specs.Runtime.{Runtime, tree_of, IsPatternOf};
+ghost use Rattle.sno_runtime.specs.inner.Runtime.{Does};
 
 use crate::builtins::{Builtin, Plain};
 use crate::containers::{array, convert, prototype, table};
 use crate::convert::{as_pattern, null, number_of, text_of};
+use crate::errors::UNDEFINED_FUNCTION;
 use crate::numbers::{comparison, remainder};
-use crate::runtime::{Exit, Runtime, UNDEFINED_FUNCTION, error};
+use crate::runtime::Runtime;
+use crate::stops::{Exit, error};
 use crate::texts::{copies, is_after, replaced, size, trimmed};
 use crate::types::{datatype, define_type, differ, ident, integer};
 use sno_pattern::Arg;

@@ -5,11 +5,14 @@ ghost use Rattle.sno_pattern.specs.Table.{Node};
 ghost use Rattle.sno_runtime.specs.Values.{shown, IsValueOf};
 ghost use Rattle.sno_runtime.specs.Operators.{item_name};
 ghost use Rattle.sno_runtime.specs.Containers.{item, item_named, element_numbered, entry_read, numbers_of};
-ghost use Rattle.sno_runtime.specs.Converted.{IsThere};
-ghost use Rattle.sno_runtime.specs.Runtime.{Does, itself, any};
+ghost use Rattle.sno_runtime.specs.inner.Converted.{IsThere};
+ghost use Rattle.sno_runtime.specs.Runtime.{itself};
+ghost use Rattle.sno_runtime.specs.inner.Runtime.{Does, any};
 
 use crate::convert::{null, number_of};
-use crate::runtime::{BAD_PROTOTYPE, DATA_TYPE, Exit, Runtime, Stop, error};
+use crate::errors::{BAD_PROTOTYPE, DATA_TYPE};
+use crate::runtime::Runtime;
+use crate::stops::{Exit, Stop, error};
 use sno_value::{Name, ObjId, Value};
 use std::alloc::Global;
 

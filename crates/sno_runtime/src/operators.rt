@@ -6,20 +6,19 @@ ghost use Rattle.sno_runtime.specs.Operators.{makes_value, joined, joined_patter
 ghost use Rattle.sno_runtime.specs.Operators.{operation, pattern_with_target};
 ghost use Rattle.sno_runtime.specs.Numbers.{number_of, result_of};
 ghost use Rattle.sno_runtime.specs.Variables.{text_of};
-ghost use Rattle.sno_runtime.specs.Operations.{join_of, assignment_of, both, is_arithmetic, calculated};
-ghost use Rattle.sno_runtime.specs.Converted.{IsThere, has_text};
-ghost use Rattle.sno_runtime.specs.Runtime.{Runtime, Does, tree_of};
+ghost use Rattle.sno_runtime.specs.inner.Operations.{join_of, assignment_of, both, is_arithmetic, calculated};
+ghost use Rattle.sno_runtime.specs.inner.Converted.{IsThere, has_text};
+ghost use Rattle.sno_runtime.specs.Runtime.{Runtime, tree_of};
+ghost use Rattle.sno_runtime.specs.inner.Runtime.{Does};
 
 use crate::convert::{as_pattern, has_text, is_null, is_patternable, number_of, text_of};
-use crate::runtime::{
-    BAD_COUNT, DATA_TYPE, DIVISION_BY_ZERO, Exit, OVERFLOW, Runtime, TOO_LONG, error,
-};
+use crate::errors::{BAD_COUNT, DATA_TYPE, DIVISION_BY_ZERO, OVERFLOW, TOO_LONG};
+use crate::limits::MOST_BYTES;
+use crate::runtime::Runtime;
+use crate::stops::{Exit, error};
 use sno_text::Operator;
 use sno_value::{Arith, Name, PatId, Text, Value, add, div, mul, pow, sub};
 use std::alloc::Global;
-
-/// The most bytes of a string.
-const MOST_BYTES: usize = 1_000_000;
 
 /// How two patterns become one.
 #[derive(Clone, Copy)]

@@ -5,9 +5,11 @@ ghost use Rattle.sno_match.specs.Within.{IsWithin};
 ghost use Rattle.sno_runtime.specs.Values.{shown, IsValueOf};
 ghost use Rattle.sno_runtime.specs.Variables.{assigns, text_of};
 ghost use Rattle.sno_runtime.specs.Effects.{effect};
-ghost use Rattle.sno_runtime.specs.Performs.{Performs, IsLineOf};
+ghost use Rattle.sno_runtime.specs.inner.Performs.{Performs, IsLineOf};
 
-use crate::runtime::{DATA_TYPE, Runtime, Stop, is_output};
+use crate::errors::DATA_TYPE;
+use crate::runtime::{Runtime, is_output};
+use crate::stops::Stop;
 use sno_io::{Sink, put};
 use sno_match::Event;
 use sno_value::{Name, Text, Value, int_text};

@@ -1,10 +1,12 @@
 //! The functions of texts.
 ghost use Rattle.sno_runtime.specs.Values.{shown, IsValueOf};
 ghost use Rattle.sno_runtime.specs.Functions.{lgt, size, trim, dupl, replace};
-ghost use Rattle.sno_runtime.specs.Runtime.{Runtime, Does};
+ghost use Rattle.sno_runtime.specs.Runtime.{Runtime};
+ghost use Rattle.sno_runtime.specs.inner.Runtime.{Does};
 
 use crate::convert::{null_where, number_of, text_of};
-use crate::runtime::{Exit, Stop, TOO_LONG, error};
+use crate::errors::TOO_LONG;
+use crate::stops::{Exit, Stop, error};
 use sno_value::{Text, TextError, Value, dupl, lgt, replace, trim};
 use std::alloc::Global;
 

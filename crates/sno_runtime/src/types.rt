@@ -3,11 +3,14 @@ ghost use Rattle.std.specs.Prelude.{◌≡◌, List};
 ghost use Rattle.sno_pattern.specs.Table.{Node};
 ghost use Rattle.sno_runtime.specs.Values.{shown, IsValueOf};
 ghost use Rattle.sno_runtime.specs.Functions.{ident, differ, same, integer};
-ghost use Rattle.sno_runtime.specs.Types.{data_called, type_made, datatype};
-ghost use Rattle.sno_runtime.specs.Runtime.{Runtime, Does};
+ghost use Rattle.sno_runtime.specs.inner.Types.{data_called, type_made, datatype};
+ghost use Rattle.sno_runtime.specs.Runtime.{Runtime};
+ghost use Rattle.sno_runtime.specs.inner.Runtime.{Does};
 
 use crate::convert::{null, null_where, number, text_of};
-use crate::runtime::{DATA_TYPE, Exit, Runtime, UNDEFINED_FUNCTION, error};
+use crate::errors::{DATA_TYPE, UNDEFINED_FUNCTION};
+use crate::runtime::Runtime;
+use crate::stops::{Exit, error};
 use sno_value::{Text, Value};
 use std::alloc::Global;
 

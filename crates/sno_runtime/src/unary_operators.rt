@@ -4,11 +4,14 @@ ghost use Rattle.sno_runtime.specs.Values.{shown, IsValueOf};
 ghost use Rattle.sno_runtime.specs.Operators.{unary, unary_name, cursor_pattern, name_of};
 ghost use Rattle.sno_runtime.specs.Numbers.{number_of};
 ghost use Rattle.sno_runtime.specs.Variables.{named_by};
-ghost use Rattle.sno_runtime.specs.Runtime.{Runtime, Does, Reads, IsReady, itself, any};
+ghost use Rattle.sno_runtime.specs.Runtime.{Runtime, IsReady, itself};
+ghost use Rattle.sno_runtime.specs.inner.Runtime.{Does, Reads, any};
 
 use crate::convert::{null, number_of, text_of};
+use crate::errors::{DATA_TYPE, NO_VARIABLE};
 use crate::operators::computed;
-use crate::runtime::{DATA_TYPE, Exit, NO_VARIABLE, Runtime, error};
+use crate::runtime::Runtime;
+use crate::stops::{Exit, error};
 use sno_io::Source;
 use sno_text::UnaryOperator;
 use sno_value::{Name, Value, sub};

@@ -9,7 +9,7 @@ use Rattle.sno_value.specs.declared.value.Value.{Value}
 use Rattle.sno_value.specs.declared.value.Value.TheVariants.{Str}
 use Rattle.sno_store.specs.Calls.{with_nulls, with_arguments, entered, restored}
 use Rattle.sno_store.specs.Definitions.{Definition}
-use Rattle.sno_store.specs.Seen.{moved, known, saved_seen}
+use Rattle.sno_store.specs.inner.Seen.{moved, known, saved_seen}
 
 abbrev pub numbers : List SymId → List ℕ
 numbers symbols = map (λ symbol. symbol.0) symbols

@@ -17,7 +17,8 @@ use Rattle.sno_store.specs.declared.functions.Function.{Function}
 use Rattle.sno_store.specs.declared.functions.Function.TheVariants.{Defined}
 use Rattle.sno_store.specs.Functions.{with_function, definition_in, definition_by, with_definition}
 use Rattle.sno_store.specs.Outcomes.{IsError}
-use Rattle.sno_store.specs.Symbols.{HasMore, AreTooMany, AreJoined, IsDefinedByParts}
+use Rattle.sno_store.specs.Symbols.{HasMore}
+use Rattle.sno_store.specs.inner.Symbols.{AreTooMany, AreJoined, IsDefinedByParts}
 use Rattle.sno_store.proofs.NameLaws.{with_name, place_kept, is_joined, given_number, added, with_names-append, placed, grown, has_both, has_one}
 use Rattle.sno_store.proofs.NameLaws.{with_symbol_symbols, too_many_more, too_many_behind, too_many_same}
 

@@ -15,7 +15,8 @@ use Rattle.sno_store.specs.declared.error.StoreError.{StoreError}
 use Rattle.sno_store.specs.declared.error.StoreError.TheVariants.{NullName, Full, WrongType, BadPrototype, CallLevel, NoMemory}
 use Rattle.sno_store.specs.Store.{Store, place, is_symbol, joining, with_symbol, IsJoined}
 use Rattle.sno_store.specs.Definitions.{is_name, with_names}
-use Rattle.sno_store.specs.Symbols.{HasMore, AreTooMany, AreJoined}
+use Rattle.sno_store.specs.Symbols.{HasMore}
+use Rattle.sno_store.specs.inner.Symbols.{AreTooMany, AreJoined}
 
 -- the symbols with one name
 abbrev pub with_name : List ℕ → List (List ℕ) → List (List ℕ)

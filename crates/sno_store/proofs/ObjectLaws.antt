@@ -15,7 +15,7 @@ use Rattle.sno_store.specs.declared.object.Object.{Object as Kept}
 use Rattle.sno_store.specs.declared.object.Object.TheVariants.{Array, Table, Data}
 use Rattle.sno_store.specs.Objects.{Elements, Object, TableOf, as_table, element_value, entry_value, field_value, changed_at, changed}
 use Rattle.sno_store.specs.Outcomes.{IsError}
-use Rattle.sno_store.specs.Seen.{seen, Does, with_key, IsEntry}
+use Rattle.sno_store.specs.inner.Seen.{seen, Does, with_key, IsEntry}
 use Rattle.sno_store.specs.Stored.{is_key, stored_notions}
 use Rattle.sno_store.specs.Types.{field_values}
 use Rattle.sno_store.specs.Tables.{entry_place, entries_for, entry_into, entry_or_new, make_entry}

@@ -15,7 +15,8 @@ use Rattle.sno_store.specs.Store.{Store, place, is_symbol, IsJoined}
 use Rattle.sno_store.specs.Definitions.{Prototype, is_name, names, prototype, with_names}
 use Rattle.sno_store.specs.Functions.{with_function}
 use Rattle.sno_store.specs.Outcomes.{IsError}
-use Rattle.sno_store.specs.Symbols.{HasMore, AreTooMany, AreJoined, IsTypedByParts}
+use Rattle.sno_store.specs.Symbols.{HasMore}
+use Rattle.sno_store.specs.inner.Symbols.{AreTooMany, AreJoined, IsTypedByParts}
 use Rattle.sno_store.specs.Types.{DataType, are_new, is_of_language, makes_type, data_type, with_fields, type_in, type_by, with_type}
 use Rattle.sno_store.proofs.NameLaws.{given_number, placed, has_both}
 use Rattle.sno_store.proofs.DefineLaws.{begun_symbols, begun_more}

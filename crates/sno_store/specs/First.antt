@@ -7,10 +7,6 @@ use Rattle.sno_pattern.specs.Table.{Node, LeafNode, FenceNode, AbortNode, Succee
 abbrev pub first_patterns : List Node
 first_patterns = LeafNode Arb ∷ LeafNode Bal ∷ LeafNode Rem ∷ LeafNode Fail ∷ FenceNode ∷ AbortNode ∷ SucceedNode ∷ []
 
--- the first four of them, which search for an end
-abbrev pub search_patterns : List Node
-search_patterns = LeafNode Arb ∷ LeafNode Bal ∷ LeafNode Rem ∷ LeafNode Fail ∷ []
-
 -- a table that holds the first of these patterns, all or some or none, and nothing else
 abbrev pub IsBeginning : List Node → Type 0
 IsBeginning nodes = nodes ≡ take (length nodes) first_patterns

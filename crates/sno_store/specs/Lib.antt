@@ -11,8 +11,8 @@ pub mod Functions
 pub mod Names
 pub mod Objects
 pub mod Outcomes
-pub mod Seen
 pub mod Stored
 pub mod Symbols
 pub mod Tables
 pub mod Types
+pub mod inner

@@ -1,51 +1,12 @@
 -- What private calls say of symbols and of the variables that join. Private contracts alone cite it.
-use Rattle.std.specs.Prelude.{◌≡◌, ℕ, ◌-◌, ◌<◌, ◌≤◌, List, [], ◌∷◌, ◌++◌, codes, length, map, replicate, take, Vec}
-use Rattle.std.specs.Prelude.{Option, Some, None, Result, Ok, Err, if◌then◌else◌}
-use Rattle.std.specs.declared.alloc.Global.{Global}
-use Rattle.sno_value.specs.declared.ids.SymId.{SymId}
-use Rattle.sno_value.specs.declared.value.Value.{Value}
+use Rattle.std.specs.Prelude.{◌≡◌, ℕ, ◌-◌, List, [], ◌++◌, length, replicate, take}
+use Rattle.std.specs.Prelude.{Option, Some, None, if◌then◌else◌}
 use Rattle.sno_value.specs.declared.value.Value.TheVariants.{Str}
-use Rattle.sno_store.specs.declared.error.StoreError.{StoreError}
-use Rattle.sno_store.specs.declared.error.StoreError.TheVariants.{Full, NoMemory}
-use Rattle.sno_store.specs.Store.{Store, place, is_symbol, pattern}
-use Rattle.sno_store.specs.declared.functions.Function.TheVariants.{Constructs, Defined}
-use Rattle.sno_store.specs.Definitions.{Prototype, names, with_names, definition}
-use Rattle.sno_store.specs.Functions.{with_function}
-use Rattle.sno_store.specs.Types.{data_type, with_fields}
+use Rattle.sno_store.specs.Store.{Store, place, is_symbol}
 
 -- the number of a name, if it is a symbol
 abbrev pub found : List ℕ → List (List ℕ) → Option ℕ
 found name symbols = if is_symbol name symbols then Some (place name symbols) else None
-
--- a name joins with a value
-abbrev pub appended : List ℕ → Value → Store → Store
-appended name value c = record c { symbols = c.symbols ++ name ∷ []; values = c.values ++ value ∷ [] }
-
--- a new store by stages: nothing, then with the variables of the patterns that search for an end, then with those of
--- the patterns that steer the search
-abbrev pub no_contents : Store
-no_contents = record { symbols = []; values = []; objects = []; types = []; functions = []; calls = [] }
-
-abbrev pub with_searches : Store
-with_searches = record {
-  symbols = codes "ARB" ∷ codes "BAL" ∷ codes "REM" ∷ codes "FAIL" ∷ [];
-  values = pattern 0 ∷ pattern 1 ∷ pattern 2 ∷ pattern 3 ∷ [];
-  objects = [];
-  types = [];
-  functions = [];
-  calls = [];
-}
-
-abbrev pub with_controls : Store
-with_controls = record {
-  symbols = codes "ARB" ∷ codes "BAL" ∷ codes "REM" ∷ codes "FAIL" ∷ codes "FENCE"
-      ∷ codes "ABORT" ∷ codes "SUCCEED" ∷ [];
-  values = pattern 0 ∷ pattern 1 ∷ pattern 2 ∷ pattern 3 ∷ pattern 4 ∷ pattern 5 ∷ pattern 6 ∷ [];
-  objects = [];
-  types = [];
-  functions = [];
-  calls = [];
-}
 
 -- nothing but some symbols more, whose variables begin with null
 pub record HasMore (old new : Store) : Type 0 where
@@ -54,37 +15,3 @@ pub record HasMore (old new : Store) : Type 0 where
     symbols = new.symbols;
     values = old.values ++ replicate (length new.symbols - length old.symbols) (Str []);
   }
-
--- why names could not join: the symbols would be too many, or memory was refused
-abbrev pub AreTooMany : List (List ℕ) → List (List ℕ) → StoreError → Type 0
-AreTooMany ns symbols NoMemory = Unit {0}
-AreTooMany ns symbols Full = 1_000_000 < length (with_names ns symbols)
-AreTooMany ns symbols other = ⊥
-
--- what the call that joins names did
-abbrev pub AreJoined : List (List ℕ) → Store → Store → Result (Vec SymId Global) StoreError → Type 0
-AreJoined ns old new (Ok numbers) =
-    (new.symbols ≡ with_names ns old.symbols) × HasMore old new
-    × (map (λ id. id.0) numbers.items ≡ map (λ name. place name new.symbols) ns) × (length new.symbols ≤ 1_000_000)
-AreJoined ns old new (Err refusal) = AreTooMany ns old.symbols refusal × HasMore old new
-
--- what the call that defines a function by the parts of its prototype did
-abbrev pub IsDefinedByParts : Prototype → List ℕ → Store → Store → Result (Unit {0}) StoreError → Type 0
-IsDefinedByParts p entry old new (Ok done) =
-    (new.symbols ≡ with_names (names p) old.symbols) ×
-    (length new.symbols ≤ 1_000_000) ×
-    HasMore old (record new { functions = old.functions }) ×
-    (new.functions ≡ with_function (place p.function new.symbols)
-    (Defined (definition entry p new.symbols)) old.functions)
-IsDefinedByParts p entry old new (Err refusal) = AreTooMany (names p) old.symbols refusal × HasMore old new
-
--- what the call that makes a type by the parts of its prototype did
-abbrev pub IsTypedByParts : Prototype → Store → Store → Result (Unit {0}) StoreError → Type 0
-IsTypedByParts p old new (Ok done) =
-    (new.symbols ≡ with_names (names p) old.symbols) ×
-    (length new.symbols ≤ 1_000_000) ×
-    HasMore old (record new { types = old.types; functions = old.functions }) ×
-    (new.types ≡ old.types ++ data_type p new.symbols ∷ []) ×
-    (new.functions ≡ with_fields (map (λ name. place name new.symbols) p.formals)
-    (with_function (place p.function new.symbols) (Constructs (length old.types)) old.functions))
-IsTypedByParts p old new (Err refusal) = AreTooMany (names p) old.symbols refusal × HasMore old new

@@ -2,7 +2,7 @@
 ghost use Rattle.std.specs.Prelude.{◌≡◌, ◌+◌, ◌≤◌, [], ◌++◌, map, length, vec_len, vec_capacity, IfOk, OnErr, OnOk};
 ghost use Rattle.sno_value.specs.declared.value.Value.TheVariants.{Str};
 ghost use Rattle.sno_store.specs.Calls.{entered, function_value, restored, saved, with_arguments, with_nulls};
-ghost use Rattle.sno_store.specs.Seen.{moved};
+ghost use Rattle.sno_store.specs.inner.Seen.{moved};
 
 use crate::definition::Definition;
 use crate::values::{exchanged, null};
@@ -20,7 +20,7 @@ pub(crate) struct Call {
 impl Model for Call {
     ghost use Rattle.std.specs.Prelude.{List, ℕ};
     ghost use Rattle.sno_value.specs.declared.value.Value.{Value as Stored};
-    ghost use Rattle.sno_store.specs.Seen.{saved_seen};
+    ghost use Rattle.sno_store.specs.inner.Seen.{saved_seen};
 
     ghost Value = { List (ℕ × Stored) };
 

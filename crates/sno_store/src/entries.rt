@@ -3,7 +3,7 @@ ghost use Rattle.std.specs.Prelude.{◌≡◌, ◌<◌, ◌≤◌, ◌↔◌, �
 ghost use Rattle.std.specs.Prelude.{slice_get, IsTrue, IfOk, OnOk, OnErr};
 ghost use Rattle.indexmap.specs.IndexMap.{index_map_len, set_value_at};
 ghost use Rattle.sno_store.specs.Objects.{with_value_at};
-ghost use Rattle.sno_store.specs.Seen.{IsEntry};
+ghost use Rattle.sno_store.specs.inner.Seen.{IsEntry};
 ghost use Rattle.sno_store.specs.Stored.{is_null, is_key, stored_notions};
 ghost use Rattle.sno_store.specs.Tables.{entry_place, filled, rows};
 

@@ -4,7 +4,7 @@ ghost use Rattle.std.specs.List.{list_all, list_any};
 ghost use Rattle.std.specs.Str.{bytes_eq};
 ghost use Rattle.sno_store.specs.Definitions.{cut_at, entry_label, is_device, is_letter, is_name, is_name_byte};
 ghost use Rattle.sno_store.specs.Definitions.{is_sound, listed, prototype};
-ghost use Rattle.sno_store.specs.Seen.{prototype_seen};
+ghost use Rattle.sno_store.specs.inner.Seen.{prototype_seen};
 
 /// How many names a prototype has at most (this profile).
 pub(crate) const MOST_NAMES: usize = 100;

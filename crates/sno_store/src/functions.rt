@@ -2,7 +2,7 @@
 ghost use Rattle.std.specs.Prelude.{◌≡◌, ◌<◌, ◌≤◌, [], map, option_copied, vec_capacity, OnOk, OnErr};
 ghost use Rattle.sno_store.specs.declared.functions.Function.TheVariants.{Constructs, Defined, IsField};
 ghost use Rattle.sno_store.specs.Functions.{constructor_at, definition_at, is_field_at, with_function};
-ghost use Rattle.sno_store.specs.Seen.{reach};
+ghost use Rattle.sno_store.specs.inner.Seen.{reach};
 ghost use Rattle.sno_store.specs.Types.{with_fields};
 
 use crate::definition::Definition;

@@ -2,7 +2,7 @@
 ghost use Rattle.std.specs.Prelude.{◌≡◌, Some, option_map, option_copied};
 ghost use Rattle.sno_store.specs.Objects.{as_array, as_fields, as_table, as_type, with_element, with_entry_value};
 ghost use Rattle.sno_store.specs.Objects.{with_field};
-ghost use Rattle.sno_store.specs.Seen.{seen};
+ghost use Rattle.sno_store.specs.inner.Seen.{seen};
 
 use crate::elements::Elements;
 use crate::entries::Entries;

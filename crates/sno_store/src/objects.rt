@@ -6,7 +6,7 @@ ghost use Rattle.sno_store.specs.Objects.{DataOf, TableOf, array_at, table_at, f
 ghost use Rattle.sno_store.specs.Objects.{element_value, entry_value, field_value, joined, with_element};
 ghost use Rattle.sno_store.specs.Objects.{with_entry_value, with_field};
 ghost use Rattle.sno_store.specs.Outcomes.{IsAnswered, itself};
-ghost use Rattle.sno_store.specs.Seen.{seen, Does};
+ghost use Rattle.sno_store.specs.inner.Seen.{seen, Does};
 ghost use Rattle.sno_store.specs.Stored.{stored_notions};
 ghost use Rattle.sno_store.specs.Tables.{find_entry, make_entry, table_to_array};
 ghost use Rattle.sno_store.specs.Types.{field_values};
@@ -35,7 +35,7 @@ impl Model for Objects {
     ghost use Rattle.std.specs.Prelude.{List, ◌≤◌, length, map};
     ghost use Rattle.sno_value.specs.declared.value.Value.{Value as Stored};
     ghost use Rattle.sno_store.specs.Objects.{Object as Shown};
-    ghost use Rattle.sno_store.specs.Seen.{seen};
+    ghost use Rattle.sno_store.specs.inner.Seen.{seen};
 
     ghost Value = { List (Shown Stored) };
 

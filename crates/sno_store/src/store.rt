@@ -8,12 +8,14 @@ ghost use Rattle.sno_store.specs.Calls.{function_value, restored};
 ghost use Rattle.sno_store.specs.Store.{Store, new_store, is_symbol, IsJoined, value_of, with_value};
 ghost use Rattle.sno_store.specs.Definitions.{Definition as Shown, is_name, is_sound, listed, names, with_names};
 ghost use Rattle.sno_store.specs.Functions.{constructor_at, definition_at, is_field_at};
-ghost use Rattle.sno_store.specs.First.{first_patterns, search_patterns, IsBeginning};
+ghost use Rattle.sno_store.specs.First.{first_patterns, IsBeginning};
+ghost use Rattle.sno_store.specs.inner.First.{search_patterns};
 ghost use Rattle.sno_store.specs.Outcomes.{IsAnswered, IsDefined, IsDone, IsEntered, IsTyped, itself};
-ghost use Rattle.sno_store.specs.Seen.{prototype_seen};
+ghost use Rattle.sno_store.specs.inner.Seen.{prototype_seen};
 ghost use Rattle.sno_store.specs.Stored.{stored_notions};
-ghost use Rattle.sno_store.specs.Symbols.{appended, found, no_contents, with_searches, with_controls, AreJoined};
-ghost use Rattle.sno_store.specs.Symbols.{IsDefinedByParts, IsTypedByParts};
+ghost use Rattle.sno_store.specs.Symbols.{found};
+ghost use Rattle.sno_store.specs.inner.Symbols.{appended, no_contents, with_searches, with_controls, AreJoined};
+ghost use Rattle.sno_store.specs.inner.Symbols.{IsDefinedByParts, IsTypedByParts};
 ghost use Rattle.sno_store.specs.Tables.{new_table, find_entry, make_entry, table_to_array};
 ghost use Rattle.sno_store.specs.Types.{field_name, makes_type, new_data, object_type, type_name};
 

@@ -5,7 +5,7 @@ ghost use Rattle.std.specs.List.{list_any};
 ghost use Rattle.std.specs.Str.{bytes_eq};
 ghost use Rattle.sno_store.specs.Store.{is_symbol};
 ghost use Rattle.sno_store.specs.Definitions.{listed, names, with_names};
-ghost use Rattle.sno_store.specs.Seen.{prototype_seen};
+ghost use Rattle.sno_store.specs.inner.Seen.{prototype_seen};
 ghost use Rattle.sno_store.specs.Symbols.{found};
 
 use crate::function_prototype::{FunctionPrototype, count, is_among};

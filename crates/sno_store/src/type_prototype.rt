@@ -3,7 +3,7 @@ ghost use Rattle.std.specs.Prelude.{◌≡◌, ◌≤◌, ◌||◌, [], ◌∷�
 ghost use Rattle.std.specs.List.{list_any};
 ghost use Rattle.std.specs.Str.{bytes_eq};
 ghost use Rattle.sno_store.specs.Definitions.{listed};
-ghost use Rattle.sno_store.specs.Seen.{prototype_seen};
+ghost use Rattle.sno_store.specs.inner.Seen.{prototype_seen};
 ghost use Rattle.sno_store.specs.Types.{are_new, is_of_language, makes_type};
 
 use crate::data_type::MOST_FIELDS;

@@ -12,12 +12,13 @@ use Rattle.sno_text.specs.declared.body.Object.{Object}
 use Rattle.sno_text.specs.Bytes.{byte, can_start, IsWholeRun}
 use Rattle.sno_text.specs.Trees.{Tree, fits}
 use Rattle.sno_text.specs.Grammar.{IsBlanks, Level, Element, Reads}
-use Rattle.sno_text.specs.Links.{Starts, Stops, Refuses}
-use Rattle.sno_text.specs.Parsed.{Parsed as Found_outcome, Extends}
+use Rattle.sno_text.specs.inner.Links.{Starts, Stops, Refuses}
+use Rattle.sno_text.specs.inner.Parsed.{Parsed as Found_outcome, Extends}
 use Rattle.sno_text.specs.Statements.{HasExpression, HasObject, IsCore, HasCore, CoreTree, option_fits, core_fits, core_option_fits}
 use Rattle.sno_text.specs.Program.{option_ids, core_ids, core_option_ids}
-use Rattle.sno_text.specs.Pieces.{object_ids, MeetsColon, MeetsEquals, Gives, Lacks, StandsExpression, StandsObject, StandsCore, StandsCores, HasObjectPair}
-use Rattle.sno_text.specs.Pieces.{object_fits}
+use Rattle.sno_text.specs.Pieces.{Gives, StandsExpression, StandsCore, StandsCores}
+use Rattle.sno_text.specs.inner.Pieces.{object_ids, MeetsColon, MeetsEquals, Lacks, StandsObject, HasObjectPair}
+use Rattle.sno_text.specs.inner.Pieces.{object_fits}
 use Rattle.sno_text.proofs.Runs.{run_end_unique}
 use Rattle.sno_text.proofs.Starts.{reads_start, start_can_start}
 use Rattle.sno_text.proofs.Tables.{extends_same, grown_of, grown_trans, uses_none, uses_both}

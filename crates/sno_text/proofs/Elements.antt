@@ -4,7 +4,7 @@ use Rattle.sno_text.specs.declared.bytes.Class.TheVariants.{UnarySign}
 use Rattle.sno_text.specs.Bytes.{byte, is_unary, is_first, IsRun, IsWholeRun}
 use Rattle.sno_text.specs.Trees.{unary_operator, Tree, Unary}
 use Rattle.sno_text.specs.Grammar.{Level, Element, Primary, Reads, chain, operand, signed, plain}
-use Rattle.sno_text.specs.Links.{Stops, Finds, Refuses}
+use Rattle.sno_text.specs.inner.Links.{Stops, Finds, Refuses}
 use Rattle.sno_text.proofs.Starts.{first_not_unary, primary_is_first}
 
 -- a primary begins with no sign

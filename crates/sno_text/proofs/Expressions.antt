@@ -7,8 +7,8 @@ use Rattle.sno_text.specs.declared.table.Found.{Found}
 use Rattle.sno_text.specs.Bytes.{byte, IsWholeRun}
 use Rattle.sno_text.specs.Trees.{Tree, fits, Stands, Uses}
 use Rattle.sno_text.specs.Grammar.{IsGap, Level, IsExpression}
-use Rattle.sno_text.specs.Links.{Stops, Refuses}
-use Rattle.sno_text.specs.Parsed.{Extends, Gives, Parsed}
+use Rattle.sno_text.specs.inner.Links.{Stops, Refuses}
+use Rattle.sno_text.specs.inner.Parsed.{Extends, Gives, Parsed}
 use Rattle.sno_text.specs.Program.{IsTable}
 use Rattle.sno_text.specs.Refusals.{HasOpenLiteral, IsTooLarge, IsNoExpression, IsAccepted, IsSyntax, has_open_literal, is_deep}
 use Rattle.sno_text.proofs.Tables.{sound_of}

@@ -15,7 +15,8 @@ use Rattle.std.specs.declared.alloc.Global.{Global}
 use Rattle.sno_text.specs.declared.node.Span.{Span}
 use Rattle.sno_text.specs.declared.statement.Statement.{Statement}
 use Rattle.sno_text.specs.Lines.{part}
-use Rattle.sno_text.specs.Program.{number_of, IsLabelled, IsIndex}
+use Rattle.sno_text.specs.Program.{IsLabelled}
+use Rattle.sno_text.specs.inner.Program.{number_of, IsIndex}
 
 abbrev by_bytes : Vec ℕ Global → Vec ℕ Global → Ordering
 by_bytes x y = slice_cmp nat_cmp x.items y.items

@@ -7,7 +7,7 @@ use Rattle.sno_text.specs.declared.node.Operator.{Operator}
 use Rattle.sno_text.specs.declared.node.Operator.TheVariants.{Alternate, Concatenate, Add, Subtract, Divide, Multiply, Power, Conditional, Immediate}
 use Rattle.sno_text.specs.Bytes.{byte, is_blank, can_start, IsRun, IsWholeRun}
 use Rattle.sno_text.specs.Grammar.{IsBlanks, IsSign, Joins}
-use Rattle.sno_text.specs.Links.{Starts, single, sign_of, sign_at, width, Lands, Links, NoLink}
+use Rattle.sno_text.specs.inner.Links.{Starts, single, sign_of, sign_at, width, Lands, Links, NoLink}
 use Rattle.sno_text.proofs.Runs.{run_end_unique, in_text}
 use Rattle.sno_text.proofs.Starts.{start_not_blank, start_can_start, start_no_sign, sign_of-blank, sign_of-power}
 

@@ -10,13 +10,14 @@ use Rattle.sno_text.specs.declared.node.Span.{Span}
 use Rattle.sno_text.specs.declared.phrase.Phrase.{Phrase}
 use Rattle.sno_text.specs.Refusals.{HasOpenLiteral}
 use Rattle.sno_text.specs.Lines.{joined, part, line_of}
-use Rattle.sno_text.specs.Program.{number_of, SpansWithin, IsOptionWithin}
+use Rattle.sno_text.specs.Program.{SpansWithin, IsOptionWithin}
+use Rattle.sno_text.specs.inner.Program.{number_of}
 use Rattle.sno_text.proofs.Soundness.{label_of, option_wider}
-use Rattle.sno_text.specs.Parsed.{Extends, extended, IsSound}
+use Rattle.sno_text.specs.inner.Parsed.{Extends, extended, IsSound}
 use Rattle.sno_text.specs.Statements.{StatementTree, statement_fits}
 use Rattle.sno_text.specs.Phrases.{GivesPhrase}
 use Rattle.sno_text.specs.Programs.{Row, IsTooLargeBytes, IsStatementAt, HasLargeInteger, HasDuplicate, HasNoEntry, IsRefusedAt}
-use Rattle.sno_text.specs.Judging.{Knows, IsShapeRefused, IsLabelRefused, Accepts}
+use Rattle.sno_text.specs.inner.Judging.{Knows, IsShapeRefused, IsLabelRefused, Accepts}
 use Rattle.sno_text.specs.declared.node.Node.TheVariants as nodes
 
 abbrev Entries : Type 0

@@ -10,12 +10,14 @@ use Rattle.sno_text.specs.declared.statement.Jump.TheVariants as jumps
 use Rattle.sno_text.specs.declared.goto.Targets.{Targets}
 use Rattle.sno_text.specs.Bytes.{byte, is_blank, IsWholeRun}
 use Rattle.sno_text.specs.Grammar.{IsGap, IsBlanks}
-use Rattle.sno_text.specs.Parsed.{Extends}
+use Rattle.sno_text.specs.inner.Parsed.{Extends}
 use Rattle.sno_text.specs.Statements.{TargetTree, JumpTree, Fall, Always, Either, IsTarget, HasOther, HasTargets, IsBranch, always, success, failure, HasJump}
 use Rattle.sno_text.specs.Statements.{target_fits, target_option_fits, jump_fits}
 use Rattle.sno_text.specs.Program.{target_ids, target_option_ids, jump_ids}
-use Rattle.sno_text.specs.Pieces.{pair_ids, MeetsEnd, Anywhere, Gives, Lacks, StandsTarget, StandsTargets, StandsJump, HasTargetPair, StandsTargetPair}
-use Rattle.sno_text.specs.Pieces.{pair_fits}
+use Rattle.sno_text.specs.Pieces.{Gives, StandsTarget, StandsJump}
+use Rattle.sno_text.specs.inner.Pieces.{pair_ids, MeetsEnd, Anywhere, Lacks, StandsTargets, HasTargetPair}
+use Rattle.sno_text.specs.inner.Pieces.{StandsTargetPair}
+use Rattle.sno_text.specs.inner.Pieces.{pair_fits}
 use Rattle.sno_text.proofs.Runs.{run_end_unique}
 use Rattle.sno_text.proofs.Standing.{stands_target_more}
 use Rattle.sno_text.proofs.Tables.{extends_same, grown_of, uses_none, uses_both, uses_swapped}

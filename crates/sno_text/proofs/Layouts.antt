@@ -13,7 +13,7 @@ use Rattle.sno_text.specs.Bytes.{is_blank}
 use Rattle.sno_text.specs.Refusals.{quote_step}
 use Rattle.sno_text.specs.Lines.{is_skipped, is_continuation, line_feeds, own, continued, prepend, cards_from, joined, cut, statements_of, moved, extents_from}
 use Rattle.sno_text.specs.Lines.{extents}
-use Rattle.sno_text.specs.Layouts.{kind_of, read_line, part_from, kept}
+use Rattle.sno_text.specs.inner.Layouts.{kind_of, read_line, part_from, kept}
 
 dropped : (i : ℕ) (s : List ℕ) → i < length s → drop i s ≡ get_or s i 0 ∷ drop (i + 1) s
 dropped i s h = rw (add-one, drop-cons s i 0) refl

@@ -6,7 +6,7 @@ use Rattle.sno_text.specs.declared.node.Operator.TheVariants.{Power}
 use Rattle.sno_text.specs.Bytes.{is_blank, is_opening}
 use Rattle.sno_text.specs.Trees.{Tree, Binary}
 use Rattle.sno_text.specs.Grammar.{level_of, Level, Rest, Reads, chain, operand, done, left, right}
-use Rattle.sno_text.specs.Links.{Links, Stops, Finds, Refuses, Grows}
+use Rattle.sno_text.specs.inner.Links.{Links, Stops, Finds, Refuses, Grows}
 use Rattle.sno_text.proofs.Starts.{reads_start}
 use Rattle.sno_text.proofs.Joints.{joins_link, link_joins, link_unique}
 

@@ -5,7 +5,7 @@ use Rattle.sno_text.specs.declared.bytes.Class.TheVariants.{Blank}
 use Rattle.sno_text.specs.Bytes.{byte, is_blank, is_closing, IsWholeRun}
 use Rattle.sno_text.specs.Trees.{Tree, Literal, One, And}
 use Rattle.sno_text.specs.Grammar.{IsGap, Level, Arguments, More, Argument, Reads, arguments, last, next, empty, given}
-use Rattle.sno_text.specs.Links.{Starts, Stops, Finds, Refuses, Lists, Shuts, Closes}
+use Rattle.sno_text.specs.inner.Links.{Starts, Stops, Finds, Refuses, Lists, Shuts, Closes}
 use Rattle.sno_text.proofs.Runs.{run_end_unique}
 use Rattle.sno_text.proofs.Starts.{reads_start, start_not_blank}
 use Rattle.sno_text.proofs.Primaries.{end_byte_closes, inner_only, inner_none, start_no_end, closes_not_blank}

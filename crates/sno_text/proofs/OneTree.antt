@@ -9,7 +9,7 @@ use Rattle.sno_text.specs.Trees.{Tree, Binary}
 use Rattle.sno_text.specs.Grammar.{IsGap, Nonterminal, Level, Rest, Element, Primary, Arguments, More, Argument, Reads, chain, operand, done, left, right}
 use Rattle.sno_text.specs.Grammar.{signed}
 use Rattle.sno_text.specs.Grammar.{plain, variable, integer, literal, keyword, group, apply, arguments, last, next, empty, given, IsExpression}
-use Rattle.sno_text.specs.Links.{Starts, Stops, Shuts, Closes, Finds, Grows, Lists}
+use Rattle.sno_text.specs.inner.Links.{Starts, Stops, Shuts, Closes, Finds, Grows, Lists}
 use Rattle.sno_text.proofs.Starts.{reads_start, start_not_blank, primary_is_first, first_not_unary}
 use Rattle.sno_text.proofs.Joints.{joins_link}
 use Rattle.sno_text.proofs.Levels.{rest_stops, grows_first, grows_left, finds_right, finds_done}

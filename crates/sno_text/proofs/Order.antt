@@ -10,7 +10,7 @@ use Rattle.sno_text.specs.declared.node.Span.{Span}
 use Rattle.sno_text.specs.Refusals.{quote_step}
 use Rattle.sno_text.specs.Lines.{is_skipped, is_continuation, line_feeds, end_feeds, own, continued, prepend, cards_from, cards, joined, cut, statements_of}
 use Rattle.sno_text.specs.Lines.{moved, extents_from, extents}
-use Rattle.sno_text.specs.Layouts.{InOrder}
+use Rattle.sno_text.specs.inner.Layouts.{InOrder}
 use Rattle.sno_text.proofs.Layouts.{concat_prepend, length_added, continuation_some}
 
 order_within : (at n : ℕ) (es : List Span) → InOrder at n es → at ≤ n

@@ -12,14 +12,16 @@ use Rattle.sno_text.specs.declared.statement.Jump.TheVariants as jumps
 use Rattle.sno_text.specs.declared.phrase.Phrase.{Phrase}
 use Rattle.sno_text.specs.Bytes.{byte, is_blank, is_letter, is_digit, IsWholeRun}
 use Rattle.sno_text.specs.Grammar.{IsGap, IsBlanks}
-use Rattle.sno_text.specs.Parsed.{Extends}
+use Rattle.sno_text.specs.inner.Parsed.{Extends}
 use Rattle.sno_text.specs.Lines.{part}
 use Rattle.sno_text.specs.Statements.{IsLabel, JumpTree, Fall, Always, Either, HasJump, CoreTree, HasCore, HasLabel, HasEntry, StatementTree, IsPlain, IsEnd}
 use Rattle.sno_text.specs.Statements.{IsStatement, core_option_fits, jump_fits}
 use Rattle.sno_text.specs.Program.{core_option_ids, jump_ids}
 use Rattle.sno_text.proofs.Tables.{grown_of, uses_none, uses_both}
-use Rattle.sno_text.specs.Pieces.{MeetsEnd, MeetsColon, Gives, Lacks, StandsCores, StandsJump}
-use Rattle.sno_text.specs.Phrases.{IsRest, IsEndRest, FindsEntry, PhraseOutcome, GivesPhrase}
+use Rattle.sno_text.specs.Pieces.{Gives, StandsCores, StandsJump}
+use Rattle.sno_text.specs.inner.Pieces.{MeetsEnd, MeetsColon, Lacks}
+use Rattle.sno_text.specs.Phrases.{IsRest, GivesPhrase}
+use Rattle.sno_text.specs.inner.Phrases.{IsEndRest, FindsEntry, PhraseOutcome}
 use Rattle.sno_text.proofs.Runs.{run_end_unique}
 use Rattle.sno_text.proofs.Standing.{stands_cores_more}
 use Rattle.sno_text.proofs.Jumps.{fits_both}

@@ -9,7 +9,7 @@ use Rattle.sno_text.specs.Bytes.{byte, is_blank, is_unary, is_first, is_letter, 
 use Rattle.sno_text.specs.Trees.{Tree, Variable, Integer, Literal, Keyword}
 use Rattle.sno_text.specs.Grammar.{decimal, applied, IsPair, IsGap, IsName, IsDigits, IsLiteral, Level, Primary, Arguments, Reads, variable, integer, literal}
 use Rattle.sno_text.specs.Grammar.{keyword, group, apply}
-use Rattle.sno_text.specs.Links.{Starts, Stops, Finds, Refuses, Shuts, Closes, sign_of, sign_at, single, Lands}
+use Rattle.sno_text.specs.inner.Links.{Starts, Stops, Finds, Refuses, Shuts, Closes, sign_of, sign_at, single, Lands}
 use Rattle.sno_text.proofs.Runs.{run_end_unique}
 use Rattle.sno_text.proofs.Starts.{reads_start, start_not_blank, start_can_start}
 

@@ -13,13 +13,14 @@ use Rattle.sno_text.specs.declared.node.Span.{Span}
 use Rattle.sno_text.specs.declared.phrase.Phrase.{Phrase}
 use Rattle.sno_text.specs.declared.statement.Statement.{Statement}
 use Rattle.sno_text.specs.Lines.{joined, extents, part, line_of}
-use Rattle.sno_text.specs.Layouts.{InOrder}
-use Rattle.sno_text.specs.Program.{program_ids, statement_ids, Program, IsWithin, number_of, IsLabelled, IsIndex, IsStatementOf, IsWhole}
-use Rattle.sno_text.specs.Parsed.{Extends}
+use Rattle.sno_text.specs.inner.Layouts.{InOrder}
+use Rattle.sno_text.specs.Program.{program_ids, statement_ids, Program, IsWithin, IsLabelled, IsStatementOf}
+use Rattle.sno_text.specs.inner.Program.{number_of, IsIndex, IsWhole}
+use Rattle.sno_text.specs.inner.Parsed.{Extends}
 use Rattle.sno_text.specs.Statements.{StatementTree}
 use Rattle.sno_text.specs.Phrases.{phrase_ids, StandsStatement, StandsProgram}
 use Rattle.sno_text.specs.Programs.{HasLabelled, IsRefusedAt, none, one_more, IsProgram, IsRefusedProgram, statement, no_end}
-use Rattle.sno_text.specs.Judging.{Knows, Accepts, statement_of, IsTabled, IsReading}
+use Rattle.sno_text.specs.inner.Judging.{Knows, Accepts, statement_of, IsTabled, IsReading}
 use Rattle.sno_text.proofs.Tables.{uses_none, uses_both, extends_none, extends_trans, length_grown, grown_of}
 use Rattle.sno_text.proofs.Standing.{stands_cores_more, stands_jump_more}
 use Rattle.sno_text.proofs.Expressions.{whole_table}

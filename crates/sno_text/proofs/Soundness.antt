@@ -15,9 +15,10 @@ use Rattle.sno_text.specs.Trees.{Tree}
 use Rattle.sno_text.specs.Program.{IsOptionWithin, IsOptionBelow, IsTargetOf, IsTargetOptionOf, IsJumpOf, IsCoreOf, IsStatementOf}
 use Rattle.sno_text.specs.Statements.{TargetTree, Label, Computed, JumpTree, Fall, Always, Either, CoreTree, IsLabel, IsPlace, label, computed, IsTarget}
 use Rattle.sno_text.specs.Statements.{HasOther, IsBranch, always, success, failure, HasJump, HasLabel, HasEntry, StatementTree, IsStatement}
-use Rattle.sno_text.specs.Pieces.{StandsTarget, StandsTargets, StandsJump, StandsExpression, StandsCores}
+use Rattle.sno_text.specs.Pieces.{StandsTarget, StandsJump, StandsExpression, StandsCores}
+use Rattle.sno_text.specs.inner.Pieces.{StandsTargets}
 use Rattle.sno_text.specs.Phrases.{StandsPhrase}
-use Rattle.sno_text.specs.Judging.{statement_of}
+use Rattle.sno_text.specs.inner.Judging.{statement_of}
 use Rattle.sno_text.proofs.Runs.{in_text}
 use Rattle.sno_text.proofs.Tables.{stands_id_below, run_some}
 use Rattle.sno_text.proofs.Targets.{label_name_byte}

@@ -8,9 +8,10 @@ use Rattle.sno_text.specs.declared.statement.Jump.{Jump}
 use Rattle.sno_text.specs.declared.statement.Jump.TheVariants as jumps
 use Rattle.sno_text.specs.declared.statement.Core.{Core}
 use Rattle.sno_text.specs.Trees.{Tree, Stands}
-use Rattle.sno_text.specs.Parsed.{Extends}
+use Rattle.sno_text.specs.inner.Parsed.{Extends}
 use Rattle.sno_text.specs.Statements.{TargetTree, Label, Computed, JumpTree, Fall, Always, Either, CoreTree}
-use Rattle.sno_text.specs.Pieces.{StandsTarget, StandsTargets, StandsJump, StandsExpression, StandsCore, StandsCores}
+use Rattle.sno_text.specs.Pieces.{StandsTarget, StandsJump, StandsExpression, StandsCore, StandsCores}
+use Rattle.sno_text.specs.inner.Pieces.{StandsTargets}
 use Rattle.sno_text.proofs.Tables.{grown_of, stands_more}
 
 pub stands_kept : {n : ℕ} {old new : List Node} (id : ExprId) (t : Tree) → Extends n old new → Stands old id t → Stands new id t

@@ -9,7 +9,7 @@ use Rattle.sno_text.specs.Trees.{Tree}
 use Rattle.sno_text.specs.Grammar.{Nonterminal, Level, Rest, Element, Primary, Reads, chain, operand, done, left, right, signed, plain, variable, integer}
 use Rattle.sno_text.specs.Grammar.{literal}
 use Rattle.sno_text.specs.Grammar.{keyword, group, apply, arguments, last, next, empty, given, Arguments, More, Argument}
-use Rattle.sno_text.specs.Links.{Starts, single, sign_of, sign_at}
+use Rattle.sno_text.specs.inner.Links.{Starts, single, sign_of, sign_at}
 use Rattle.sno_text.proofs.Runs.{run_none}
 
 pub letter_is_first : (b : ℕ) → is_letter b ≡ true → is_first b ≡ true

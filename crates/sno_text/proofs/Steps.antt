@@ -20,8 +20,8 @@ use Rattle.sno_text.specs.Trees.{unary_operator, Tree, Literal, Unary, Binary, I
 use Rattle.sno_text.specs.Grammar.{level_of, applied, IsPair, IsName, Nonterminal, Level, Element, Primary, Argument, Arguments}
 use Rattle.std.specs.List.{AllByRecursion}
 use Rattle.sno_text.specs.Program.{IsWithin}
-use Rattle.sno_text.specs.Links.{Links, NoLink, Stops, Finds, Refuses, Shuts, Closes}
-use Rattle.sno_text.specs.Parsed.{applied_node, IsSound, Extends, Parsed, Growing, ParsedArgument, GivesList, Listing, ParsedList}
+use Rattle.sno_text.specs.inner.Links.{Links, NoLink, Stops, Finds, Refuses, Shuts, Closes}
+use Rattle.sno_text.specs.inner.Parsed.{applied_node, IsSound, Extends, Parsed, Growing, ParsedArgument, GivesList, Listing, ParsedList}
 use Rattle.sno_text.proofs.Levels.{grows_first, refuses_first, grows_left, refuses_left, finds_right, refuses_right, finds_done}
 use Rattle.sno_text.proofs.Elements.{finds_plain, finds_signed, refuses_element, finds_operand, refuses_operand}
 use Rattle.std.proofs.lemmas.List.{get_or_past}

@@ -8,8 +8,8 @@ use Rattle.sno_text.specs.declared.node.Operator.{Operator}
 use Rattle.sno_text.specs.declared.node.Operator.TheVariants.{Alternate, Concatenate, Add, Subtract, Divide, Multiply, Power, Conditional, Immediate}
 use Rattle.sno_text.specs.Bytes.{byte, is_blank, is_letter, is_digit, is_first, is_unary, is_opening, can_start, IsWholeRun}
 use Rattle.sno_text.specs.Grammar.{level_of, IsGap, IsBlanks}
-use Rattle.sno_text.specs.Links.{Starts, Stops, single}
-use Rattle.sno_text.specs.Pieces.{MeetsEnd, MeetsColon, MeetsEquals}
+use Rattle.sno_text.specs.inner.Links.{Starts, Stops, single}
+use Rattle.sno_text.specs.inner.Pieces.{MeetsEnd, MeetsColon, MeetsEquals}
 use Rattle.sno_text.proofs.Runs.{run_end_unique}
 use Rattle.sno_text.proofs.Starts.{start_not_blank}
 use Rattle.sno_text.proofs.Primaries.{IsEndByte, end_byte_zero, gap_stops}

@@ -11,12 +11,13 @@ use Rattle.sno_text.specs.declared.node.Node.{Node}
 use Rattle.sno_text.specs.declared.node.Node.TheVariants as nodes
 use Rattle.sno_value.specs.declared.ids.ExprId.{ExprId}
 use Rattle.sno_text.specs.declared.table.Found.{Found}
-use Rattle.sno_text.specs.Bytes.{byte, in_class, is_letter, is_digit, is_name_byte, is_opening, IsWholeRun, IsLiteralEnd, NoLiteralEnd}
+use Rattle.sno_text.specs.Bytes.{byte, in_class, is_letter, is_digit, is_name_byte, is_opening, IsWholeRun}
+use Rattle.sno_text.specs.inner.Bytes.{IsLiteralEnd, NoLiteralEnd}
 use Rattle.sno_text.specs.Trees.{Tree, Variable, Integer, Literal, Keyword, Unary, Binary, Call, Item, One, And, fits, Holds, StandsFor, operands, IsOneOf}
 use Rattle.sno_text.specs.Trees.{IsPart, whole, operand, Uses}
 use Rattle.sno_text.specs.Grammar.{decimal, IsLiteral, Level, Primary}
-use Rattle.sno_text.specs.Links.{Stops, Finds, Refuses}
-use Rattle.sno_text.specs.Parsed.{IsSound, Grown, Extends, extended, Parsed}
+use Rattle.sno_text.specs.inner.Links.{Stops, Finds, Refuses}
+use Rattle.sno_text.specs.inner.Parsed.{IsSound, Grown, Extends, extended, Parsed}
 use Rattle.sno_text.proofs.Primaries.{finds_keyword, refuses_keyword, finds_variable, finds_literal, refuses_literal, finds_integer, finds_group, refuses_group}
 use Rattle.sno_text.proofs.Primaries.{refuses_unclosed}
 

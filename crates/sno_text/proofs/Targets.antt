@@ -13,11 +13,12 @@ use Rattle.sno_text.specs.declared.statement.Target.TheVariants as targets
 use Rattle.sno_text.specs.Bytes.{byte, is_blank, is_letter, is_digit, is_name_byte, IsWholeRun}
 use Rattle.sno_text.specs.Trees.{Tree}
 use Rattle.sno_text.specs.Grammar.{IsGap, Element, Reads}
-use Rattle.sno_text.specs.Links.{Stops, Refuses}
-use Rattle.sno_text.specs.Parsed.{Parsed as Found_outcome}
+use Rattle.sno_text.specs.inner.Links.{Stops, Refuses}
+use Rattle.sno_text.specs.inner.Parsed.{Parsed as Found_outcome}
 use Rattle.sno_text.specs.Statements.{TargetTree, Label, Computed, IsLabel, IsPlace, label, computed, IsTarget, HasOther, target_fits, target_option_fits}
 use Rattle.sno_text.specs.Program.{target_ids, target_option_ids}
-use Rattle.sno_text.specs.Pieces.{MeetsEnd, Anywhere, Gives, Lacks, StandsTarget, StandsTargets}
+use Rattle.sno_text.specs.Pieces.{Gives, StandsTarget}
+use Rattle.sno_text.specs.inner.Pieces.{MeetsEnd, Anywhere, Lacks, StandsTargets}
 use Rattle.sno_text.proofs.Runs.{run_end_unique}
 use Rattle.sno_text.proofs.Primaries.{gap_stops, end_byte_bracket}
 use Rattle.sno_text.proofs.Tables.{run_some, grown_of, extends_same, extends_trans, stands_more, uses_none}

@@ -1,5 +1,5 @@
 -- The bytes of a program text by class, runs of them, and the tokens that are runs.
-use Rattle.std.specs.Prelude.{◌≡◌, ℕ, ◌≤◌, ◌<◌, ◌≢◌, List, Bool, true, false, ◌||◌, ◌&&◌, ◌==◌, nat_le, length}
+use Rattle.std.specs.Prelude.{◌≡◌, ℕ, ◌≤◌, ◌<◌, List, Bool, true, false, ◌||◌, ◌&&◌, ◌==◌, nat_le}
 use Rattle.std.specs.Prelude.{slice_index}
 use Rattle.sno_text.specs.declared.bytes.Class.{Class}
 use Rattle.sno_text.specs.declared.bytes.Class.TheVariants.{Blank, NameByte, Digit, Letter, UnarySign, Opening, Start}
@@ -62,15 +62,3 @@ pub record IsRun (c : Class) (s : List ℕ) (i j : ℕ) : Type 0 where
 pub record IsWholeRun (c : Class) (s : List ℕ) (i j : ℕ) : Type 0 where
   pub run : IsRun c s i j
   pub stop : in_class c (byte s j) ≡ false
-
--- at is where the quote b closes a literal whose inside begins at i: the first such quote, on the same line
-pub record IsLiteralEnd (s : List ℕ) (b i at : ℕ) : Type 0 where
-  pub order : i ≤ at
-  pub within : at < length s
-  pub here : byte s at ≡ b
-  pub inside : (k : ℕ) → i ≤ k → k < at → byte s k ≢ b
-  pub line : (k : ℕ) → i ≤ k → k < at → byte s k ≢ 10
-
--- Nothing closes it.
-pub record NoLiteralEnd (s : List ℕ) (b i : ℕ) : Type 0 where
-  pub none : (at : ℕ) → IsLiteralEnd s b i at → ⊥

@@ -3,12 +3,9 @@ pub mod Trees
 pub mod Grammar
 pub mod Refusals
 pub mod Program
-pub mod Links
-pub mod Parsed
 pub mod Lines
-pub mod Layouts
 pub mod Statements
 pub mod Pieces
 pub mod Phrases
 pub mod Programs
-pub mod Judging
+pub mod inner

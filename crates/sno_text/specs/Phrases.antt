@@ -5,13 +5,12 @@ use Rattle.sno_text.specs.declared.node.Span.{Span}
 use Rattle.sno_text.specs.declared.phrase.Phrase.{Phrase}
 use Rattle.sno_text.specs.declared.statement.Statement.{Statement}
 use Rattle.sno_text.specs.Grammar.{IsGap}
-use Rattle.sno_text.specs.Statements.{StatementTree, Fall, HasCore, HasJump, HasEntry, IsStatement, statement_fits}
+use Rattle.sno_text.specs.Statements.{StatementTree, Fall, HasCore, HasJump, statement_fits}
 use Rattle.sno_text.specs.Lines.{extents, line_of}
 use Rattle.sno_value.specs.declared.ids.ExprId.{ExprId}
 use Rattle.sno_text.specs.Trees.{Uses}
 use Rattle.sno_text.specs.Program.{Program, core_option_ids, jump_ids, program_ids}
-use Rattle.sno_text.specs.Pieces.{MeetsEnd, StandsCores, StandsJump}
-use Rattle.sno_text.specs.declared.table.Read.{Read}
+use Rattle.sno_text.specs.Pieces.{StandsCores, StandsJump}
 
 -- [b core] [b goto] [b], behind a label that ends at i
 pub record IsRest (s : List ℕ) (given : Option Span) (i : ℕ) (t : StatementTree) : Type 0 where
@@ -42,36 +41,6 @@ pub record GivesPhrase (P : StatementTree → Type 0) (n i : ℕ) (old new : Lis
   pub fits : p.fits ≡ statement_fits tree
   pub room : length new + i ≤ length old + n
   pub used : Uses new (length old) (phrase_ids p)
-
-abbrev pub PhraseOutcome : (StatementTree → Type 0) → ℕ → ℕ → List Node → List Node → Option Phrase → Type 0
-PhraseOutcome P n i old new None = (u : StatementTree) → P u → ⊥
-PhraseOutcome P n i old new (Some p) = GivesPhrase P n i old new p
-
-abbrev pub PlainOutcome : List ℕ → Option Span → ℕ → List Node → List Node → Option Phrase → Type 0
-PlainOutcome s label i old new = PhraseOutcome (IsRest s label i) (length s) i old new
-
-abbrev pub StatementOutcome : List ℕ → ℕ → List Node → List Node → Option Phrase → Type 0
-StatementOutcome s i old new = PhraseOutcome (IsStatement s i) (length s) i old new
-
--- [b label] [b], behind END
-pub record IsEndRest (s : List ℕ) (given : Span) (t : StatementTree) : Type 0 where
-  pub after_entry : ℕ
-  pub label : t.label ≡ Some given
-  pub entry : HasEntry s given.end after_entry t.entry
-  pub rest : IsGap s after_entry (length s)
-  pub core : t.core ≡ None
-  pub jump : t.jump ≡ Fall
-
--- [b label] was read, and there is no other that ends where the statement does.
-pub record FindsEntry (s : List ℕ) (i : ℕ) (f : Read (Option Span)) : Type 0 where
-  pub reads : HasEntry s i f.end f.what
-  pub only : (k : ℕ) (u : Option Span) → HasEntry s i k u → MeetsEnd s k → (k ≡ f.end) × (u ≡ f.what)
-  pub order : i ≤ f.end
-  pub within : f.end ≤ length s
-
-abbrev pub EndOutcome : List ℕ → Span → Option Phrase → Type 0
-EndOutcome s label found =
-    (table : List Node) → PhraseOutcome (IsEndRest s label) (length s) label.end table table found
 
 -- A statement of a program stands for a tree, s being the program's text.
 pub record StandsStatement (s : List ℕ) (table : List Node) (st : Statement) (span : Span)

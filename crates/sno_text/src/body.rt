@@ -4,10 +4,12 @@ ghost use Rattle.sno_text.specs.Trees.{Tree};
 ghost use Rattle.sno_text.specs.Statements.{HasExpression, HasObject, IsCore, HasCore, CoreTree, option_fits};
 ghost use Rattle.sno_text.specs.Statements.{core_fits, core_option_fits};
 ghost use Rattle.sno_text.specs.Program.{option_ids, core_ids, core_option_ids};
-ghost use Rattle.sno_text.specs.Parsed.{Extends};
-ghost use Rattle.sno_text.specs.Pieces.{ParsedPiece, MeetsColon, MeetsEquals, StandsExpression, StandsObject};
+ghost use Rattle.sno_text.specs.inner.Parsed.{Extends};
+ghost use Rattle.sno_text.specs.Pieces.{StandsExpression};
+ghost use Rattle.sno_text.specs.inner.Pieces.{ParsedPiece, MeetsColon, MeetsEquals, StandsObject};
 ghost use Rattle.sno_text.specs.Pieces.{StandsCore};
-ghost use Rattle.sno_text.specs.Pieces.{StandsCores, HasObjectPair, object_ids, object_fits};
+ghost use Rattle.sno_text.specs.Pieces.{StandsCores};
+ghost use Rattle.sno_text.specs.inner.Pieces.{HasObjectPair, object_ids, object_fits};
 
 use crate::bytes::{Class, byte_at, is_in, run_end};
 use crate::expression::{read_element, read_level};

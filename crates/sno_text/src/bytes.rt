@@ -1,6 +1,7 @@
 //! The bytes of a text by class, and runs of them.
 ghost use Rattle.std.specs.Prelude.{◌≡◌, ◌≢◌, ◌+◌, ◌≤◌, ◌<◌, ℕ, length, MatchOption};
-ghost use Rattle.sno_text.specs.Bytes.{byte, in_class, IsWholeRun, IsLiteralEnd, NoLiteralEnd};
+ghost use Rattle.sno_text.specs.Bytes.{byte, in_class, IsWholeRun};
+ghost use Rattle.sno_text.specs.inner.Bytes.{IsLiteralEnd, NoLiteralEnd};
 ghost use Rattle.sno_text.specs.Bytes as spec;
 
 /// A class of bytes.

@@ -5,8 +5,8 @@
 ghost use Rattle.std.specs.Prelude.{◌≡◌, ◌+◌, ◌^◌, ◌<◌, ◌≤◌, true, false, length, IfOk};
 ghost use Rattle.sno_text.specs.Bytes.{byte, is_letter};
 ghost use Rattle.sno_text.specs.Grammar.{IsPair, Level, Element, Primary};
-ghost use Rattle.sno_text.specs.Links.{Stops};
-ghost use Rattle.sno_text.specs.Parsed.{Parsed, ParsedArgument, ParsedList, Extends};
+ghost use Rattle.sno_text.specs.inner.Links.{Stops};
+ghost use Rattle.sno_text.specs.inner.Parsed.{Parsed, ParsedArgument, ParsedList, Extends};
 
 use crate::bytes::{Class, byte_at, is_in, run_end};
 use crate::node::{Node, Span};

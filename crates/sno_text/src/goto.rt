@@ -2,12 +2,13 @@
 ghost use Rattle.std.specs.Prelude.{◌≡◌, ◌+◌, ◌^◌, ◌<◌, ◌≤◌, ◌⊎◌, ℕ, length, Option, IfOk, MatchOption};
 ghost use Rattle.sno_text.specs.Statements.{IsLabel, IsPlace, IsTarget, HasOther, IsBranch, HasJump, TargetTree};
 ghost use Rattle.sno_text.specs.Statements.{JumpTree, target_fits, target_option_fits, jump_fits};
-ghost use Rattle.sno_text.specs.Links.{Stops};
+ghost use Rattle.sno_text.specs.inner.Links.{Stops};
 ghost use Rattle.sno_text.specs.Program.{target_ids, target_option_ids, jump_ids};
-ghost use Rattle.sno_text.specs.Parsed.{Extends};
-ghost use Rattle.sno_text.specs.Pieces.{ParsedPiece, MeetsEnd, StandsTarget, StandsTargets, StandsTargetPair};
+ghost use Rattle.sno_text.specs.inner.Parsed.{Extends};
+ghost use Rattle.sno_text.specs.Pieces.{StandsTarget};
+ghost use Rattle.sno_text.specs.inner.Pieces.{ParsedPiece, MeetsEnd, StandsTargets, StandsTargetPair};
 ghost use Rattle.sno_text.specs.Pieces.{StandsJump};
-ghost use Rattle.sno_text.specs.Pieces.{HasTargetPair, pair_ids, pair_fits, Anywhere};
+ghost use Rattle.sno_text.specs.inner.Pieces.{HasTargetPair, pair_ids, pair_fits, Anywhere};
 
 use crate::bytes::{Class, byte_at, is_in, run_end};
 use crate::expression::read_element;

@@ -4,11 +4,12 @@ ghost use Rattle.std.specs.Prelude.{length, codes, is_some, IfOk, IfErr, IfNone,
 ghost use Rattle.sno_text.specs.Lines as lines;
 ghost use Rattle.sno_text.specs.Lines.{part};
 ghost use Rattle.sno_text.specs.Refusals.{HasOpenLiteral};
-ghost use Rattle.sno_text.specs.Program.{number_of, IsIndex, IsWithin, IsOptionWithin};
+ghost use Rattle.sno_text.specs.Program.{IsWithin, IsOptionWithin};
+ghost use Rattle.sno_text.specs.inner.Program.{number_of, IsIndex};
 ghost use Rattle.sno_text.specs.Statements.{StatementTree};
-ghost use Rattle.sno_text.specs.Parsed.{Extends};
+ghost use Rattle.sno_text.specs.inner.Parsed.{Extends};
 ghost use Rattle.sno_text.specs.Programs.{IsTooLargeBytes, IsRefusedAt};
-ghost use Rattle.sno_text.specs.Judging.{Knows, Accepts, IsShapeRefused, IsLabelRefused, statement_of};
+ghost use Rattle.sno_text.specs.inner.Judging.{Knows, Accepts, IsShapeRefused, IsLabelRefused, statement_of};
 
 use crate::error::ReadError;
 use crate::node::{Node, Span};

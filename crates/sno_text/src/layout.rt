@@ -5,7 +5,7 @@ ghost use Rattle.bstr.specs.Text.{without_terminator};
 ghost use Rattle.sno_text.specs.Bytes.{is_blank};
 ghost use Rattle.sno_text.specs.Lines as spec;
 ghost use Rattle.sno_text.specs.Lines.{is_continuation};
-ghost use Rattle.sno_text.specs.Layouts.{kind_of, read_line, part_from, InOrder};
+ghost use Rattle.sno_text.specs.inner.Layouts.{kind_of, read_line, part_from, InOrder};
 
 use crate::bytes::{Class, is_in};
 use crate::node::Span;

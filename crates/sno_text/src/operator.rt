@@ -3,7 +3,7 @@ ghost use Rattle.std.specs.Prelude.{◌≡◌, ◌≤◌, ◌<◌, length, true,
 ghost use Rattle.sno_text.specs.Bytes.{is_unary};
 ghost use Rattle.sno_text.specs.Trees as trees;
 ghost use Rattle.sno_text.specs.Grammar.{level_of};
-ghost use Rattle.sno_text.specs.Links.{sign_at, width, Links, NoLink};
+ghost use Rattle.sno_text.specs.inner.Links.{sign_at, width, Links, NoLink};
 
 use crate::bytes::{Class, byte_at, is_in, run_end};
 use crate::node::{Operator, UnaryOperator};
@@ -51,7 +51,7 @@ fn sign_width(operator: Operator) -> usize
 }
 
 /// The operator whose sign stands at a place, with a blank behind it.
-#[tactic(auto, unfolding(crate::specs::Links::sign_of, crate::specs::Links::single, crate::specs::Bytes::is_blank))]
+#[tactic(auto, unfolding(crate::specs::inner::Links::sign_of, crate::specs::inner::Links::single, crate::specs::Bytes::is_blank))]
 fn sign(text: &[u8], at: usize) -> Option<Operator>
     requires { at ≤ length text.now }
     ensures { result ≡ sign_at text.now at }

@@ -1,8 +1,8 @@
 //! Whole statements.
 ghost use Rattle.std.specs.Prelude.{◌≡◌, ◌≢◌, ◌+◌, ◌^◌, ◌<◌, ◌≤◌, ℕ, length, true, false, Some, None, IfOk};
 ghost use Rattle.sno_text.specs.Lines.{part};
-ghost use Rattle.sno_text.specs.Parsed.{Extends};
-ghost use Rattle.sno_text.specs.Phrases.{PlainOutcome, EndOutcome, StatementOutcome, FindsEntry};
+ghost use Rattle.sno_text.specs.inner.Parsed.{Extends};
+ghost use Rattle.sno_text.specs.inner.Phrases.{PlainOutcome, EndOutcome, StatementOutcome, FindsEntry};
 
 use crate::body::read_body;
 use crate::bytes::{Class, run_end};

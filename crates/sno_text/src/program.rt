@@ -1,7 +1,8 @@
 //! What the reader gives.
 ghost use Rattle.std.specs.Prelude.{◌≡◌, ◌≤◌, ◌<◌, ◌-◌, ◌^◌, ◌==◌, ℕ, length, None, Some, IfSome, IfNone};
 ghost use Rattle.std.specs.Prelude.{if◌then◌else◌, option_copied, slice_get, slice_range};
-ghost use Rattle.sno_text.specs.Program.{IsTable, OperandsBelow, SpansWithin, IsStatementOf, IsLabelled, IsWhole};
+ghost use Rattle.sno_text.specs.Program.{IsTable, OperandsBelow, SpansWithin, IsStatementOf, IsLabelled};
+ghost use Rattle.sno_text.specs.inner.Program.{IsWhole};
 
 use crate::node::{Node, Span};
 use crate::statement::Statement;
@@ -20,7 +21,8 @@ pub struct Program {
 }
 
 impl Model for Program {
-    ghost use Rattle.sno_text.specs.Program.{Program, IsWhole};
+    ghost use Rattle.sno_text.specs.Program.{Program};
+    ghost use Rattle.sno_text.specs.inner.Program.{IsWhole};
 
     ghost Value = { Program };
 

@@ -1,6 +1,6 @@
 //! The table of nodes as it grows, and what a part of the text was read as.
 ghost use Rattle.std.specs.Prelude.{◌≡◌, ◌+◌, ◌^◌, ◌<◌, ◌∷◌, ◌++◌, ◌&&◌, [], length, OnOk, OnErr, IfOk};
-ghost use Rattle.sno_text.specs.Parsed.{applied_node};
+ghost use Rattle.sno_text.specs.inner.Parsed.{applied_node};
 
 use crate::node::{Node, Operator, Span};
 use sno_value::ExprId;

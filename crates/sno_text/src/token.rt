@@ -2,8 +2,8 @@
 ghost use Rattle.std.specs.Prelude.{◌≡◌, ◌+◌, ◌-◌, ◌^◌, ◌<◌, ◌≤◌, ◌⊎◌, pos, true, ℕ, length, IfOk, MatchOption};
 ghost use Rattle.sno_text.specs.Bytes.{byte, is_digit};
 ghost use Rattle.sno_text.specs.Grammar.{decimal, Primary};
-ghost use Rattle.sno_text.specs.Links.{Stops};
-ghost use Rattle.sno_text.specs.Parsed.{Parsed, Extends};
+ghost use Rattle.sno_text.specs.inner.Links.{Stops};
+ghost use Rattle.sno_text.specs.inner.Parsed.{Parsed, Extends};
 
 use crate::bytes::{Class, byte_at, is_in, literal_end, run_end};
 use crate::node::{Node, Span};

@@ -6,16 +6,17 @@ use Rattle.sno_value.specs.declared.value.Value.{Value as Stored}
 use Rattle.sno_value.specs.declared.ids.ExprId.{ExprId}
 use Rattle.sno_text.specs.declared.node.UnaryOperator.{UnaryOperator}
 use Rattle.sno_text.specs.declared.node.UnaryOperator.TheVariants.{Plus, Minus, Indirect, NameOf, Defer, Cursor, Query, Not}
-use Rattle.sno_runtime.specs.declared.runtime.Exit.{Exit}
-use Rattle.sno_runtime.specs.declared.runtime.Exit.TheVariants.{Failure, Halt}
-use Rattle.sno_runtime.specs.declared.runtime.Stop.{Stop}
+use Rattle.sno_runtime.specs.declared.stops.Exit.{Exit}
+use Rattle.sno_runtime.specs.declared.stops.Exit.TheVariants.{Failure, Halt}
+use Rattle.sno_runtime.specs.declared.stops.Stop.{Stop}
 use Rattle.sno_runtime.specs.Action.{Action, gives, settles}
 use Rattle.sno_runtime.specs.Operators.{answer, unary}
-use Rattle.sno_runtime.specs.Runtime.{Runtime, Does, tree_of, IsPatternOf}
+use Rattle.sno_runtime.specs.Runtime.{Runtime, tree_of, IsPatternOf}
+use Rattle.sno_runtime.specs.inner.Runtime.{Does}
 use Rattle.sno_runtime.specs.Values.{Value, shown, IsValueOf}
 use Rattle.sno_runtime.proofs.Outcomes.{gives_does, then_got, then_err}
 use Rattle.snobol.specs.Evaluate.{unary_value}
-use Rattle.snobol.specs.Given.{given_of, IsGivenOf}
+use Rattle.snobol.specs.inner.Given.{given_of, IsGivenOf}
 use Rattle.snobol.specs.Running.{Devices, Runs}
 use Rattle.snobol.specs.Turns.{answer_of}
 use Rattle.snobol.proofs.RunningLaws.{does_runs, runs_got, runs_failed, runs_halt}

@@ -11,15 +11,16 @@ use Rattle.sno_text.specs.declared.node.Node.TheVariants as nodes
 use Rattle.sno_text.specs.declared.node.Span.{Span}
 use Rattle.sno_text.specs.Program.{Program, IsTable, IsNamed, SpansWithin}
 use Rattle.snobol.specs.Forms.{token}
-use Rattle.sno_runtime.specs.declared.runtime.Exit.{Exit}
-use Rattle.sno_runtime.specs.declared.runtime.Exit.TheVariants.{Failure, Halt}
-use Rattle.sno_runtime.specs.declared.runtime.Stop.TheVariants.{Error as HasError, ErrorIn as HasErrorIn, NoMemory, ReadFault, WriteFault, Ended as HasEnded}
+use Rattle.sno_runtime.specs.declared.stops.Exit.{Exit}
+use Rattle.sno_runtime.specs.declared.stops.Exit.TheVariants.{Failure, Halt}
+use Rattle.sno_runtime.specs.declared.stops.Stop.TheVariants.{Error as HasError, ErrorIn as HasErrorIn, NoMemory, ReadFault, WriteFault, Ended as HasEnded}
 use Rattle.snobol.specs.declared.execution.Outcome.TheVariants as ran
 use Rattle.sno_runtime.specs.World.{World, new_keywords}
 use Rattle.sno_runtime.specs.Action.{Error, Ending, Got, Fails, Stops, Outcome, Action, settled, settles, either, and_then, gives, fails}
 use Rattle.sno_runtime.specs.Variables.{variable_named}
 use Rattle.snobol.specs.Meaning.{name_in, joins_name, joins_names}
-use Rattle.sno_runtime.specs.Runtime.{Runtime, new_runtime, Does, Grows, OnAnswer, OnGoing, itself, any}
+use Rattle.sno_runtime.specs.Runtime.{Runtime, Grows, OnAnswer, OnGoing, itself}
+use Rattle.sno_runtime.specs.inner.Runtime.{new_runtime, Does, any}
 use Rattle.snobol.specs.Running.{Devices, HasFault, ran_in}
 use Rattle.snobol.specs.Machine.{answered, stopped_by, IsTooMuch, IsRefusal}
 

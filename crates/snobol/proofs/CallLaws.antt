@@ -16,21 +16,23 @@ use Rattle.sno_store.specs.Calls.{saved, function_value}
 use Rattle.sno_store.specs.Definitions.{Definition}
 use Rattle.sno_store.specs.Functions.{definition_at}
 use Rattle.sno_store.specs.Names.{place, is_symbol}
-use Rattle.sno_runtime.specs.declared.runtime.Exit.{Exit}
-use Rattle.sno_runtime.specs.declared.runtime.Exit.TheVariants.{Failure, Halt}
-use Rattle.sno_runtime.specs.declared.runtime.Stop.{Stop}
-use Rattle.sno_runtime.specs.declared.runtime.Stop.TheVariants.{Error as HasError, ErrorIn as HasErrorIn, NoMemory, ReadFault, WriteFault, Ended as HasEnded}
+use Rattle.sno_runtime.specs.declared.stops.Exit.{Exit}
+use Rattle.sno_runtime.specs.declared.stops.Exit.TheVariants.{Failure, Halt}
+use Rattle.sno_runtime.specs.declared.stops.Stop.{Stop}
+use Rattle.sno_runtime.specs.declared.stops.Stop.TheVariants.{Error as HasError, ErrorIn as HasErrorIn, NoMemory, ReadFault, WriteFault, Ended as HasEnded}
 use Rattle.sno_runtime.specs.World.{World, Keywords}
 use Rattle.sno_runtime.specs.Action.{Error, Got, Fails, Outcome, Action, settled, settles, either, and_then, gives, fails, stops}
-use Rattle.sno_runtime.specs.Calls.{shown_saved, left_world, Entered, Enters, Leaves}
-use Rattle.sno_runtime.specs.Runtime.{Runtime, world, Does, Grows, OnGoing, OnAnswer, itself, any}
+use Rattle.sno_runtime.specs.Calls.{left_world, Entered}
+use Rattle.sno_runtime.specs.inner.Calls.{shown_saved, Enters, Leaves}
+use Rattle.sno_runtime.specs.Runtime.{Runtime, world, Grows, OnGoing, OnAnswer, itself}
+use Rattle.sno_runtime.specs.inner.Runtime.{Does, any}
 use Rattle.sno_runtime.specs.Values.{Value, Str, shown, IsValueOf}
 use Rattle.sno_runtime.specs.Variables.{variable_named, symbol, joins}
 use Rattle.sno_runtime.proofs.Calls.{saved_shown}
 use Rattle.sno_runtime.proofs.Outcomes.{gives_does, no_memory_does, grows_none, then_got, then_err, saved_shown_stay}
 use Rattle.snobol.specs.declared.forms.Wanted.{Wanted}
 use Rattle.snobol.specs.declared.forms.Wanted.TheVariants as wanted
-use Rattle.snobol.specs.Calling.{RunsAt}
+use Rattle.snobol.specs.inner.Calling.{RunsAt}
 use Rattle.snobol.specs.Evaluate.{Caller, made_function, function_of, function_called}
 use Rattle.snobol.specs.Forms.{token}
 use Rattle.snobol.specs.Meaning.{label_number, chain, leaves, performs_function, performs_call, call_at}

@@ -1,7 +1,7 @@
 -- What is common to the functions whose parts may call functions of the program.
 use Rattle.std.proofs.Common.{List, Result}
 use Rattle.sno_pattern.specs.Table.{Node}
-use Rattle.sno_runtime.specs.declared.runtime.Exit.{Exit}
+use Rattle.sno_runtime.specs.declared.stops.Exit.{Exit}
 use Rattle.sno_runtime.specs.Action.{Action}
 use Rattle.sno_runtime.specs.Runtime.{Runtime}
 use Rattle.snobol.specs.Running.{Devices, Runs}

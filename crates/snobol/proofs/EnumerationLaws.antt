@@ -17,29 +17,30 @@ use Rattle.sno_match.specs.declared.event.Event.{Event as Told}
 use Rattle.sno_match.specs.declared.event.Event.TheVariants as V
 use Rattle.sno_match.specs.Events.{in_trace, is_last, is_value}
 use Rattle.sno_match.specs.Search.{Value, Answer, trace}
-use Rattle.sno_runtime.specs.declared.runtime.Exit.{Exit}
-use Rattle.sno_runtime.specs.declared.runtime.Exit.TheVariants.{Failure, Halt}
-use Rattle.sno_runtime.specs.declared.runtime.Stop.{Stop}
-use Rattle.sno_runtime.specs.declared.runtime.Stop.TheVariants.{Error as HasError, ErrorIn as HasErrorIn, NoMemory, ReadFault, WriteFault, Ended as HasEnded}
+use Rattle.sno_runtime.specs.declared.stops.Exit.{Exit}
+use Rattle.sno_runtime.specs.declared.stops.Exit.TheVariants.{Failure, Halt}
+use Rattle.sno_runtime.specs.declared.stops.Stop.{Stop}
+use Rattle.sno_runtime.specs.declared.stops.Stop.TheVariants.{Error as HasError, ErrorIn as HasErrorIn, NoMemory, ReadFault, WriteFault, Ended as HasEnded}
 use Rattle.sno_runtime.specs.World.{World, Keywords, new_world, listing_keywords}
 use Rattle.sno_runtime.specs.Action.{Error, Outcome, Action, gives, settles, stops, and_then}
 use Rattle.snobol.specs.Forms.{value}
 use Rattle.sno_runtime.specs.Operators.{as_pattern}
 use Rattle.snobol.specs.Evaluate.{expression}
 use Rattle.snobol.specs.Meaning.{calls}
-use Rattle.sno_runtime.specs.Runtime.{Runtime, new_runtime, world, tree_of, IsPatternOf, itself, any}
+use Rattle.sno_runtime.specs.Runtime.{Runtime, world, tree_of, IsPatternOf, itself}
+use Rattle.sno_runtime.specs.inner.Runtime.{new_runtime, any}
 use Rattle.sno_io.specs.Devices.{Feed}
 use Rattle.sno_runtime.specs.Effects.{listed}
 use Rattle.sno_runtime.specs.Variables.{writes}
-use Rattle.sno_runtime.specs.Performs.{Performs}
+use Rattle.sno_runtime.specs.inner.Performs.{Performs}
 use Rattle.snobol.specs.declared.enumeration.WaysOutcome.{WaysOutcome}
 use Rattle.snobol.specs.Reading.{IsRead}
 use Rattle.snobol.specs.declared.enumeration.WaysOutcome.TheVariants as ways
 use Rattle.snobol.specs.Listing.{lists_event, lists_events, lists_ways, listing, IsListed, IsListing}
 use Rattle.snobol.specs.Running.{Devices, CanRun, Runs, MeetsRunning, HasFault}
 use Rattle.snobol.specs.Turns.{after_one, answers, most_events}
-use Rattle.snobol.specs.Given.{given_of, IsGivenOf}
-use Rattle.snobol.specs.Told.{Tells, outcome_told}
+use Rattle.snobol.specs.inner.Given.{given_of, IsGivenOf}
+use Rattle.snobol.specs.inner.Told.{Tells, outcome_told}
 use Rattle.snobol.proofs.RunningLaws.{does_runs, runs_got, runs_failed, runs_halt, then_runs, then_ended}
 use Rattle.snobol.proofs.SessionLaws.{IsTurn, left, left_next, left_first, left_over, answer_then, answer_ended}
 use Rattle.sno_runtime.proofs.Outcomes.{grows_none, gives_does, no_memory_does}

@@ -5,11 +5,12 @@ use Rattle.sno_pattern.specs.Table.{Node}
 use Rattle.sno_store.specs.declared.functions.Function.{Function}
 use Rattle.sno_store.specs.declared.functions.Function.TheVariants.{Undefined, Defined, Constructs, IsField}
 use Rattle.sno_store.specs.Functions.{function_at, as_constructor, is_field}
-use Rattle.sno_runtime.specs.declared.runtime.Exit.{Exit}
+use Rattle.sno_runtime.specs.declared.stops.Exit.{Exit}
 use Rattle.sno_runtime.specs.Action.{Action, Outcome}
 use Rattle.sno_runtime.specs.Fields.{constructs, field_value}
 use Rattle.sno_runtime.specs.Operators.{argument}
-use Rattle.sno_runtime.specs.Runtime.{Runtime, world, Does}
+use Rattle.sno_runtime.specs.Runtime.{Runtime, world}
+use Rattle.sno_runtime.specs.inner.Runtime.{Does}
 use Rattle.sno_runtime.specs.Values.{Value, shown, IsValueOf}
 use Rattle.snobol.specs.Evaluate.{Caller, call_as, made_call}
 use Rattle.snobol.specs.Running.{Devices, CanRun, Runs, MeetsRunning}

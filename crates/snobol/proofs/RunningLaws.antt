@@ -5,14 +5,15 @@ use Rattle.std.proofs.lemmas.List.{append-nil}
 use Rattle.sno_io.specs.Devices.{Begins, Drain, Feed}
 use Rattle.sno_io.proofs.Bytes.{consumes_then, appends_then}
 use Rattle.sno_pattern.specs.Table.{Node}
-use Rattle.sno_runtime.specs.declared.runtime.Exit.{Exit}
-use Rattle.sno_runtime.specs.declared.runtime.Exit.TheVariants.{Failure, Halt}
-use Rattle.sno_runtime.specs.declared.runtime.Stop.{Stop}
-use Rattle.sno_runtime.specs.declared.runtime.Stop.TheVariants.{Error as HasError, ErrorIn as HasErrorIn, NoMemory, ReadFault, WriteFault, Ended as HasEnded}
+use Rattle.sno_runtime.specs.declared.stops.Exit.{Exit}
+use Rattle.sno_runtime.specs.declared.stops.Exit.TheVariants.{Failure, Halt}
+use Rattle.sno_runtime.specs.declared.stops.Stop.{Stop}
+use Rattle.sno_runtime.specs.declared.stops.Stop.TheVariants.{Error as HasError, ErrorIn as HasErrorIn, NoMemory, ReadFault, WriteFault, Ended as HasEnded}
 use Rattle.sno_runtime.specs.World.{World, Keywords}
 use Rattle.sno_runtime.specs.Action.{Ending, Got, Fails, Stops, Outcome, Action, settled, settles, either, and_then, fails}
-use Rattle.sno_runtime.specs.Runtime.{Runtime, world, untouched, MeetsReading, Does, Reads, IsReady, OnAnswer, OnGoing, HasCause, itself, any}
-use Rattle.sno_runtime.specs.Performs.{Ends, Performs}
+use Rattle.sno_runtime.specs.Runtime.{Runtime, world, IsReady, OnAnswer, OnGoing, itself}
+use Rattle.sno_runtime.specs.inner.Runtime.{untouched, MeetsReading, Does, Reads, HasCause, any}
+use Rattle.sno_runtime.specs.inner.Performs.{Ends, Performs}
 use Rattle.snobol.specs.Running.{Devices, devices, CanRun, MeetsRunning, HasFault, Goes, Runs}
 use Rattle.sno_runtime.proofs.Outcomes.{grows_twice, fails_does}
 use Rattle.sno_runtime.proofs.Reading.{consumes_nothing, none_given, reads_nothing, same_reading, same_keywords, same_calls, ready_unread}

@@ -1,12 +1,12 @@
 -- What functions did that read and write.
-use Rattle.std.specs.Prelude.{◌≡◌, ℕ, ◌≤◌, Bool, true, false, List, [], ◌++◌, Some, Result, Ok, Err}
+use Rattle.std.specs.Prelude.{◌≡◌, ℕ, ◌≤◌, Bool, true, false, List, [], ◌++◌, Result, Ok, Err}
 use Rattle.std.specs.Io.KnownBytes.{Consumes, Appends}
 use Rattle.sno_io.specs.Devices.{Begins, Drain, Feed}
 use Rattle.sno_pattern.specs.Table.{Node}
-use Rattle.sno_runtime.specs.declared.runtime.Exit.{Exit}
-use Rattle.sno_runtime.specs.declared.runtime.Exit.TheVariants.{Failure, Halt}
-use Rattle.sno_runtime.specs.declared.runtime.Stop.TheVariants.{Error as HasError, ErrorIn as HasErrorIn, NoMemory}
-use Rattle.sno_runtime.specs.declared.runtime.Stop.TheVariants.{ReadFault, WriteFault, Ended as HasEnded}
+use Rattle.sno_runtime.specs.declared.stops.Exit.{Exit}
+use Rattle.sno_runtime.specs.declared.stops.Exit.TheVariants.{Failure, Halt}
+use Rattle.sno_runtime.specs.declared.stops.Stop.TheVariants.{Error as HasError, ErrorIn as HasErrorIn, NoMemory}
+use Rattle.sno_runtime.specs.declared.stops.Stop.TheVariants.{ReadFault, WriteFault, Ended as HasEnded}
 use Rattle.sno_io.specs.declared.jobs.Limits.{Limits}
 use Rattle.snobol.specs.declared.execution.Outcome.{Outcome as RunOutcome}
 use Rattle.snobol.specs.declared.execution.Outcome.TheVariants as ran
@@ -21,10 +21,6 @@ pub record Devices : Type 0 where
 
 abbrev pub devices : Feed → Drain → Devices
 devices feed drain = record { reader = feed; writer = drain }
-
--- a reader that has nothing to give, and whether it has told its end
-abbrev pub no_input : Bool → Feed
-no_input told_end = record { left = Some []; at_end = told_end; broken = false }
 
 -- neither has failed, and the reader is that of the call before
 pub record CanRun (s : Runtime) (d : Devices) : Type 0 where
@@ -90,27 +86,6 @@ MeetsOutcome o wrote ran.NoMemory = Begins wrote o.wrote
 MeetsOutcome o wrote ran.ReadFault = Begins wrote o.wrote
 MeetsOutcome o wrote ran.WriteFault = Begins wrote o.wrote
 
--- a fault has its cause
-abbrev pub HasCauseOf : RunOutcome → Devices → Type 0
-HasCauseOf ran.Ended d = Unit {0}
-HasCauseOf (ran.Error code statement) d = Unit {0}
-HasCauseOf ran.NoMemory d = Unit {0}
-HasCauseOf ran.ReadFault d = d.reader.broken ≡ true
-HasCauseOf ran.WriteFault d = d.writer.broken ≡ true
-
--- The code did what a part of the program does that ends the run.
-pub record Stopped {A : Type 0} (act : Action A) (before after : Runtime) (old new : Devices)
-    (outcome : RunOutcome) : Type 0 where
-  pub given : List ℕ
-  pub wrote : List ℕ
-  pub consumed : Consumes old.reader.left new.reader.left given
-  pub appends : Appends old.writer.taken new.writer.taken wrote
-  pub ended : before.reading.told_end ≡ true → (given ≡ []) × (after.reading.told_end ≡ true)
-  pub tells : after.reading.told_end ≡ true → new.reader.at_end ≡ true
-  pub meets : (more : List ℕ) → (after.reading.told_end ≡ true → more ≡ [])
-      → MeetsOutcome (act (world before (given ++ more))) wrote outcome
-  pub cause : HasCauseOf outcome new
-
 -- what ends a statement ends the run, in that statement; an error that names a statement names that one
 abbrev pub ran_in : ℕ → Exit → RunOutcome
 ran_in statement Failure = ran.Error 11 statement
@@ -126,12 +101,6 @@ pub record IsLimits (limits : Limits) : Type 0 where
   pub some : 1 ≤ limits.statements
   pub statements : limits.statements ≤ 1_000_000_000_000
   pub match_steps : limits.match_steps ≤ 1_000_000_000
-
--- whether an attempt succeeded
-abbrev pub attempted : Result Unit Exit → Result Bool Exit
-attempted (Ok done) = Ok true
-attempted (Err Failure) = Ok false
-attempted (Err (Halt why)) = Err (Halt why)
 
 -- The input that may be: it begins with what the reader gave and, if the reader told its end, is just that.
 abbrev pub IsPossible : List ℕ → Bool → List ℕ → Type 0

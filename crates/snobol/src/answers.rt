@@ -2,7 +2,7 @@
 ghost use Rattle.sno_runtime.specs.Action.{Action, settles};
 ghost use Rattle.sno_runtime.specs.Runtime.{OnAnswer, Runtime};
 ghost use Rattle.sno_runtime.specs.Values.{Value as Shown, shown, IsValueOf};
-ghost use Rattle.snobol.specs.Given.{IsGivenOf, given_of};
+ghost use Rattle.snobol.specs.inner.Given.{IsGivenOf, given_of};
 ghost use Rattle.snobol.specs.Running.{Devices, Runs};
 ghost use Rattle.snobol.specs.Turns.{answer_of};
 

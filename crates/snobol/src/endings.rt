@@ -1,7 +1,7 @@
 //! How a job ends: the status of each ending, and the line that tells it.
 ghost use Rattle.std.specs.Prelude.{◌≡◌, ◌+◌, ◌<◌, [], ◌∷◌, decimal, false, true, OnErr, OnOk};
 ghost use Rattle.sno_io.specs.Devices.{TakesBytes};
-ghost use Rattle.snobol.specs.Endings.{line_of, number_text};
+ghost use Rattle.snobol.specs.inner.Endings.{line_of, number_text};
 ghost use Rattle.snobol.specs.Jobs.{Tells, error_status, listed, ran, refused, unread, well};
 
 use crate::enumeration::WaysOutcome;
@@ -27,7 +27,7 @@ pub(crate) struct Ending<'a> {
 }
 
 impl<'a> Model for Ending<'a> {
-    ghost use Rattle.snobol.specs.Endings.{report_of};
+    ghost use Rattle.snobol.specs.inner.Endings.{report_of};
     ghost use Rattle.snobol.specs.Jobs.{Report};
 
     ghost Value = { Report };

@@ -18,7 +18,7 @@ impl NoInput {
 }
 
 impl Source for NoInput {
-    ghost use Rattle.snobol.specs.Running.{no_input};
+    ghost use Rattle.snobol.specs.inner.Running.{no_input};
 
     ghost feed = { λ n. no_input n.told_end };
 

@@ -1,5 +1,5 @@
 -- The listing of a program: its lines, each behind the number of the first statement that begins in it.
-use Rattle.std.specs.Prelude.{ℕ, ◌+◌, ◌-◌, ◌<◌, ◌≡◌, ◌==◌, List, [], ◌∷◌, ◌++◌, length, replicate, slice_index}
+use Rattle.std.specs.Prelude.{ℕ, ◌+◌, ◌-◌, ◌==◌, List, [], ◌∷◌, ◌++◌, length, replicate, slice_index}
 use Rattle.std.specs.Prelude.{if◌then◌else◌}
 use Rattle.std.specs.Fmt.{decimal}
 use Rattle.bstr.specs.Text.{lines_of}
@@ -37,8 +37,3 @@ lines_listed statements at (line ∷ lines) =
 -- The listing of a text: each of its lines, in their order, counted from 1.
 abbrev pub listed : List ℕ → List Statement → List ℕ
 listed text statements = lines_listed statements 1 (lines_of text)
-
--- These are the numbers of so many lines of the text, line 1 first; the first statement has number n.
-pub record AreNumbers (lines n : ℕ) (statements : List Statement) (numbers : List ℕ) : Type 0 where
-  pub count : length numbers ≡ lines
-  pub each : (k : ℕ) → k < lines → slice_index numbers k ≡ number_in n statements (k + 1)

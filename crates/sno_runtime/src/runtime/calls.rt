@@ -5,11 +5,15 @@ ghost use Rattle.sno_value.specs.declared.value.Value.{Value as Stored};
 ghost use Rattle.sno_store.specs.Definitions.{Definition as Defined};
 ghost use Rattle.sno_store.specs.Functions.{definition_at};
 ghost use Rattle.sno_runtime.specs.Values.{shown, IsValueOf};
-ghost use Rattle.sno_runtime.specs.Calls.{defines, definition_named, Enters, Leaves};
-ghost use Rattle.sno_runtime.specs.Runtime.{Does, itself, any};
+ghost use Rattle.sno_runtime.specs.Calls.{defines};
+ghost use Rattle.sno_runtime.specs.inner.Calls.{definition_named, Enters, Leaves};
+ghost use Rattle.sno_runtime.specs.Runtime.{itself};
+ghost use Rattle.sno_runtime.specs.inner.Runtime.{Does, any};
 
 use crate::convert::null;
-use crate::runtime::{Exit, Runtime, UNDEFINED_FUNCTION, error};
+use crate::errors::UNDEFINED_FUNCTION;
+use crate::runtime::Runtime;
+use crate::stops::{Exit, error};
 use sno_store::Definition;
 use sno_value::{Name, SymId, Value};
 

@@ -4,9 +4,11 @@ ghost use Rattle.sno_store.specs.Arrays.{new_array, element_name};
 ghost use Rattle.sno_store.specs.Tables.{new_table, find_entry, make_entry, table_to_array};
 ghost use Rattle.sno_runtime.specs.Values.{shown, IsValueOf, Array};
 ghost use Rattle.sno_runtime.specs.Containers.{notions, does, asks, prototype};
-ghost use Rattle.sno_runtime.specs.Runtime.{Does, itself, any};
+ghost use Rattle.sno_runtime.specs.Runtime.{itself};
+ghost use Rattle.sno_runtime.specs.inner.Runtime.{Does, any};
 
-use crate::runtime::{Exit, Runtime};
+use crate::runtime::Runtime;
+use crate::stops::Exit;
 use sno_value::{Name, ObjId, Text, Value};
 
 impl Runtime {

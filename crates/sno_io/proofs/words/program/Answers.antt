@@ -1,7 +1,8 @@
 use Rattle.std.proofs.Common.{ap, codes, true}
 use Rattle.clap.specs.Simple.{Shape, on_top}
 use Rattle.clap.specs.Words.{App, new_app}
-use Rattle.sno_io.specs.Commands.{Makes, bare_app}
+use Rattle.sno_io.specs.Commands.{bare_app}
+use Rattle.sno_io.specs.inner.Commands.{Makes}
 use Rattle.sno_io.proofs.Commands.{setting_made, subcommand_made}
 use Rattle.sno_io.proofs.words.program.Goals as goal
 

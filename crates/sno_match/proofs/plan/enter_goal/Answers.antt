@@ -1,7 +1,7 @@
 use Rattle.sno_match.specs.declared.goal.Goal.TheVariants as N
 use Rattle.sno_match.proofs.PlanLaws as plans
 use Rattle.std.proofs.Common.{suc, refl, subst}
-use Rattle.sno_match.specs.Scopes.{RiseFrom}
+use Rattle.sno_match.specs.inner.Scopes.{RiseFrom}
 use Rattle.sno_match.proofs.CutLaws.{close-cut}
 use Rattle.sno_match.proofs.plan.enter_goal.Goals as goal
 

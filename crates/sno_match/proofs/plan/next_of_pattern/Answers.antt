@@ -1,7 +1,7 @@
 use Rattle.std.proofs.Common.{arith, ◌≡◌, ◌<◌, length, ap, sym, ◌∙◌, refl}
 use Rattle.sno_pattern.specs.Pattern.{Arbno, Succeed}
 use Rattle.sno_pattern.specs.Table.{tree}
-use Rattle.sno_match.specs.Remaining.{body_of}
+use Rattle.sno_match.specs.inner.Remaining.{body_of}
 use Rattle.sno_match.proofs.PlanLaws as plans
 use Rattle.sno_match.proofs.CutLaws.{drop-cut}
 use Rattle.sno_match.proofs.plan.next_of_pattern.Goals as goal

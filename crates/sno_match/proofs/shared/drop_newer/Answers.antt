@@ -1,5 +1,5 @@
 use Rattle.std.proofs.Common.{◌<◌, length, reverse, sym, subst, arith}
-use Rattle.sno_match.specs.Shared.{Fits}
+use Rattle.sno_match.specs.inner.Shared.{Fits}
 use Rattle.sno_match.proofs.CutPoints.{floor-at}
 use Rattle.sno_match.proofs.shared.drop_newer.Goals as goal
 

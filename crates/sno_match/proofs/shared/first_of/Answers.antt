@@ -1,5 +1,5 @@
 use Rattle.std.proofs.Common.{◌∙◌, ap, arith, reverse}
-use Rattle.sno_match.specs.Shared.{goals_of}
+use Rattle.sno_match.specs.inner.Shared.{goals_of}
 use Rattle.sno_match.proofs.SharedLaws.{no_goals, first_goal}
 use Rattle.sno_match.proofs.shared.first_of.Goals as goal
 

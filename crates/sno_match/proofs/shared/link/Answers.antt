@@ -2,7 +2,7 @@ use Rattle.std.proofs.Common.{◌∷◌, [], ◌∙◌, sym, ap, subst, map, rev
 use Rattle.std.proofs.lemmas.List.{map-append, reverse-append, reverse-reverse, length-reverse, length_push}
 use Rattle.std.proofs.lemmas.Iterator.Adapters.{YieldsList-from_rev_slice}
 use Rattle.std.proofs.lemmas.Iterator.Consumers.{YieldsList-turn, YieldsList-end}
-use Rattle.sno_match.specs.Shared.{Extends}
+use Rattle.sno_match.specs.inner.Shared.{Extends}
 use Rattle.sno_match.proofs.SharedLaws.{extends_none, extends_more}
 use Rattle.sno_match.proofs.shared.link.Goals as goal
 

@@ -1,5 +1,5 @@
 use Rattle.std.proofs.Common.{◌∙◌, ap, sym, subst, reverse, take}
-use Rattle.sno_match.specs.Shared.{Falls}
+use Rattle.sno_match.specs.inner.Shared.{Falls}
 use Rattle.sno_match.proofs.SharedLaws.{falls_cut}
 use Rattle.sno_match.proofs.shared.put_front.Goals as goal
 

@@ -1,6 +1,6 @@
 use Rattle.std.proofs.Common.{true, false, ◌≡◌, length, take, arith}
 use Rattle.std.proofs.lemmas.List.{length-take}
-use Rattle.sno_pattern.specs.Lanes.{passes}
+use Rattle.sno_pattern.specs.inner.Lanes.{passes}
 use Rattle.sno_pattern.proofs.LaneLaws.{mask_inside, mask_outside}
 use Rattle.sno_pattern.proofs.lanes.first_in_block.Goals as goal
 

@@ -1,7 +1,7 @@
 use Rattle.std.proofs.Common.{◌+◌, take, position, sym, ◌∙◌, ap, arith}
 use Rattle.std.proofs.lemmas.List.{take_rest}
 use Rattle.std.proofs.lemmas.List.Quantifiers.{position-Some}
-use Rattle.sno_pattern.specs.Lanes.{passes}
+use Rattle.sno_pattern.specs.inner.Lanes.{passes}
 use Rattle.sno_pattern.proofs.SearchLaws.{found_at, passed_at}
 use Rattle.sno_pattern.proofs.lanes.first_that_passes.Goals as goal
 

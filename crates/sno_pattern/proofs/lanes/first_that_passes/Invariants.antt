@@ -1,5 +1,5 @@
 use Rattle.std.proofs.Common.{◌≡◌, ◌≤◌, ◌+◌, ◌-◌, length, drop, position, option_map}
-use Rattle.sno_pattern.specs.Lanes.{passes}
+use Rattle.sno_pattern.specs.inner.Lanes.{passes}
 use Rattle.sno_pattern.proofs.lanes.first_that_passes.Given as goal
 
 abbrev pub invariant-blocks-2 : goal.invariant-blocks-2

@@ -1,6 +1,6 @@
 use Rattle.std.proofs.Common.{◌≡◌, ℕ, ◌-◌, ◌<◌, ◌≤◌, false}
-use Rattle.sno_pattern.specs.Kinds.{node_of}
-use Rattle.sno_pattern.specs.Places.{node_has_end}
+use Rattle.sno_pattern.specs.inner.Kinds.{node_of}
+use Rattle.sno_pattern.specs.inner.Places.{node_has_end}
 use Rattle.sno_pattern.proofs.places.place_of_end.Given as goal
 
 abbrev pub invariant-places : goal.invariant-places

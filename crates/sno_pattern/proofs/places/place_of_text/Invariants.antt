@@ -1,6 +1,6 @@
 use Rattle.std.proofs.Common.{◌≡◌, ℕ, ◌-◌, ◌<◌, ◌≤◌, ◌==◌, false, true, slice_index}
 use Rattle.sno_pattern.specs.Pattern.{Text}
-use Rattle.sno_pattern.specs.Places.{leaf_has_end, byte_passes}
+use Rattle.sno_pattern.specs.inner.Places.{leaf_has_end, byte_passes}
 use Rattle.sno_pattern.proofs.places.place_of_text.Given as goal
 
 abbrev pub invariant-places : goal.invariant-places

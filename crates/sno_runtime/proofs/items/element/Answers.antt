@@ -1,6 +1,7 @@
 use Rattle.std.proofs.Common.{Vec, ℤ, Global}
 use Rattle.std.proofs.lemmas.Result.{err_from_is_err_and}
-use Rattle.sno_runtime.specs.Runtime.{itself, any}
+use Rattle.sno_runtime.specs.Runtime.{itself}
+use Rattle.sno_runtime.specs.inner.Runtime.{any}
 use Rattle.sno_runtime.proofs.Conversions.{missing_in}
 use Rattle.sno_runtime.proofs.ItemLaws.{unnumbered, element_refused, element_there, out_of_range}
 use Rattle.sno_runtime.proofs.items.element.Goals as goal

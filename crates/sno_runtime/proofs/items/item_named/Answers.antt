@@ -1,6 +1,7 @@
 use Rattle.std.proofs.Common.{map}
 use Rattle.sno_runtime.specs.Values.{shown}
-use Rattle.sno_runtime.specs.Runtime.{itself, any}
+use Rattle.sno_runtime.specs.Runtime.{itself}
+use Rattle.sno_runtime.specs.inner.Runtime.{any}
 use Rattle.sno_runtime.proofs.Outcomes.{stops_does}
 use Rattle.sno_runtime.proofs.ItemLaws.{no_item_name}
 use Rattle.sno_runtime.proofs.items.item_named.Goals.{in-Array, in-Table+in_ok-key-in-Table, in_default}

@@ -3,7 +3,7 @@ use mir.Syntax.{w64}
 use mir.Val.{SFits}
 use Rattle.std.proofs.lemmas.Int.{to_z-of_z}
 use Rattle.std.proofs.lemmas.Result.{err_from_is_err_and}
-use Rattle.sno_runtime.specs.Operations.{is_arithmetic, calculated}
+use Rattle.sno_runtime.specs.inner.Operations.{is_arithmetic, calculated}
 use Rattle.sno_runtime.proofs.Conversions.{missing, both_none, both_there, arithmetic_operation}
 use Rattle.sno_runtime.proofs.operators.operation.Goals as goal
 

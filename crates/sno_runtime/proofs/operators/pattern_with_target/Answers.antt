@@ -1,6 +1,6 @@
 use Rattle.std.proofs.Common.{sym, ◌∙◌}
 use Rattle.std.proofs.lemmas.Result.{err_from_is_err_and}
-use Rattle.sno_runtime.specs.Operations.{assignment_of}
+use Rattle.sno_runtime.specs.inner.Operations.{assignment_of}
 use Rattle.sno_runtime.proofs.Conversions.{target_refused, target_joined}
 use Rattle.sno_runtime.proofs.operators.pattern_with_target.Goals as goal
 

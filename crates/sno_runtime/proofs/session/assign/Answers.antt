@@ -1,6 +1,6 @@
 use Rattle.std.proofs.Common.{ap, sym, ◌∙◌}
 use Rattle.std.proofs.lemmas.Result.{err_from_is_err_and}
-use Rattle.sno_runtime.specs.Runtime.{untouched}
+use Rattle.sno_runtime.specs.inner.Runtime.{untouched}
 use Rattle.sno_runtime.proofs.Stores.{set_untouched}
 use Rattle.sno_runtime.proofs.Performing.{stored, output_written, output_cut, output_refused}
 use Rattle.sno_runtime.proofs.session.assign.Goals as goal

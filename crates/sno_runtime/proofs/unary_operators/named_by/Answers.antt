@@ -1,6 +1,7 @@
 use Rattle.std.proofs.Common.{Vec, ℕ, Global}
 use Rattle.std.proofs.lemmas.Result.{err_from_is_err_and}
-use Rattle.sno_runtime.specs.Runtime.{itself, any}
+use Rattle.sno_runtime.specs.Runtime.{itself}
+use Rattle.sno_runtime.specs.inner.Runtime.{any}
 use Rattle.sno_runtime.proofs.Conversions.{missing_in}
 use Rattle.sno_runtime.proofs.Names.{named_by_text, unnamed}
 use Rattle.sno_runtime.proofs.unary_operators.named_by.Goals as goal

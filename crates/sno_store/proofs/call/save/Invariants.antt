@@ -1,7 +1,7 @@
 use Rattle.std.proofs.Common.{◌≡◌, ◌+◌, ◌≤◌, ◌++◌, [], drop, vec_len, vec_capacity}
 use Rattle.sno_value.specs.declared.value.Value.TheVariants.{Str}
 use Rattle.sno_store.specs.Calls.{with_nulls}
-use Rattle.sno_store.specs.Seen.{moved}
+use Rattle.sno_store.specs.inner.Seen.{moved}
 use Rattle.sno_store.proofs.CallLaws.{numbers}
 use Rattle.sno_store.proofs.call.save.Given as goal
 

@@ -1,5 +1,5 @@
 use Rattle.std.proofs.Common.{◌≡◌, ◌≤◌, drop, map, vec_capacity}
-use Rattle.sno_store.specs.Seen.{reach}
+use Rattle.sno_store.specs.inner.Seen.{reach}
 use Rattle.sno_store.specs.Types.{with_fields}
 use Rattle.sno_store.proofs.functions.put_fields.Given as goal
 

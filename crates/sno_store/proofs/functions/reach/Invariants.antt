@@ -1,5 +1,5 @@
 use Rattle.std.proofs.Common.{◌≡◌, drop, max}
-use Rattle.sno_store.specs.Seen.{reach}
+use Rattle.sno_store.specs.inner.Seen.{reach}
 use Rattle.sno_store.proofs.functions.reach.Given as goal
 
 abbrev pub invariant-symbols : goal.invariant-symbols

@@ -2,8 +2,8 @@ use Rattle.std.proofs.Common.{◌≡◌, ◌≢◌, ◌+◌, ◌-◌, ◌∙◌,
 use Rattle.sno_text.specs.declared.bytes.Class.TheVariants.{NameByte}
 use Rattle.sno_text.specs.Bytes.{byte, is_unary, is_closing, is_letter, is_opening}
 use Rattle.sno_text.specs.Grammar.{IsPair, Element}
-use Rattle.sno_text.specs.Links.{Stops}
-use Rattle.sno_text.specs.Parsed.{Parsed}
+use Rattle.sno_text.specs.inner.Links.{Stops}
+use Rattle.sno_text.specs.inner.Parsed.{Parsed}
 use Rattle.sno_text.proofs.Primaries.{refuses_group}
 use Rattle.sno_text.proofs.Tables.{extends_none, gives_variable, gives_group, refused_unclosed, extends_trans, extends_push, letter_is_name_byte, run_some}
 use Rattle.sno_text.proofs.Steps.{extends_binary, extends_unary, extends_applied, gives_signed, listing_next, growing_left, gives_right, refused_left}

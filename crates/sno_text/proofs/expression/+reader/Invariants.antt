@@ -2,8 +2,8 @@ use Rattle.std.proofs.Common.{◌-◌, ◌+◌, ◌*◌, ◌≤◌, length}
 use Rattle.sno_text.specs.Bytes.{IsRun}
 use Rattle.sno_text.specs.declared.bytes.Class.TheVariants.{UnarySign}
 use Rattle.sno_text.specs.Grammar.{Element}
-use Rattle.sno_text.specs.Links.{Stops}
-use Rattle.sno_text.specs.Parsed.{Gives, Growing, Listing, Extends}
+use Rattle.sno_text.specs.inner.Links.{Stops}
+use Rattle.sno_text.specs.inner.Parsed.{Gives, Growing, Listing, Extends}
 use Rattle.sno_text.proofs.expression.+reader.Given as goal
 
 -- the text left, and then how many calls of this cycle go before one that takes a byte

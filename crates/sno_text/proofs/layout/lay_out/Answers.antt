@@ -1,5 +1,5 @@
 use Rattle.std.proofs.Common.{rules, ◌≡◌, ◌∷◌, ◌++◌, ◌-◌, [], length, map, take, drop, ap, ◌∙◌}
-use Rattle.sno_text.specs.Layouts.{kind_of}
+use Rattle.sno_text.specs.inner.Layouts.{kind_of}
 use Rattle.sno_text.specs.Lines.{moved, statements_of}
 use Rattle.bstr.specs.Text.{without_terminator}
 use Rattle.sno_text.proofs.Layouts.{Laid, laid_first, laid_line, laid_card, laid_joined, laid_extents}

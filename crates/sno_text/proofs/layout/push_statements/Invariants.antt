@@ -1,6 +1,6 @@
 use Rattle.std.proofs.Common.{◌≡◌, ◌≤◌, ◌++◌, map, drop}
 use Rattle.sno_text.specs.Lines.{moved, cut, statements_of}
-use Rattle.sno_text.specs.Layouts.{kept}
+use Rattle.sno_text.specs.inner.Layouts.{kept}
 use Rattle.sno_text.proofs.layout.push_statements.Given as goal
 
 abbrev pub invariant-loop-end : goal.invariant-loop-end

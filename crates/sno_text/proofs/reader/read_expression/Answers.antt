@@ -1,7 +1,7 @@
 use Rattle.std.proofs.Common.{◌≡◌, arith, rules, refl, sym, ap, ◌∙◌, Some, true, length}
 use Rattle.sno_text.specs.Grammar.{Level}
-use Rattle.sno_text.specs.Links.{Stops}
-use Rattle.sno_text.specs.Parsed.{Parsed}
+use Rattle.sno_text.specs.inner.Links.{Stops}
+use Rattle.sno_text.specs.inner.Parsed.{Parsed}
 use Rattle.sno_text.proofs.Tables.{stands_id_below}
 use Rattle.sno_text.proofs.Expressions.{refused_three, not_open, accepted, not_large, no_expression, no_end}
 use Rattle.sno_text.proofs.Readings.{expression_whole}

@@ -1,7 +1,7 @@
 use Rattle.std.proofs.Common.{codes}
 use Rattle.std.proofs.lemmas.Result.{err_from_is_err_and}
 use Rattle.sno_io.proofs.Bytes.{appends_then}
-use Rattle.snobol.specs.Endings.{number_text}
+use Rattle.snobol.specs.inner.Endings.{number_text}
 use Rattle.snobol.proofs.JobLaws.{cut_first, cut_taken, cut_then}
 use Rattle.snobol.proofs.endings.put_line.Goals as goal
 

@@ -1,6 +1,6 @@
 use Rattle.std.proofs.Common.{◌∙◌, ap, length, refl, codes, Ok, Err}
-use Rattle.sno_runtime.specs.declared.runtime.Exit.TheVariants.{Halt}
-use Rattle.sno_runtime.specs.declared.runtime.Stop.TheVariants.{WriteFault}
+use Rattle.sno_runtime.specs.declared.stops.Exit.TheVariants.{Halt}
+use Rattle.sno_runtime.specs.declared.stops.Stop.TheVariants.{WriteFault}
 use Rattle.snobol.proofs.RunningLaws.{performs_runs}
 use Rattle.snobol.proofs.EnumerationLaws.{new_closed, new_runs, built_listed, failed_listed, stopped_listed, line_put, line_cut, listed_as, fault_told}
 use Rattle.snobol.proofs.enumeration.list.Goals as goal

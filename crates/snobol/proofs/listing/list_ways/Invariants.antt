@@ -1,7 +1,8 @@
 use Rattle.std.proofs.Common.{◌≡◌, ◌-◌, [], false, Result}
 use Rattle.sno_pattern.specs.Table.{tree}
-use Rattle.sno_runtime.specs.declared.runtime.Exit.{Exit}
-use Rattle.sno_runtime.specs.Runtime.{Runtime, itself, any}
+use Rattle.sno_runtime.specs.declared.stops.Exit.{Exit}
+use Rattle.sno_runtime.specs.Runtime.{Runtime, itself}
+use Rattle.sno_runtime.specs.inner.Runtime.{any}
 use Rattle.snobol.specs.Running.{Devices, CanRun, Runs, devices}
 use Rattle.snobol.specs.Turns.{most_events}
 use Rattle.snobol.proofs.EnumerationLaws.{to_end}

@@ -1,5 +1,6 @@
 use Rattle.std.proofs.lemmas.Result.{err_from_is_err_and}
-use Rattle.sno_runtime.specs.Runtime.{itself, any}
+use Rattle.sno_runtime.specs.Runtime.{itself}
+use Rattle.sno_runtime.specs.inner.Runtime.{any}
 use Rattle.snobol.proofs.StatementLaws.{can_run, text_runs, textless_runs, no_memory_runs}
 use Rattle.snobol.proofs.replacement.put_value.Goals as goal
 

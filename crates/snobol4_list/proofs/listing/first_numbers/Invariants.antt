@@ -1,5 +1,5 @@
 use Rattle.std.proofs.Common.{◌≤◌, ◌+◌, length, drop}
-use Rattle.snobol4_list.specs.Listing.{AreNumbers}
+use Rattle.snobol4_list.specs.inner.Listing.{AreNumbers}
 use Rattle.snobol4_list.proofs.listing.first_numbers.Given as goal
 
 abbrev pub invariant-statements : goal.invariant-statements

@@ -1,5 +1,5 @@
 use Rattle.std.proofs.Common.{◌≡◌, ◌≤◌, ◌++◌, arith, ◌∙◌, refl, sym, subst, ap}
-use Rattle.sno_io.specs.Held.{held_in}
+use Rattle.sno_io.specs.inner.Held.{held_in}
 use Rattle.sno_io.specs.Lines.{line_length}
 use Rattle.sno_io.proofs.FirstLines.{line_length-grows, line_length-le}
 use Rattle.sno_io.proofs.Readings.{joins_more, still_open}

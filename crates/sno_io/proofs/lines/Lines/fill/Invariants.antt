@@ -1,6 +1,6 @@
 use Rattle.std.proofs.Common.{◌≡◌, ◌-◌, ◌+◌, ◌⊎◌, false, if◌then◌else◌, length, true}
 use Rattle.std.specs.Prelude.{Contains}
-use Rattle.sno_io.specs.Held.{Joins}
+use Rattle.sno_io.specs.inner.Held.{Joins}
 use Rattle.sno_io.specs.Lines.{line_length}
 use Rattle.sno_io.proofs.lines.Lines.fill.Given as goal
 

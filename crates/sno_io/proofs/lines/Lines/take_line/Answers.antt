@@ -1,6 +1,6 @@
 use Rattle.std.proofs.Common.{◌≡◌, ◌+◌, ◌<◌, refl, sym, ap, ◌∙◌, arith, length, take, drop}
 use Rattle.std.proofs.lemmas.Bool.{eqb-false}
-use Rattle.sno_io.specs.Held.{held_in}
+use Rattle.sno_io.specs.inner.Held.{held_in}
 use Rattle.sno_io.proofs.FirstLines.{too_long}
 use Rattle.sno_io.proofs.Readings.{handed}
 use Rattle.sno_io.proofs.lines.Lines.take_line.Goals as goal

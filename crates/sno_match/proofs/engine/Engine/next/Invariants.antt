@@ -1,4 +1,4 @@
-use Rattle.sno_match.specs.Running.{GoesOn, work}
+use Rattle.sno_match.specs.inner.Running.{GoesOn, work}
 use Rattle.sno_match.proofs.engine.Engine.next.Given as goal
 
 abbrev pub invariant-loop-event : goal.invariant-loop-event

@@ -2,7 +2,7 @@ use Rattle.std.proofs.Common.{◌≡◌, ◌<◌, ◌+◌, length, arith, refl, 
 use Rattle.sno_match.specs.declared.event.Event.TheVariants as V
 use Rattle.sno_match.specs.declared.engine.State.TheVariants as S
 use Rattle.sno_match.specs.Matching.{Matching}
-use Rattle.sno_match.specs.Running.{later_starts}
+use Rattle.sno_match.specs.inner.Running.{later_starts}
 use Rattle.sno_match.proofs.SessionLaws.{anchored_once, last_start}
 use Rattle.sno_match.proofs.EngineLaws as laws
 use Rattle.sno_match.proofs.CountLaws.{match_few, match_counted}

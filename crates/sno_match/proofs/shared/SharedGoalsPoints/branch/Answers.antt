@@ -1,6 +1,6 @@
 use Rattle.std.proofs.Common.{◌≡◌, ◌∙◌, ap, subst, length, arith}
 use Rattle.sno_match.specs.Point.{rest_of, branched}
-use Rattle.sno_match.specs.Shared.{goals_of}
+use Rattle.sno_match.specs.inner.Shared.{goals_of}
 use Rattle.sno_match.proofs.SharedLaws.{fits, branched_holds, branched_points}
 use Rattle.sno_match.proofs.shared.SharedGoalsPoints.branch.Goals as goal
 

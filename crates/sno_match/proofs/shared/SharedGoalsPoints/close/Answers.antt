@@ -1,6 +1,6 @@
 use Rattle.std.proofs.Common.{◌≡◌, ◌∙◌, ap, subst}
 use Rattle.sno_match.specs.Point.{rest_of, closed}
-use Rattle.sno_match.specs.Shared.{goals_of}
+use Rattle.sno_match.specs.inner.Shared.{goals_of}
 use Rattle.sno_match.proofs.SharedLaws.{closed_holds, closed_points}
 use Rattle.sno_match.proofs.shared.SharedGoalsPoints.close.Goals as goal
 

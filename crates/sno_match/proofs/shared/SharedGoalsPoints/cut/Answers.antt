@@ -1,6 +1,6 @@
 use Rattle.std.proofs.Common.{◌≡◌, ◌∙◌, ap, subst}
 use Rattle.sno_match.specs.Point.{rest_of, cut_back}
-use Rattle.sno_match.specs.Shared.{goals_of}
+use Rattle.sno_match.specs.inner.Shared.{goals_of}
 use Rattle.sno_match.proofs.SharedLaws.{fits}
 use Rattle.sno_match.proofs.CutPoints.{cut_points}
 use Rattle.sno_match.proofs.shared.SharedGoalsPoints.cut.Goals as goal

@@ -1,6 +1,6 @@
 use Rattle.std.proofs.Common.{◌≡◌, ◌∙◌, ap, subst, length, arith}
 use Rattle.sno_match.specs.Point.{rest_of, replaced}
-use Rattle.sno_match.specs.Shared.{goals_of}
+use Rattle.sno_match.specs.inner.Shared.{goals_of}
 use Rattle.sno_match.proofs.SharedLaws.{fits, replaced_points}
 use Rattle.sno_match.proofs.shared.SharedGoalsPoints.replace.Goals as goal
 

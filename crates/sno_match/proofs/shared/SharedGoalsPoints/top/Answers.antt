@@ -1,6 +1,6 @@
 use Rattle.std.proofs.Common.{map, reverse, take, [], ◌∷◌, ◌∙◌, sym, ap}
 use Rattle.sno_match.specs.Point.{rest_of}
-use Rattle.sno_match.specs.Shared.{point_of, goals_of}
+use Rattle.sno_match.specs.inner.Shared.{point_of, goals_of}
 use Rattle.sno_match.proofs.SharedLaws.{top_is}
 use Rattle.sno_match.proofs.shared.SharedGoalsPoints.top.Goals as goal
 

@@ -1,5 +1,5 @@
 use Rattle.std.proofs.Common.{arith}
-use Rattle.sno_pattern.specs.Lanes.{passes}
+use Rattle.sno_pattern.specs.inner.Lanes.{passes}
 use Rattle.sno_pattern.proofs.SearchLaws.{found_near, passed_near}
 use Rattle.sno_pattern.proofs.byte_set.ByteSet.first_that_passes.Goals as goal
 

@@ -2,7 +2,7 @@ use Rattle.std.proofs.Common.{◌≡◌, ℕ, List, ◌-◌, ◌<◌, ◌≤◌,
 use Rattle.sno_pattern.specs.BalanceTable.{IsTableIfMade}
 use Rattle.sno_pattern.specs.Looks.{AreTrue}
 use Rattle.sno_pattern.specs.Pattern.{Bal}
-use Rattle.sno_pattern.specs.Places.{leaf_has_end}
+use Rattle.sno_pattern.specs.inner.Places.{leaf_has_end}
 use Rattle.sno_pattern.specs.Table.{Node}
 use Rattle.sno_pattern.proofs.looks.Looks.balanced_place.Given as goal
 

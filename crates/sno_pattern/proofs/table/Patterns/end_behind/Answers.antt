@@ -1,7 +1,8 @@
 use Rattle.std.proofs.Common.{◌≡◌, ℕ, ◌+◌, ◌<◌, length, sym, ◌∙◌, ap, arith}
 use Rattle.sno_pattern.specs.Table.{tree}
-use Rattle.sno_pattern.specs.Shape.{end_of, end_of_node}
-use Rattle.sno_pattern.specs.Kinds.{node_of}
+use Rattle.sno_pattern.specs.Shape.{end_of}
+use Rattle.sno_pattern.specs.inner.Shape.{end_of_node}
+use Rattle.sno_pattern.specs.inner.Kinds.{node_of}
 use Rattle.sno_pattern.proofs.TableLaws.{length-nodes}
 use Rattle.sno_pattern.proofs.ShapeLaws.{end_of-kind, end_of-range, IfSome-to}
 use Rattle.sno_pattern.proofs.NextEndLaws.{ends_of-within, end_of-Contains, next_end-at}

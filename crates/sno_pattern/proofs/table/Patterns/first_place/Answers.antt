@@ -1,7 +1,8 @@
 use Rattle.std.proofs.Common.{◌≡◌, ℕ, ap, arith, length, sym, ◌<◌}
 use Rattle.std.specs.Option.{is_some}
-use Rattle.sno_pattern.specs.Kinds.{node_of}
-use Rattle.sno_pattern.specs.Places.{has_end, node_has_end}
+use Rattle.sno_pattern.specs.inner.Kinds.{node_of}
+use Rattle.sno_pattern.specs.Places.{has_end}
+use Rattle.sno_pattern.specs.inner.Places.{node_has_end}
 use Rattle.sno_pattern.specs.Table.{tree}
 use Rattle.sno_pattern.proofs.TableLaws.{length-nodes}
 use Rattle.sno_pattern.proofs.ShapeLaws.{end_of-kind}

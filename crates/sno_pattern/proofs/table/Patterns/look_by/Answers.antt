@@ -1,5 +1,5 @@
 use Rattle.std.proofs.Common.{◌≡◌, sym, ◌∙◌, arith}
-use Rattle.sno_pattern.specs.Kinds.{node_of}
+use Rattle.sno_pattern.specs.inner.Kinds.{node_of}
 use Rattle.sno_pattern.specs.Shape.{end_of}
 use Rattle.sno_pattern.specs.Table.{tree}
 use Rattle.sno_pattern.proofs.LookLaws.{bal_first, of_entry, run_of_node}

@@ -1,7 +1,8 @@
 use Rattle.std.proofs.lemmas.Result.{err_from_is_err_and}
 use Rattle.sno_store.specs.Outcomes.{itself as as_told}
 use Rattle.sno_runtime.specs.Values.{shown}
-use Rattle.sno_runtime.specs.Runtime.{itself, any}
+use Rattle.sno_runtime.specs.Runtime.{itself}
+use Rattle.sno_runtime.specs.inner.Runtime.{any}
 use Rattle.sno_runtime.proofs.ObjectOperations.{element_name_map}
 use Rattle.sno_runtime.proofs.ObjectLaws.{asked_does, asked_err}
 use Rattle.sno_runtime.proofs.runtime.Runtime.element.Goals as goal

@@ -1,7 +1,8 @@
 use Rattle.std.proofs.lemmas.Result.{err_from_is_err_and}
 use Rattle.sno_store.specs.Outcomes.{itself as as_told}
 use Rattle.sno_runtime.specs.Values.{shown}
-use Rattle.sno_runtime.specs.Runtime.{itself, any}
+use Rattle.sno_runtime.specs.Runtime.{itself}
+use Rattle.sno_runtime.specs.inner.Runtime.{any}
 use Rattle.sno_store.specs.Stored.{stored_notions}
 use Rattle.sno_runtime.specs.Containers.{notions}
 use Rattle.sno_runtime.proofs.ObjectOperations.{find_entry_map}

@@ -1,7 +1,7 @@
 use Rattle.std.proofs.Common.{◌∙◌, ◌++◌, [], ◌∷◌, ap, arith, map, get_or, set}
 use Rattle.sno_value.specs.declared.value.Value.TheVariants.{Str}
 use Rattle.sno_store.specs.Calls.{with_arguments, with_nulls}
-use Rattle.sno_store.specs.Seen.{moved}
+use Rattle.sno_store.specs.inner.Seen.{moved}
 use Rattle.sno_store.proofs.CallLaws.{numbers, saved_all, given}
 use Rattle.sno_store.proofs.call.Call.open.Goals as goal
 

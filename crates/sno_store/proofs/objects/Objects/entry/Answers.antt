@@ -1,6 +1,6 @@
 use Rattle.std.proofs.Common.{arith, rules, subst, sym, Ok, Err}
 use Rattle.std.specs.Box.{with_value}
-use Rattle.sno_store.specs.Seen.{IsEntry}
+use Rattle.sno_store.specs.inner.Seen.{IsEntry}
 use Rattle.sno_store.specs.Stored.{stored_notions}
 use Rattle.sno_store.specs.Tables.{make_entry}
 use Rattle.sno_store.proofs.ObjectLaws.{entry_kept, no_entry, passed_on}

@@ -1,7 +1,7 @@
 use Rattle.std.proofs.Common.{◌∙◌, sym, ap, arith, length}
 use Rattle.std.proofs.lemmas.List.{length-map}
 use Rattle.sno_store.specs.Objects.{changed, with_element}
-use Rattle.sno_store.specs.Seen.{seen}
+use Rattle.sno_store.specs.inner.Seen.{seen}
 use Rattle.sno_store.proofs.ObjectLaws.{changed_is, changed_past}
 use Rattle.sno_store.proofs.objects.Objects.set_element.Goals as goal
 

@@ -1,6 +1,6 @@
 use Rattle.std.proofs.Common.{◌≡◌, ◌∙◌, refl, sym, ap, length, rules}
 use Rattle.sno_store.specs.Store.{Store}
-use Rattle.sno_store.specs.Seen.{prototype_seen}
+use Rattle.sno_store.specs.inner.Seen.{prototype_seen}
 use Rattle.sno_store.proofs.DefineLaws.{define_refused, sound_few, taken_back}
 use Rattle.sno_store.proofs.store.Store.define.Goals as goal
 

@@ -1,7 +1,7 @@
 use Rattle.std.proofs.Common.{◌≡◌, ◌∙◌, eqb, false, refl, sym, ap, arith, length, rules}
 use Rattle.std.proofs.lemmas.Bool.{ne_eqb}
 use Rattle.sno_store.specs.Store.{Store}
-use Rattle.sno_store.specs.Seen.{prototype_seen}
+use Rattle.sno_store.specs.inner.Seen.{prototype_seen}
 use Rattle.sno_store.proofs.DefineLaws.{taken_back}
 use Rattle.sno_store.proofs.TypeLaws.{made_few, type_refused}
 use Rattle.sno_store.proofs.store.Store.define_data.Goals as goal

@@ -4,7 +4,7 @@ use Rattle.sno_value.specs.declared.ids.SymId.{SymId}
 use Rattle.sno_store.specs.Store.{Store}
 use Rattle.sno_store.specs.declared.functions.Function.TheVariants.{Defined}
 use Rattle.sno_store.specs.Functions.{with_function}
-use Rattle.sno_store.specs.Seen.{prototype_seen}
+use Rattle.sno_store.specs.inner.Seen.{prototype_seen}
 use Rattle.sno_store.specs.Symbols.{HasMore}
 use Rattle.sno_store.proofs.NameLaws.{stopped, has_none, has_both}
 use Rattle.sno_store.proofs.DefineLaws.{sound_names, more_all, parts_done, parts_passed, begun_more, formals_stopped, locals_stopped}

@@ -1,6 +1,6 @@
 use Rattle.std.proofs.Common.{rules}
 use Rattle.sno_store.specs.Definitions.{names}
-use Rattle.sno_store.specs.Seen.{prototype_seen}
+use Rattle.sno_store.specs.inner.Seen.{prototype_seen}
 use Rattle.sno_store.proofs.CountLaws.{room_left}
 use Rattle.sno_store.proofs.store.Store.is_full_with.Goals as goal
 

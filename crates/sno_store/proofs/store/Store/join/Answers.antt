@@ -8,7 +8,8 @@ use Rattle.sno_store.specs.declared.error.StoreError.TheVariants.{NoMemory}
 use Rattle.sno_store.specs.Arrays.{is_comma}
 use Rattle.sno_store.specs.Store.{place}
 use Rattle.sno_store.specs.Definitions.{is_name, with_names}
-use Rattle.sno_store.specs.Symbols.{HasMore, AreJoined}
+use Rattle.sno_store.specs.Symbols.{HasMore}
+use Rattle.sno_store.specs.inner.Symbols.{AreJoined}
 use Rattle.sno_store.proofs.CallLaws.{numbers}
 use Rattle.sno_store.proofs.FunctionLaws.{listed_some}
 use Rattle.sno_store.proofs.NameLaws.{has_none, step_stopped, step_symbols, step_few, step_more, step_numbers, join_ends, join_passed}

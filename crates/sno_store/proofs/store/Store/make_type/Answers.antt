@@ -1,7 +1,7 @@
 use Rattle.std.proofs.Common.{◌≡◌, ℕ, List, [], ◌∷◌, ◌++◌, ◌∙◌, length, map, sym, ap, subst, arith, rules}
 use Rattle.sno_store.specs.declared.error.StoreError.TheVariants.{NoMemory}
 use Rattle.sno_store.specs.Store.{Store}
-use Rattle.sno_store.specs.Seen.{prototype_seen}
+use Rattle.sno_store.specs.inner.Seen.{prototype_seen}
 use Rattle.sno_store.specs.Symbols.{HasMore}
 use Rattle.sno_store.specs.declared.functions.Function.TheVariants.{Constructs}
 use Rattle.sno_store.specs.Functions.{with_function}

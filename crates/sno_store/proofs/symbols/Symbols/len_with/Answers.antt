@@ -1,5 +1,5 @@
 use Rattle.std.proofs.Common.{◌≡◌, ◌∙◌, ◌+◌, true, false, ap, arith, rules, length, if◌then◌else◌}
-use Rattle.sno_store.specs.Seen.{prototype_seen}
+use Rattle.sno_store.specs.inner.Seen.{prototype_seen}
 use Rattle.sno_store.proofs.CountLaws.{counted, prototype_counted}
 use Rattle.sno_store.proofs.NameLaws.{with_name}
 use Rattle.sno_store.proofs.symbols.Symbols.len_with.Goals as goal

@@ -1,0 +1,82 @@
+-- What a move of the matcher does to the searches still to come. These words are private to the matcher.
+use Rattle.std.specs.Prelude.{ℕ, ◌≡◌, ◌<◌, ◌≤◌, ◌+◌, ◌-◌, ◌*◌, List, [], ◌∷◌, Option, None, Some, length}
+use Rattle.sno_value.specs.declared.ids.PatId.{PatId}
+use Rattle.sno_pattern.specs.Table.{Node}
+use Rattle.sno_match.specs.declared.goal.Goal.TheVariants.{Match, CloseCut}
+use Rattle.sno_match.specs.declared.event.Event.{Event as Told}
+use Rattle.sno_match.specs.declared.event.Event.TheVariants as V
+use Rattle.sno_match.specs.declared.event.Pending.{Pending}
+use Rattle.sno_match.specs.declared.engine.State.{State}
+use Rattle.sno_match.specs.declared.engine.State.TheVariants as S
+use Rattle.sno_match.specs.declared.plan.Plan.{Plan}
+use Rattle.sno_match.specs.declared.plan.Plan.TheVariants as P
+use Rattle.sno_match.specs.Search.{Event, Answer, Gives, Search, emit}
+use Rattle.sno_match.specs.Events.{in_trace, cost, pending_after}
+use Rattle.sno_match.specs.Point.{Point, with_front, replaced, branched, closed, cut_back, below}
+use Rattle.sno_match.specs.inner.State.{verdict_of, after_move, HasAsked}
+use Rattle.sno_match.specs.inner.Plan.{goals_in}
+use Rattle.sno_match.specs.inner.Remaining.{remaining, waiting}
+
+-- what a move adds to the events; a last event is a verdict, and stands behind them
+abbrev pub entries : Option Told → List Pending → ℕ → List (Event × ℕ)
+entries None way left = []
+entries (Some V.Exhausted) way left = []
+entries (Some V.Aborted) way left = []
+entries (Some V.Limit) way left = []
+entries (Some event) way left = (in_trace event way, left) ∷ []
+
+abbrev pub price : Option Told → ℕ
+price None = 0
+price (Some event) = cost event
+
+abbrev pub way_after : Option Told → List Pending → List Pending → List Pending
+way_after None way was = was
+way_after (Some event) way was = pending_after (in_trace event way) was
+
+-- the searches that a stack is, in a state
+abbrev pub standing : State → List Node → (s : List ℕ) (start : ℕ) → List Point → Search
+standing S.Going nodes s start points answers left = remaining nodes s start points answers left
+standing S.Waiting nodes s start points answers left = waiting nodes s start points answers left
+standing (S.Ended event) nodes s start points answers left = Gives [] answers left (verdict_of event)
+
+-- One move at a stack with a point: the steps taken, the pending list of the last way, and the event, if one is told.
+pub record Makes (nodes : List Node) (s : List ℕ) (start limit : ℕ) (old : List Point) (steps0 : ℕ) (was : List Pending)
+    (told : Option Told) (new : List Point) (steps : ℕ) (way : List Pending) : Type 0 where
+  pub steps_in : steps ≤ limit
+  pub paid : steps0 + price told ≤ steps
+  pub grows : length new + steps0 ≤ length old + steps
+  pub falls : told ≡ None → 2 * (limit - steps) + length new < 2 * (limit - steps0) + length old
+  pub more : told ≡ Some V.Exhausted → ⊥
+  pub asked : HasAsked (after_move told) new
+  pub pending : way ≡ way_after told way was
+  pub leads : (answers : List Answer) → remaining nodes s start old answers (limit - steps0)
+      ≡ emit (entries told way (limit - steps)) (standing (after_move told) nodes s start new answers (limit - steps))
+
+-- the plan takes a step
+abbrev pub Costs : Plan → Type 0
+Costs P.BackIntoFence = ⊥
+Costs P.BackIntoCut = ⊥
+Costs plan = Unit {0}
+
+-- what a plan does to the stack, and what it tells, with the cursor and the steps left behind its own
+abbrev pub CarriesOut : Plan → ℕ → ℕ → List Point → Option Told → List Point → Type 0
+CarriesOut (P.Replace front at) c left old told new = (told ≡ None) × (new ≡ replaced (goals_in front) at old)
+CarriesOut (P.Branch front at next) c left old told new = (told ≡ None) × (new ≡ branched (goals_in front) at next old)
+CarriesOut (P.Close assignment) c left old told new = (told ≡ None) × (new ≡ closed assignment old)
+CarriesOut (P.Assign a) c left old told new = (told ≡ Some (V.Assign a.target a.start a.end))
+    × (new ≡ replaced [] c old)
+CarriesOut (P.Cursor target) c left old told new = (told ≡ Some (V.Cursor target c)) × (new ≡ replaced [] c old)
+CarriesOut (P.Ask prim expr) c left old told new = (told ≡ Some (V.Value prim expr)) × (new ≡ old)
+CarriesOut P.Fail c left old told new = (told ≡ None) × (new ≡ below old)
+CarriesOut P.Abort c left old told new = (told ≡ Some V.Aborted) × (new ≡ old)
+CarriesOut (P.EnterCut p) c left old told new =
+    (told ≡ None) × (new ≡ branched (Match p ∷ CloseCut left (length (below old)) ∷ []) c left old)
+CarriesOut (P.CloseCut depth) c left old told new = (told ≡ None) × (new ≡ cut_back depth old)
+CarriesOut P.BackIntoFence c left old told new = ⊥
+CarriesOut P.BackIntoCut c left old told new = ⊥
+
+-- the stack once the deferred part at its top is answered
+abbrev pub answered : Option PatId → List Point → List Point
+answered None points = below points
+answered (Some id) [] = []
+answered (Some id) (point ∷ rest) = with_front (Match id ∷ []) point.cursor point ∷ rest

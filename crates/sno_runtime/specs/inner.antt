@@ -1,0 +1,8 @@
+pub mod Calls
+pub mod Converted
+pub mod Effects
+pub mod Operations
+pub mod Performs
+pub mod Primitives
+pub mod Runtime
+pub mod Types

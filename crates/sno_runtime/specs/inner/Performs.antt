@@ -1,0 +1,42 @@
+-- What functions did that write. Private contracts alone cite it.
+use Rattle.std.specs.Prelude.{◌≡◌, ℕ, List, ◌++◌, Option, None, Some, Result, Ok, Err, codes}
+use Rattle.std.specs.declared.alloc.Global.{Global}
+use Rattle.std.specs.declared.vec.Vec.{Vec}
+use Rattle.std.specs.Io.KnownBytes.{Appends}
+use Rattle.sno_io.specs.Devices.{Begins}
+use Rattle.sno_runtime.specs.declared.stops.Stop.{Stop}
+use Rattle.sno_runtime.specs.declared.stops.Stop.TheVariants.{Error as HasError, ErrorIn as HasErrorIn, NoMemory}
+use Rattle.sno_runtime.specs.declared.stops.Stop.TheVariants.{ReadFault, WriteFault, Ended as HasEnded}
+use Rattle.sno_runtime.specs.World.{World}
+use Rattle.sno_runtime.specs.Action.{Error, Got, Stops, Outcome, Action}
+use Rattle.sno_runtime.specs.Runtime.{Runtime, world}
+use Rattle.sno_runtime.specs.inner.Runtime.{untouched}
+
+-- what was written and how it ended is what the outcome says; where it was broken off, a beginning was written
+abbrev pub Ends : Outcome Unit → World → List ℕ → Result Unit Stop → Type 0
+Ends o after wrote (Ok done) = o ≡ record { ending = Got tt; world = after; wrote = wrote }
+Ends o after wrote (Err (HasError code)) = (o.ending ≡ Stops (Error code)) × (o.wrote ≡ wrote)
+Ends o after wrote (Err (HasErrorIn code statement)) = ⊥
+Ends o after wrote (Err NoMemory) = Begins wrote o.wrote
+Ends o after wrote (Err ReadFault) = ⊥
+Ends o after wrote (Err WriteFault) = Begins wrote o.wrote
+Ends o after wrote (Err HasEnded) = ⊥
+
+-- The code did what the action does, where the writer had taken `taken` and then `now`.
+pub record Performs (act : Action Unit) (before after : Runtime) (taken now : Option (List ℕ))
+    (result : Result Unit Stop) : Type 0 where
+  pub wrote : List ℕ
+  pub appends : Appends taken now wrote
+  pub ends : (more : List ℕ) → Ends (act (world before more)) (world after more) wrote result
+  pub unread : untouched after ≡ untouched before
+
+-- a value's text with a line feed; a value without one is error 1
+abbrev pub IsLineOf : Option (List ℕ) → Result (Vec ℕ Global) Stop → Type 0
+IsLineOf None (Ok line) = ⊥
+IsLineOf (Some bytes) (Ok line) = line.items ≡ bytes ++ codes "\n"
+IsLineOf o (Err (HasError code)) = (o ≡ None) × (code ≡ 1)
+IsLineOf o (Err (HasErrorIn code statement)) = ⊥
+IsLineOf o (Err NoMemory) = Unit {0}
+IsLineOf o (Err ReadFault) = ⊥
+IsLineOf o (Err WriteFault) = ⊥
+IsLineOf o (Err HasEnded) = ⊥

@@ -1,0 +1,151 @@
+//! Variables by their names, and what names hold.
+ghost use Rattle.std.specs.Prelude.{◌≡◌, IfSome, Ok};
+ghost use Rattle.sno_store.specs.Store.{with_value};
+ghost use Rattle.sno_runtime.specs.Action.{and_then};
+ghost use Rattle.sno_runtime.specs.Values.{shown, IsValueOf};
+ghost use Rattle.sno_runtime.specs.Runtime.{itself};
+ghost use Rattle.sno_runtime.specs.inner.Runtime.{Does, any};
+ghost use Rattle.sno_runtime.specs.Variables.{variable_named, name_value, text_of_name, reads, holds};
+ghost use Rattle.sno_runtime.specs.Variables.{is_input, is_output};
+
+use crate::errors::TOO_LONG;
+use crate::limits::MOST_BYTES;
+use crate::runtime::{FOUND_SYMBOLS, Runtime};
+use crate::stops::{Exit, error};
+use sno_value::{Name, SymId, Value};
+
+/// The number of INPUT among the symbols.
+const INPUT: u32 = 7;
+
+/// The number of OUTPUT among the symbols.
+const OUTPUT: u32 = 8;
+
+impl Runtime {
+    /// The variable that a text names; a text that names none yet joins the symbols. Error 6 where it is null,
+    /// error 8 where it has more than 1,000,000 bytes, and error 9 where there are 1,000,000 symbols.
+    pub fn variable(&mut self, name: &[u8]) -> Result<Name, Exit>
+        ensures { Does itself any (variable_named name.now) self.old self.new result }
+    {
+        if name.len() > MOST_BYTES {
+            return Err(error(TOO_LONG));
+        }
+        let id = self.store.symbol(name)?;
+        Ok(Name::Var(id))
+    }
+
+    /// The same of a name that stands at this place of the program. It is found by its number where it was found there
+    /// before, without looking for its text.
+    pub fn variable_at(&mut self, place: usize, name: &[u8]) -> Result<Name, Exit>
+        ensures { Does itself any (variable_named name.now) self.old self.new result }
+    {
+        let slot = place % FOUND_SYMBOLS;
+        if let Some(id) = self.known(slot, name) {
+            return Ok(Name::Var(id));
+        }
+        let target = self.variable(name)?;
+        if let Name::Var(id) = target {
+            self.keep(slot, id);
+        }
+        Ok(target)
+    }
+
+    /// The symbol of such a name, where it was found there before.
+    #[inline]
+    pub fn symbol_at(&self, place: usize, name: &[u8]) -> Option<SymId>
+        ensures { IfSome result (λ id. Does itself any (variable_named name.now) self.now self.now (Ok (Name.Var id))) }
+    {
+        self.known(place % FOUND_SYMBOLS, name)
+    }
+
+    /// What the variable of such a name holds, where it was found there before and isn't INPUT.
+    #[inline]
+    pub fn value_at(&self, place: usize, name: &[u8]) -> Option<&Value>
+        ensures { IfSome result (λ value. Does shown IsValueOf (and_then (variable_named name.now) reads)
+            self.now self.now (Ok value.now)) }
+    {
+        let target = Name::Var(self.symbol_at(place, name)?);
+        if is_input(target) {
+            return None;
+        }
+        Some(self.store.get(target))
+    }
+
+    /// The symbol that was found last in a slot, where it is this name.
+    fn known(&self, slot: usize, name: &[u8]) -> Option<SymId>
+        ensures { IfSome result (λ id. Does itself any (variable_named name.now) self.now self.now (Ok (Name.Var id))) }
+    {
+        let id = *self.found.get(slot)?;
+        if name.is_empty() || self.store.symbol_text(id) != name {
+            return None;
+        }
+        Some(id)
+    }
+
+    /// Keeps the symbol that was found for a slot.
+    fn keep(&mut self, slot: usize, id: SymId)
+        ensures { self.new ≡ self.old }
+    {
+        if slot < self.found.len() {
+            self.found[slot] = id;
+        }
+    }
+
+    /// The bytes of a variable's name; none of any other name.
+    pub fn name_text(&self, name: Name) -> &[u8]
+        ensures { result.now ≡ text_of_name self.now.store.symbols name }
+    {
+        match name {
+            Name::Var(id) => self.store.symbol_text(id),
+            _ => &[],
+        }
+    }
+
+    /// A name as a value: the text of a variable's.
+    pub fn name_value(&self, name: Name) -> Result<Value, Exit>
+        ensures { Does shown IsValueOf (name_value name) self.now self.now result }
+    {
+        match name {
+            Name::Var(id) => {
+                let text = self.store.symbol_text(id).to_vec(self.alloc)?;
+                Ok(Value::Str(sno_value::Text::new(text)))
+            }
+            other => Ok(Value::Name(other)),
+        }
+    }
+
+    /// The value that a variable, an element, an entry or a field holds.
+    pub fn stored(&self, name: Name) -> Result<Value, Exit>
+        ensures { Does shown IsValueOf (holds name) self.now self.now result }
+    {
+        let value = self.store.get(name).copy(self.alloc)?;
+        Ok(value)
+    }
+
+    /// Gives a variable a value.
+    pub fn set(&mut self, name: Name, value: Value)
+        requires { IsValueOf self.old.nodes value }
+        ensures { self.new ≡ record self.old { store = with_value name value self.old.store } }
+    {
+        self.store.set(name, value);
+    }
+}
+
+/// Whether a name is that of INPUT.
+pub(crate) fn is_input(name: Name) -> bool
+    ensures { result ≡ is_input name }
+{
+    match name {
+        Name::Var(id) => id.0 == INPUT,
+        _ => false,
+    }
+}
+
+/// Whether a name is that of OUTPUT.
+pub fn is_output(name: Name) -> bool
+    ensures { result ≡ is_output name }
+{
+    match name {
+        Name::Var(id) => id.0 == OUTPUT,
+        _ => false,
+    }
+}

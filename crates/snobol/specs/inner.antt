@@ -1,0 +1,9 @@
+pub mod Begun
+pub mod Calling
+pub mod Endings
+pub mod Flat
+pub mod Forms
+pub mod Given
+pub mod Running
+pub mod Targets
+pub mod Told
