@@ -1,5 +1,9 @@
-//! The devices of a run, the lines that are read from them and the bytes that are written to them, and the words of the
-//! command line.
+//! The devices of a run, the lines that are read from them and the bytes that are written to them, and the words of
+//! the command line.
+//!
+//! `devices` says what a reader and a writer promise, `streams` makes them of those of the standard library, and
+//! `lines` cuts what a reader gives, read ahead into a `buffer`, into lines. `words` reads the command line with
+//! `clap` and tells which of the `jobs` it asks for; `help` is what the program says of itself.
 #![tactic(auto)]
 
 mod buffer;

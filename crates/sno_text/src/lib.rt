@@ -1,5 +1,12 @@
-//! The reader of SNOBOL4 programs and expressions: a text becomes a flat table of expression nodes, or is refused
-//! with the line and the reason.
+//! The reader of SNOBOL4 programs and expressions: a text becomes a flat table of expression nodes, or is refused with
+//! the line and the reason.
+//!
+//! A program is read from `whole` down: `layout` joins its lines and cuts them into statements, and `judge` judges
+//! these in their order, up to END. Of each `scan` looks for literals and brackets that are open, `phrase` reads its
+//! label, its core (`body`) and its gotos (`goto`), and `expression` what stands in these. An expression alone is read
+//! from `reader` down: `expression` has a function for each part of the grammar, `operator` the signs, `token` the
+//! primaries of one token, `bytes` the classes of bytes. `table` holds the nodes as they are made, and `program` is
+//! what is given. `laws` has what is true of the grammar.
 #![tactic(auto)]
 
 mod body;

@@ -1,4 +1,8 @@
 //! Values of SNOBOL4 programs, and what is computed of them.
+//!
+//! `value` has the values and the names that can be assigned to, `text` their strings, `ids` the numbers by which
+//! other crates' tables know their entries, and `kind` the primitives that take an argument. `integer` reads and
+//! writes integers, `arithmetic` computes with them, and `strings` has the functions of texts.
 #![tactic(auto)]
 
 mod arithmetic;

@@ -3,7 +3,7 @@ use Rattle.std.proofs.lemmas.Result.{err_from_is_err_and}
 use Rattle.sno_runtime.specs.inner.Runtime.{untouched}
 use Rattle.sno_runtime.proofs.Stores.{set_untouched}
 use Rattle.sno_runtime.proofs.Performing.{stored, output_written, output_cut, output_refused}
-use Rattle.sno_runtime.proofs.session.assign.Goals as goal
+use Rattle.sno_runtime.proofs.effects.assign.Goals as goal
 
 pub returns-then-not-is_output-clause-does : goal.returns-then-not-is_output-clause-does
 returns-then-not-is_output-clause-does g c = stored c.args.target c.args.value _ _ _ (sym c.is_output.ensures ∙ c.if-not-is_output.true) c.set.ensures

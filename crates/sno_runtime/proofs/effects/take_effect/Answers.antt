@@ -4,7 +4,7 @@ use mir.Syntax.{w64}
 use Rattle.std.proofs.lemmas.Result.{err_from_is_err_and}
 use Rattle.sno_runtime.specs.Effects.{part_of}
 use Rattle.sno_runtime.proofs.Performing.{no_memory}
-use Rattle.sno_runtime.proofs.session.take_effect.Goals as goal
+use Rattle.sno_runtime.proofs.effects.take_effect.Goals as goal
 
 pub returns-in_ok-part-in-Assign-clause-does : goal.returns-in_ok-part-in-Assign-clause-does
 returns-in_ok-part-in-Assign-clause-does g c =
