@@ -10,7 +10,7 @@ use Rattle.sno_match.specs.declared.shared.GoalRecord.{GoalRecord}
 use Rattle.sno_match.specs.declared.shared.Held.{Held}
 use Rattle.sno_match.specs.Point.{Point, rest_of, cut_back}
 use Rattle.sno_match.specs.declared.copied.Held.{Held as Copied}
-use Rattle.sno_match.specs.inner.Copied.{point_of as copied_of, points_of as copied_points}
+use Rattle.sno_match.specs.Copied.{point_of as copied_of, points_of as copied_points}
 use Rattle.sno_match.specs.inner.Shared.{goals_of, Fits, Holds, point_of, points_of}
 use Rattle.std.proofs.lemmas.Option.{slice_get-get_or}
 use Rattle.sno_match.proofs.ReadingLaws.{drop-at}

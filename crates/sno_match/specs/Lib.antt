@@ -9,4 +9,6 @@ pub mod Within
 pub mod Matching
 pub mod Point
 pub mod Top
+pub mod Copied
+pub mod Shared
 pub mod inner

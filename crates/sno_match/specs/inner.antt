@@ -1,4 +1,3 @@
-pub mod Copied
 pub mod Move
 pub mod Plan
 pub mod Remaining

@@ -34,7 +34,7 @@ pub struct CopiedGoals {
 }
 
 impl Points for CopiedGoals {
-    ghost use Rattle.sno_match.specs.inner.Copied.{points_of};
+    ghost use Rattle.sno_match.specs.Copied.{points_of};
 
     ghost points = { λ c. points_of c.top c.below.items };
 

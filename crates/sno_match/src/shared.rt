@@ -49,7 +49,8 @@ pub struct SharedGoals {
 
 impl Model for SharedGoals {
     ghost use Rattle.std.specs.Prelude.{length};
-    ghost use Rattle.sno_match.specs.inner.Shared.{Seen, Holds, points_of};
+    ghost use Rattle.sno_match.specs.Shared.{Seen};
+    ghost use Rattle.sno_match.specs.inner.Shared.{Holds, points_of};
 
     ghost Value = { Seen };
 

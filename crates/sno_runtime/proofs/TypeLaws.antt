@@ -19,7 +19,7 @@ use Rattle.sno_runtime.specs.declared.stops.Exit.TheVariants.{Halt}
 use Rattle.sno_runtime.specs.declared.stops.Stop.TheVariants.{Error as HasError}
 use Rattle.sno_runtime.specs.Values.{Value, Str, shown, IsValueOf}
 use Rattle.sno_runtime.specs.Action.{Error, Got, Stops, Outcome, stops}
-use Rattle.sno_runtime.specs.inner.Types.{after_type, makes_type as makes, type_made, data_called, type_name, datatype}
+use Rattle.sno_runtime.specs.Types.{after_type, makes_type as makes, type_made, data_called, type_name, datatype}
 use Rattle.sno_runtime.specs.Runtime.{Runtime, world, IsKnown, itself}
 use Rattle.sno_runtime.specs.inner.Runtime.{Meets, Does, any, exit_of_store}
 use Rattle.sno_runtime.proofs.Calls.{more_shown}

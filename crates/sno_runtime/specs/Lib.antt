@@ -13,4 +13,5 @@ pub mod Fields
 pub mod Operators
 pub mod Lines
 pub mod Effects
+pub mod Types
 pub mod inner

@@ -5,4 +5,3 @@ pub mod Operations
 pub mod Performs
 pub mod Primitives
 pub mod Runtime
-pub mod Types

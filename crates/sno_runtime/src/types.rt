@@ -3,7 +3,7 @@ ghost use Rattle.std.specs.Prelude.{◌≡◌, List};
 ghost use Rattle.sno_pattern.specs.Table.{Node};
 ghost use Rattle.sno_runtime.specs.Values.{shown, IsValueOf};
 ghost use Rattle.sno_runtime.specs.Functions.{ident, differ, same, integer};
-ghost use Rattle.sno_runtime.specs.inner.Types.{data_called, type_made, datatype};
+ghost use Rattle.sno_runtime.specs.Types.{data_called, type_made, datatype};
 ghost use Rattle.sno_runtime.specs.Runtime.{Runtime};
 ghost use Rattle.sno_runtime.specs.inner.Runtime.{Does};
 

@@ -7,10 +7,6 @@ use Rattle.sno_match.specs.declared.shared.GoalRecord.{GoalRecord}
 use Rattle.sno_match.specs.declared.shared.Held.{Held}
 use Rattle.sno_match.specs.Point.{Point}
 
-pub record Seen : Type 0 where
-  pub points : List Point
-  pub count : ℕ
-
 -- the list with this number, among records of which the newest stands first
 unfoldable pub goals_at : List GoalRecord → ℕ → List Goal
 goals_at [] n = []

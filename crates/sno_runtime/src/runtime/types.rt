@@ -5,7 +5,7 @@ ghost use Rattle.sno_store.specs.Functions.{constructor_at, function_at, is_fiel
 ghost use Rattle.sno_store.specs.Symbols.{found};
 ghost use Rattle.sno_store.specs.Types.{field_name};
 ghost use Rattle.sno_runtime.specs.Fields.{makes_object, is_made};
-ghost use Rattle.sno_runtime.specs.inner.Types.{makes_type, type_name};
+ghost use Rattle.sno_runtime.specs.Types.{makes_type, type_name};
 ghost use Rattle.sno_runtime.specs.Values.{shown, IsValueOf};
 ghost use Rattle.sno_runtime.specs.Runtime.{itself, world};
 ghost use Rattle.sno_runtime.specs.inner.Runtime.{Does, any};

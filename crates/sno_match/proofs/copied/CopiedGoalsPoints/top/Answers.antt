@@ -1,6 +1,6 @@
 use Rattle.std.proofs.Common.{map, reverse, [], ◌∷◌, ◌∙◌, sym, ap}
 use Rattle.sno_match.specs.Point.{rest_of}
-use Rattle.sno_match.specs.inner.Copied.{point_of}
+use Rattle.sno_match.specs.Copied.{point_of}
 use Rattle.sno_match.proofs.CopiedLaws.{top_is}
 use Rattle.sno_match.proofs.copied.CopiedGoalsPoints.top.Goals as goal
 
