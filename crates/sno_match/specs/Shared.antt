@@ -1,4 +1,4 @@
--- The points that a stack with shared goal records holds. These words are private to the matcher.
+-- What contracts see of a stack that shares its goals: its points, and how many goal records it has.
 use Rattle.std.specs.Prelude.{ℕ, List}
 use Rattle.sno_match.specs.Point.{Point}
 
