@@ -9,7 +9,7 @@ ghost use Rattle.sno_pattern.specs.Table.{CutNode, ArbnoNode, AltNode, CatNode, 
 ghost use Rattle.sno_pattern.specs.Table.{DeferNode};
 ghost use Rattle.sno_pattern.specs.inner.Table.{PartsBelow};
 ghost use Rattle.sno_pattern.specs.Arguments.{IsArgOf, IsNullSet, IsBadCount, IsGoodArg, primitive_of};
-ghost use Rattle.sno_pattern.specs.Built.{Appends};
+ghost use Rattle.sno_pattern.specs.Built.{Appends, Builds};
 ghost use Rattle.sno_pattern.specs.Quiet.{IsQuiet};
 ghost use Rattle.sno_pattern.specs.NextEnd.{ends_of, next_end};
 ghost use Rattle.sno_pattern.specs.Places.{IsFirstPlace, has_end};
@@ -92,11 +92,7 @@ impl Patterns {
     /// A text, which matches itself.
     pub fn text(&mut self, bytes: &[u8]) -> Result<PatId, BuildError>
         requires { length bytes.now ≤ 1000000 }
-        ensures ok { IfOk result (Appends self.old self.new (LeafNode (Text bytes.now))) }
-        ensures stands { IfOk result (λ id. tree self.new id.0 ≡ Leaf (Text bytes.now)) }
-        ensures err { OnErr result (self.new ≡ self.old) }
-        ensures full { IsErrOf result BuildError.Full ↔ (length self.old ≡ 4000000) }
-        ensures others { IfErr result (λ e. (e ≡ BuildError.Full) ⊎ (e ≡ BuildError.NoMemory)) }
+        ensures built { Builds (LeafNode (Text bytes.now)) (Leaf (Text bytes.now)) self.old self.new result }
     {
         if self.entries.len() == MOST_NODES {
             return Err(BuildError::Full);
@@ -137,77 +133,49 @@ impl Patterns {
 
     /// ARB: any part, the shortest first.
     pub fn arb(&mut self) -> Result<PatId, BuildError>
-        ensures ok { IfOk result (Appends self.old self.new (LeafNode Arb)) }
-        ensures stands { IfOk result (λ id. tree self.new id.0 ≡ Leaf Arb) }
-        ensures err { OnErr result (self.new ≡ self.old) }
-        ensures full { IsErrOf result BuildError.Full ↔ (length self.old ≡ 4000000) }
-        ensures others { IfErr result (λ e. (e ≡ BuildError.Full) ⊎ (e ≡ BuildError.NoMemory)) }
+        ensures built { Builds (LeafNode Arb) (Leaf Arb) self.old self.new result }
     {
         append(&mut self.entries, Kind::Arb)
     }
 
     /// BAL: any part but the null one that is balanced in `(` and `)`, the shortest first.
     pub fn bal(&mut self) -> Result<PatId, BuildError>
-        ensures ok { IfOk result (Appends self.old self.new (LeafNode Bal)) }
-        ensures stands { IfOk result (λ id. tree self.new id.0 ≡ Leaf Bal) }
-        ensures err { OnErr result (self.new ≡ self.old) }
-        ensures full { IsErrOf result BuildError.Full ↔ (length self.old ≡ 4000000) }
-        ensures others { IfErr result (λ e. (e ≡ BuildError.Full) ⊎ (e ≡ BuildError.NoMemory)) }
+        ensures built { Builds (LeafNode Bal) (Leaf Bal) self.old self.new result }
     {
         append(&mut self.entries, Kind::Bal)
     }
 
     /// REM: the rest of the subject.
     pub fn rem(&mut self) -> Result<PatId, BuildError>
-        ensures ok { IfOk result (Appends self.old self.new (LeafNode Rem)) }
-        ensures stands { IfOk result (λ id. tree self.new id.0 ≡ Leaf Rem) }
-        ensures err { OnErr result (self.new ≡ self.old) }
-        ensures full { IsErrOf result BuildError.Full ↔ (length self.old ≡ 4000000) }
-        ensures others { IfErr result (λ e. (e ≡ BuildError.Full) ⊎ (e ≡ BuildError.NoMemory)) }
+        ensures built { Builds (LeafNode Rem) (Leaf Rem) self.old self.new result }
     {
         append(&mut self.entries, Kind::Rem)
     }
 
     /// FAIL: nothing.
     pub fn fail(&mut self) -> Result<PatId, BuildError>
-        ensures ok { IfOk result (Appends self.old self.new (LeafNode Fail)) }
-        ensures stands { IfOk result (λ id. tree self.new id.0 ≡ Leaf Fail) }
-        ensures err { OnErr result (self.new ≡ self.old) }
-        ensures full { IsErrOf result BuildError.Full ↔ (length self.old ≡ 4000000) }
-        ensures others { IfErr result (λ e. (e ≡ BuildError.Full) ⊎ (e ≡ BuildError.NoMemory)) }
+        ensures built { Builds (LeafNode Fail) (Leaf Fail) self.old self.new result }
     {
         append(&mut self.entries, Kind::Fail)
     }
 
     /// FENCE: the null part; when it is backed into, the whole match is over.
     pub fn fence(&mut self) -> Result<PatId, BuildError>
-        ensures ok { IfOk result (Appends self.old self.new FenceNode) }
-        ensures stands { IfOk result (λ id. tree self.new id.0 ≡ Fence) }
-        ensures err { OnErr result (self.new ≡ self.old) }
-        ensures full { IsErrOf result BuildError.Full ↔ (length self.old ≡ 4000000) }
-        ensures others { IfErr result (λ e. (e ≡ BuildError.Full) ⊎ (e ≡ BuildError.NoMemory)) }
+        ensures built { Builds FenceNode Fence self.old self.new result }
     {
         append(&mut self.entries, Kind::Fence)
     }
 
     /// ABORT: the whole match is over at once.
     pub fn abort(&mut self) -> Result<PatId, BuildError>
-        ensures ok { IfOk result (Appends self.old self.new AbortNode) }
-        ensures stands { IfOk result (λ id. tree self.new id.0 ≡ Abort) }
-        ensures err { OnErr result (self.new ≡ self.old) }
-        ensures full { IsErrOf result BuildError.Full ↔ (length self.old ≡ 4000000) }
-        ensures others { IfErr result (λ e. (e ≡ BuildError.Full) ⊎ (e ≡ BuildError.NoMemory)) }
+        ensures built { Builds AbortNode Abort self.old self.new result }
     {
         append(&mut self.entries, Kind::Abort)
     }
 
     /// SUCCEED: the null part, and the same again at every retry.
     pub fn succeed(&mut self) -> Result<PatId, BuildError>
-        ensures ok { IfOk result (Appends self.old self.new SucceedNode) }
-        ensures stands { IfOk result (λ id. tree self.new id.0 ≡ Succeed) }
-        ensures err { OnErr result (self.new ≡ self.old) }
-        ensures full { IsErrOf result BuildError.Full ↔ (length self.old ≡ 4000000) }
-        ensures others { IfErr result (λ e. (e ≡ BuildError.Full) ⊎ (e ≡ BuildError.NoMemory)) }
+        ensures built { Builds SucceedNode Succeed self.old self.new result }
     {
         append(&mut self.entries, Kind::Succeed)
     }
@@ -215,11 +183,7 @@ impl Patterns {
     /// FENCE(P), a cut: the first way of P, and no other.
     pub fn cut(&mut self, body: PatId) -> Result<PatId, BuildError>
         requires body { body.0 < length self.old }
-        ensures ok { IfOk result (Appends self.old self.new (CutNode body.0)) }
-        ensures stands { IfOk result (λ id. tree self.new id.0 ≡ Cut (tree self.old body.0)) }
-        ensures err { OnErr result (self.new ≡ self.old) }
-        ensures full { IsErrOf result BuildError.Full ↔ (length self.old ≡ 4000000) }
-        ensures others { IfErr result (λ e. (e ≡ BuildError.Full) ⊎ (e ≡ BuildError.NoMemory)) }
+        ensures built { Builds (CutNode body.0) (Cut (tree self.old body.0)) self.old self.new result }
     {
         append(&mut self.entries, Kind::Cut(body))
     }
@@ -227,11 +191,7 @@ impl Patterns {
     /// ARBNO(P): P any number of times, the fewest first.
     pub fn arbno(&mut self, body: PatId) -> Result<PatId, BuildError>
         requires body { body.0 < length self.old }
-        ensures ok { IfOk result (Appends self.old self.new (ArbnoNode body.0)) }
-        ensures stands { IfOk result (λ id. tree self.new id.0 ≡ Arbno (tree self.old body.0)) }
-        ensures err { OnErr result (self.new ≡ self.old) }
-        ensures full { IsErrOf result BuildError.Full ↔ (length self.old ≡ 4000000) }
-        ensures others { IfErr result (λ e. (e ≡ BuildError.Full) ⊎ (e ≡ BuildError.NoMemory)) }
+        ensures built { Builds (ArbnoNode body.0) (Arbno (tree self.old body.0)) self.old self.new result }
     {
         append(&mut self.entries, Kind::Arbno(body))
     }
@@ -240,11 +200,8 @@ impl Patterns {
     pub fn alt(&mut self, first: PatId, second: PatId) -> Result<PatId, BuildError>
         requires first { first.0 < length self.old }
         requires second { second.0 < length self.old }
-        ensures ok { IfOk result (Appends self.old self.new (AltNode first.0 second.0)) }
-        ensures stands { IfOk result (λ id. tree self.new id.0 ≡ Alt (tree self.old first.0) (tree self.old second.0)) }
-        ensures err { OnErr result (self.new ≡ self.old) }
-        ensures full { IsErrOf result BuildError.Full ↔ (length self.old ≡ 4000000) }
-        ensures others { IfErr result (λ e. (e ≡ BuildError.Full) ⊎ (e ≡ BuildError.NoMemory)) }
+        ensures built { Builds (AltNode first.0 second.0) (Alt (tree self.old first.0) (tree self.old second.0))
+            self.old self.new result }
     {
         append(&mut self.entries, Kind::Alt(first, second))
     }
@@ -253,11 +210,8 @@ impl Patterns {
     pub fn cat(&mut self, first: PatId, second: PatId) -> Result<PatId, BuildError>
         requires first { first.0 < length self.old }
         requires second { second.0 < length self.old }
-        ensures ok { IfOk result (Appends self.old self.new (CatNode first.0 second.0)) }
-        ensures stands { IfOk result (λ id. tree self.new id.0 ≡ Cat (tree self.old first.0) (tree self.old second.0)) }
-        ensures err { OnErr result (self.new ≡ self.old) }
-        ensures full { IsErrOf result BuildError.Full ↔ (length self.old ≡ 4000000) }
-        ensures others { IfErr result (λ e. (e ≡ BuildError.Full) ⊎ (e ≡ BuildError.NoMemory)) }
+        ensures built { Builds (CatNode first.0 second.0) (Cat (tree self.old first.0) (tree self.old second.0))
+            self.old self.new result }
     {
         append(&mut self.entries, Kind::Cat(first, second))
     }
@@ -265,11 +219,7 @@ impl Patterns {
     /// P . N: P, whose part is assigned to N once the whole match has succeeded.
     pub fn cond(&mut self, body: PatId, target: Name) -> Result<PatId, BuildError>
         requires body { body.0 < length self.old }
-        ensures ok { IfOk result (Appends self.old self.new (CondNode body.0 target)) }
-        ensures stands { IfOk result (λ id. tree self.new id.0 ≡ Cond (tree self.old body.0) target) }
-        ensures err { OnErr result (self.new ≡ self.old) }
-        ensures full { IsErrOf result BuildError.Full ↔ (length self.old ≡ 4000000) }
-        ensures others { IfErr result (λ e. (e ≡ BuildError.Full) ⊎ (e ≡ BuildError.NoMemory)) }
+        ensures built { Builds (CondNode body.0 target) (Cond (tree self.old body.0) target) self.old self.new result }
     {
         append(&mut self.entries, Kind::Cond(body, target))
     }
@@ -277,44 +227,29 @@ impl Patterns {
     /// P $ N: P, whose part is assigned to N each time that P ends.
     pub fn imm(&mut self, body: PatId, target: Name) -> Result<PatId, BuildError>
         requires body { body.0 < length self.old }
-        ensures ok { IfOk result (Appends self.old self.new (ImmNode body.0 target)) }
-        ensures stands { IfOk result (λ id. tree self.new id.0 ≡ Imm (tree self.old body.0) target) }
-        ensures err { OnErr result (self.new ≡ self.old) }
-        ensures full { IsErrOf result BuildError.Full ↔ (length self.old ≡ 4000000) }
-        ensures others { IfErr result (λ e. (e ≡ BuildError.Full) ⊎ (e ≡ BuildError.NoMemory)) }
+        ensures built { Builds (ImmNode body.0 target) (Imm (tree self.old body.0) target) self.old self.new result }
     {
         append(&mut self.entries, Kind::Imm(body, target))
     }
 
     /// @N: the null part, where the cursor is assigned to N.
     pub fn cursor(&mut self, target: Name) -> Result<PatId, BuildError>
-        ensures ok { IfOk result (Appends self.old self.new (PlaceNode target)) }
-        ensures stands { IfOk result (λ id. tree self.new id.0 ≡ Place target) }
-        ensures err { OnErr result (self.new ≡ self.old) }
-        ensures full { IsErrOf result BuildError.Full ↔ (length self.old ≡ 4000000) }
-        ensures others { IfErr result (λ e. (e ≡ BuildError.Full) ⊎ (e ≡ BuildError.NoMemory)) }
+        ensures built { Builds (PlaceNode target) (Place target) self.old self.new result }
     {
         append(&mut self.entries, Kind::Cursor(target))
     }
 
     /// *E: the pattern that the expression gives each time that it is reached.
     pub fn defer(&mut self, expression: ExprId) -> Result<PatId, BuildError>
-        ensures ok { IfOk result (Appends self.old self.new (DeferNode None expression.0)) }
-        ensures stands { IfOk result (λ id. tree self.new id.0 ≡ Defer None expression.0) }
-        ensures err { OnErr result (self.new ≡ self.old) }
-        ensures full { IsErrOf result BuildError.Full ↔ (length self.old ≡ 4000000) }
-        ensures others { IfErr result (λ e. (e ≡ BuildError.Full) ⊎ (e ≡ BuildError.NoMemory)) }
+        ensures built { Builds (DeferNode None expression.0) (Defer None expression.0) self.old self.new result }
     {
         append(&mut self.entries, Kind::Defer(expression))
     }
 
     /// A primitive whose argument is what the expression gives each time that it is reached.
     pub fn defer_prim(&mut self, prim: Prim, expression: ExprId) -> Result<PatId, BuildError>
-        ensures ok { IfOk result (Appends self.old self.new (DeferNode (Some prim) expression.0)) }
-        ensures stands { IfOk result (λ id. tree self.new id.0 ≡ Defer (Some prim) expression.0) }
-        ensures err { OnErr result (self.new ≡ self.old) }
-        ensures full { IsErrOf result BuildError.Full ↔ (length self.old ≡ 4000000) }
-        ensures others { IfErr result (λ e. (e ≡ BuildError.Full) ⊎ (e ≡ BuildError.NoMemory)) }
+        ensures built { Builds (DeferNode (Some prim) expression.0) (Defer (Some prim) expression.0)
+            self.old self.new result }
     {
         append(&mut self.entries, Kind::DeferPrim(prim, expression))
     }
