@@ -3,4 +3,4 @@ use Rattle.sno_runtime.proofs.Builders.{made}
 use Rattle.sno_runtime.proofs.runtime.Runtime.text.Goals as goal
 
 pub returns : goal.returns
-returns c = rw (← c.self.view_is) (made _ _ _ _ c.self.invariant refl c.in_ok-id.ensures.ok)
+returns c = rw (← c.self.view_is) (made _ _ _ _ c.self.invariant refl c.in_ok-id.ensures.built.ok)
