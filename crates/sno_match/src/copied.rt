@@ -23,7 +23,8 @@ struct Held {
 }
 
 /// A stack of points: the newest, and those below it with the newest of them last. Lists that are no longer needed are
-/// kept, so that a move takes memory only where no list has room for it.
+/// kept, so that a move takes memory only where no list has room for it. It is public so that a matcher with this stack
+/// can be compared with the one in use.
 #[derive(Drop)]
 pub struct CopiedGoals {
     top: Option<Held>,
