@@ -1,4 +1,4 @@
-//! What the interpreter is asked: commands, programs, patterns and values.
+//! What is asked: commands, programs, patterns and values.
 ghost use Rattle.snobol.specs.Jobs.{IsInRange};
 
 use super::rows::Question;

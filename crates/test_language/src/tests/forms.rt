@@ -1,6 +1,6 @@
 //! Forms and what they give of their operands, worked out by hand.
 use super::asking::Values;
-use super::interpreter::PatternNumbers;
+use super::machine::PatternNumbers;
 use super::rows::check_rows;
 use std::test::Fail;
 

@@ -1,233 +1,185 @@
-//! Values that no expression gives yet: names of elements and entries, arrays, tables and expressions.
-ghost use Rattle.std.specs.Prelude.{List};
-ghost use Rattle.sno_pattern.specs.Table.{Node};
-ghost use Rattle.sno_runtime.specs.Values.{IsValueOf};
+//! Expressions and matches that a machine is asked for, call after call.
+ghost use Rattle.std.specs.Prelude.{◌≡◌, ◌≤◌, None, length};
+ghost use Rattle.snobol.specs.Running.{CanRun, devices};
 
 use super::rows::{Question, check_rows};
-use sno_runtime::{
-    Exit, Keywords, Machine, Stop, assign, called, function_named, operation, unary_name,
-};
-use sno_text::{Operator, UnaryOperator};
-use sno_value::{ExprId, Name, ObjId, SymId, Text, Value};
-use snobol::{Device, Sink};
-use std::alloc::{AllocError, Global};
-use std::process::Abort;
+use sno_text::read_expression;
+use sno_value::{ExprId, PatId};
+use snobol::{Device, Limits, Machine, Outcome, Sink, Source};
+use std::alloc::Global;
 use std::str::from_utf8;
 use std::test::Fail;
 
-const OUTPUT: Name = Name::Var(SymId(8));
+const LIMITS: Limits = Limits {
+    statements: 1_000_000,
+    match_steps: 100,
+};
 
-/// The value for which a word of a row stands: the null string where it is none of these.
-fn value_named(alloc: Global, word: &str) -> Value
-    ensures { (nodes : List Node) → IsValueOf nodes result }
+/// The most bytes of a subject.
+const MOST_BYTES: usize = 1_000_000;
+
+/// What a match answers.
+type Found = Result<Option<(usize, usize)>, Outcome>;
+
+/// An error outside any statement.
+fn error(code: u8) -> Outcome {
+    Outcome::Error { code, statement: 0 }
+}
+
+/// Where the pattern that an expression gives first matches.
+fn find<R: Source, W: Sink>(
+    machine: &mut Machine<'_>,
+    reader: &mut R,
+    writer: &mut W,
+    expression: ExprId,
+    subject: &[u8],
+) -> Found
+    requires subject { length subject.now ≤ 1_000_000 }
+    requires ready { machine.old.stopped ≡ None → CanRun machine.old.state (devices (R.feed reader.old) (W.drain writer.old)) }
+    ensures ready { machine.new.stopped ≡ None → CanRun machine.new.state (devices (R.feed reader.new) (W.drain writer.new)) }
 {
-    match word {
-        "ARB" => Value::Name(Name::Var(SymId(0))),
-        "BAL" => Value::Name(Name::Var(SymId(1))),
-        "OUTPUT" => Value::Name(OUTPUT),
-        "A<1>" => Value::Name(Name::Elem(ObjId(0), 1)),
-        "A<2>" => Value::Name(Name::Elem(ObjId(0), 2)),
-        "B<1>" => Value::Name(Name::Elem(ObjId(1), 1)),
-        "T<1>" => Value::Name(Name::Entry(ObjId(0), 1)),
-        "A" => Value::Array(ObjId(0)),
-        "B" => Value::Array(ObjId(1)),
-        "T" => Value::Table(ObjId(0)),
-        "U" => Value::Table(ObjId(1)),
-        "0" => Value::Int(0),
-        "1" => Value::Int(1),
-        "*X" => Value::Expr(ExprId(0)),
-        _ => Value::Str(Text::new(Vec::new(alloc))),
+    match machine.pattern(reader, writer, expression) {
+        Ok(Some(pattern)) => machine.match_first(reader, writer, pattern, subject),
+        Ok(None) => Ok(None),
+        Err(outcome) => Err(outcome),
     }
 }
 
-/// What is given, as a text.
-fn given_text(alloc: Global, given: Result<Value, Exit>) -> Result<String, Fail> {
-    match given {
-        Ok(Value::Str(text)) => Ok(format!(in alloc; "'{}'", from_utf8(text.as_slice())?)?),
-        Ok(value) => Ok(format!(in alloc; "{value:?}")?),
-        Err(Exit::Failure) => Ok(String::from_str(alloc, "fails")?),
-        Err(Exit::Halt(Stop::Error(code))) => Ok(format!(in alloc; "error {code}")?),
-        Err(Exit::Halt(stop)) => Ok(format!(in alloc; "{stop:?}")?),
-    }
-}
-
-/// Keywords as they are before a first statement.
-fn new_machine(alloc: Global) -> Result<Machine, AllocError> {
-    let machine = Machine::new(alloc, Keywords::new(false, 1_000_000, 1_000_000))?;
-    Ok(machine)
-}
-
-/// What a form or a function gives of two values.
-fn given(machine: &mut Machine, form: &str, x: Value, y: Value) -> Result<Value, Exit>
-    requires x { IsValueOf machine.old.nodes x }
-    requires y { IsValueOf machine.old.nodes y }
-{
-    match form {
-        "." => operation(machine, Operator::Conditional, x, y),
-        "$" => operation(machine, Operator::Immediate, x, y),
-        "|" => operation(machine, Operator::Alternate, x, y),
-        "&" => operation(machine, Operator::Concatenate, x, y),
-        "name" => unary_name(machine, UnaryOperator::Indirect, x),
-        _ => called(machine, function_named(form.as_bytes()), &mut [x, y]),
-    }
-}
-
-/// `FORM X Y`: what a form or a function gives of two values in a new machine, and how many patterns there are then.
-/// The form `&` is a concatenation, and `name` what `$X` names.
+/// The number of the pattern that an expression gives.
 #[derive(Drop)]
-struct Forms;
+pub struct PatternNumbers;
 
-impl Question for Forms {
+impl Question for PatternNumbers {
     fn answer(alloc: Global, text: &[u8]) -> Result<String, Fail> {
-        let (form, values) = from_utf8(text)?.split_once(" ").unwrap_or_default();
-        let (x, y) = values.split_once(" ").unwrap_or((values, ""));
-        let mut machine = new_machine(alloc)?;
-        let given = given(
-            &mut machine,
-            form,
-            value_named(alloc, x),
-            value_named(alloc, y),
-        );
-        let given = given_text(alloc, given)?;
-        let patterns = machine.patterns().len();
-        Ok(format!(in alloc; "{given}, {patterns} patterns")?)
-    }
-}
-
-/// The types are judged before a pattern is made.
-const OPERATORS: &str = r"
-& A null => Array(ObjId(0)), 7 patterns
-& 1 T => error 1, 7 patterns
-| 1 T => error 1, 7 patterns
-| *X 1 => Pat(PatId(9)), 10 patterns
-. A OUTPUT => error 1, 7 patterns
-$ BAL OUTPUT => error 1, 7 patterns
-. 1 1 => error 1, 7 patterns
-. *X OUTPUT => Pat(PatId(8)), 9 patterns
-";
-
-#[test]
-fn operators(rt: HostRuntime) -> Result<(), Fail> {
-    check_rows::<Forms, _>(&rt, OPERATORS)
-}
-
-/// Nine symbols are there from the start, and a new one takes the next number.
-const NAMES_BY_VALUES: &str = r"
-name A<1> => Name(Elem(ObjId(0), 1)), 7 patterns
-name 1 => Name(Var(SymId(9))), 7 patterns
-name T => error 1, 7 patterns
-name null => error 6, 7 patterns
-";
-
-#[test]
-fn names_by_values(rt: HostRuntime) -> Result<(), Fail> {
-    check_rows::<Forms, _>(&rt, NAMES_BY_VALUES)
-}
-
-const TYPES: &str = r"
-DATATYPE ARB => 'NAME', 7 patterns
-DATATYPE A<1> => 'NAME', 7 patterns
-DATATYPE T<1> => 'NAME', 7 patterns
-DATATYPE A => 'ARRAY', 7 patterns
-DATATYPE T => 'TABLE', 7 patterns
-DATATYPE *X => 'EXPRESSION', 7 patterns
-SIZE ARB => error 1, 7 patterns
-SIZE A<1> => error 1, 7 patterns
-SIZE T<1> => error 1, 7 patterns
-SIZE A => error 1, 7 patterns
-SIZE T => error 1, 7 patterns
-SIZE *X => error 1, 7 patterns
-INTEGER ARB => fails, 7 patterns
-INTEGER A<1> => fails, 7 patterns
-INTEGER T<1> => fails, 7 patterns
-INTEGER A => fails, 7 patterns
-INTEGER T => fails, 7 patterns
-INTEGER *X => fails, 7 patterns
-LT 0 ARB => error 1, 7 patterns
-LT 0 A<1> => error 1, 7 patterns
-LT 0 T<1> => error 1, 7 patterns
-LT 0 A => error 1, 7 patterns
-LT 0 T => error 1, 7 patterns
-LT 0 *X => error 1, 7 patterns
-";
-
-#[test]
-fn types(rt: HostRuntime) -> Result<(), Fail> {
-    check_rows::<Forms, _>(&rt, TYPES)
-}
-
-/// Values of the types that no other test has.
-const OTHERS: [&str; 12] = [
-    "ARB", "BAL", "A<1>", "A<2>", "B<1>", "T<1>", "A", "B", "T", "U", "0", "*X",
-];
-
-/// What a function gives of two values.
-fn answered(alloc: Global, function: &str, x: &str, y: &str) -> Result<String, Fail> {
-    let text = format!(in alloc; "{function} {x} {y}")?;
-    let answer = Forms::answer(alloc, text.as_bytes())?;
-    Ok(answer)
-}
-
-fn check_answered<R: Abort + AllocGlobal>(
-    rt: &R,
-    function: &str,
-    x: &str,
-    y: &str,
-    expected: &str,
-) -> Result<(), Fail> {
-    let answer = answered(rt.alloc(), function, x, y)?;
-    assert_eq!(rt; answer.as_str(), expected, "{function} {x} {y}");
-    Ok(())
-}
-
-/// Compares what IDENT and DIFFER give of two values with what they must.
-fn check_pair<R: Abort + AllocGlobal>(rt: &R, x: &str, y: &str) -> Result<(), Fail> {
-    let (ident, differ) = if x != y {
-        ("fails, 7 patterns", "'', 7 patterns")
-    } else if x == "*X" {
-        ("error 1, 7 patterns", "error 1, 7 patterns")
-    } else {
-        ("'', 7 patterns", "fails, 7 patterns")
-    };
-    check_answered(rt, "IDENT", x, y, ident)?;
-    check_answered(rt, "DIFFER", x, y, differ)
-}
-
-#[test]
-fn equal_and_other_values(rt: HostRuntime) -> Result<(), Fail> {
-    for x in OTHERS {
-        for y in OTHERS {
-            check_pair(&rt, x, y)?;
+        match pattern_of(alloc, text)? {
+            Ok(Some(pattern)) => Ok(format!(in alloc; "pattern {}", pattern.0)?),
+            Ok(None) => Ok(String::from_str(alloc, "fails")?),
+            Err(outcome) => stop_text(alloc, outcome),
         }
     }
-    Ok(())
 }
 
-/// What OUTPUT writes of a value, and how that ends.
-#[derive(Drop)]
-struct Outputs;
+/// What a new machine answers for the pattern of an expression.
+fn pattern_of(alloc: Global, text: &[u8]) -> Result<Result<Option<PatId>, Outcome>, Fail> {
+    let (program, expression) = read_expression(alloc, text)?;
+    let mut input = Device::new(b"".as_slice());
+    let mut output = Device::new(Vec::new(alloc));
+    let mut machine = Machine::new(alloc, &program, LIMITS)?;
+    let pattern = machine.pattern(&mut input, &mut output, expression);
+    Ok(pattern)
+}
 
-impl Question for Outputs {
+/// `PATTERN ; SUBJECT ; SUBJECT`: what is found of an expression's pattern in a first and in a second subject, where INPUT
+/// gives the lines `A` and `B`, behind what is written.
+#[derive(Drop)]
+pub struct Finds;
+
+impl Question for Finds {
     fn answer(alloc: Global, text: &[u8]) -> Result<String, Fail> {
-        let mut machine = new_machine(alloc)?;
-        let mut output = Device::new(Vec::new(alloc));
-        let value = value_named(alloc, from_utf8(text)?);
-        let ending = assign(&mut machine, OUTPUT, value, &mut output);
-        let written = output.into_inner();
-        Ok(format!(in alloc; "{}{ending:?}", from_utf8(&written)?)?)
+        let (pattern, subjects) = from_utf8(text)?.split_once(" ; ").unwrap_or_default();
+        let (first, second) = subjects.split_once(" ; ").unwrap_or_default();
+        if first.len() > MOST_BYTES || second.len() > MOST_BYTES {
+            return Err(Fail::from("a subject is too long"));
+        }
+        let (first, second, written) = found_in_both(
+            alloc,
+            pattern.as_bytes(),
+            first.as_bytes(),
+            second.as_bytes(),
+        )?;
+        let first = found_text(alloc, first)?;
+        let second = found_text(alloc, second)?;
+        Ok(format!(in alloc; "{}{first}, {second}", from_utf8(&written)?)?)
     }
 }
 
-/// A value without a text is error 1.
-const VALUES_OF_OUTPUT: &str = r"
-1 => 1\nOk(())
-null => \nOk(())
-A => Err(Error(1))
-OUTPUT => Err(Error(1))
-*X => Err(Error(1))
+/// What one machine finds of an expression's pattern in a first and in a second subject, and what it writes.
+fn found_in_both(
+    alloc: Global,
+    pattern: &[u8],
+    first: &[u8],
+    second: &[u8],
+) -> Result<(Found, Found, Vec<u8>), Fail>
+    requires first { length first.now ≤ 1_000_000 }
+    requires second { length second.now ≤ 1_000_000 }
+{
+    let (program, expression) = read_expression(alloc, pattern)?;
+    let mut input = Device::new(b"A\nB".as_slice());
+    let mut output = Device::new(Vec::new(alloc));
+    let mut machine = Machine::new(alloc, &program, LIMITS)?;
+    let first = find(&mut machine, &mut input, &mut output, expression, first);
+    let second = find(&mut machine, &mut input, &mut output, expression, second);
+    Ok((first, second, output.into_inner()))
+}
+
+fn stop_text(alloc: Global, outcome: Outcome) -> Result<String, Fail> {
+    match outcome {
+        Outcome::Error { code, statement } => {
+            Ok(format!(in alloc; "error {code} in statement {statement}")?)
+        }
+        other => Ok(format!(in alloc; "{other:?}")?),
+    }
+}
+
+fn found_text(alloc: Global, found: Found) -> Result<String, Fail> {
+    match found {
+        Ok(Some((start, end))) => Ok(format!(in alloc; "{start}-{end}")?),
+        Ok(None) => Ok(String::from_str(alloc, "none")?),
+        Err(outcome) => stop_text(alloc, outcome),
+    }
+}
+
+const FIRST_WAYS: &str = r"
+LEN(1) . X ; AB ;  => 0-1, none
+'B' ; B ; AC => 0-1, none
+LEN(1) $ OUTPUT ; AB ; C => A\nC\n0-1, 0-1
+LEN(1) . OUTPUT RPOS(0) ; A ; AB => A\nB\n0-1, 1-2
 ";
 
 #[test]
-fn values_of_output(rt: HostRuntime) -> Result<(), Fail> {
-    check_rows::<Outputs, _>(&rt, VALUES_OF_OUTPUT)
+fn first_ways(rt: HostRuntime) -> Result<(), Fail> {
+    check_rows::<Finds, _>(&rt, FIRST_WAYS)
+}
+
+/// Patterns are read from the input, line after line, up to its end.
+const PATTERNS_OF_INPUT: &str = r"
+INPUT ; AB ; AB => 0-1, 1-2
+INPUT INPUT INPUT ; AB ; AB => none, none
+";
+
+#[test]
+fn patterns_of_input(rt: HostRuntime) -> Result<(), Fail> {
+    check_rows::<Finds, _>(&rt, PATTERNS_OF_INPUT)
+}
+
+/// What stops a machine is answered again, and it writes nothing more.
+const STOPS: &str = r"
+ARBNO(ARBNO('A')) 'B' ; AAAAAAAAAAAA ; B => error 21 in statement 0, error 21 in statement 0
+ARBNO(ARBNO('A')) 'B' ; B ; AAAAAAAAAAAA => 0-1, error 21 in statement 0
+LEN(-1) ; A ; A => error 7 in statement 0, error 7 in statement 0
+";
+
+#[test]
+fn stops(rt: HostRuntime) -> Result<(), Fail> {
+    check_rows::<Finds, _>(&rt, STOPS)
+}
+
+/// Each later call answers the error, whatever it asks, and writes nothing.
+#[test]
+fn errors_stay(rt: HostRuntime) -> Result<(), Fail> {
+    let alloc = rt.alloc();
+    let (program, whole) = read_expression(alloc, b"LEN(1) $ OUTPUT | LEN(-1)")?;
+    // The first four expressions are 1, LEN(1), OUTPUT and LEN(1) $ OUTPUT.
+    let part = ExprId(3);
+    let mut input = Device::new(b"".as_slice());
+    let mut output = Device::new(Vec::new(alloc));
+    let mut machine = Machine::new(alloc, &program, LIMITS)?;
+    let Some(pattern) = machine.pattern(&mut input, &mut output, part)? else {
+        return Err(Fail::from("no pattern"));
+    };
+    let refused = machine.pattern(&mut input, &mut output, whole);
+    let again = machine.match_first(&mut input, &mut output, pattern, b"A");
+    assert_eq!(rt; (refused, again), (Err(error(7)), Err(error(7))));
+    assert!(rt; output.into_inner().is_empty());
+    Ok(())
 }
