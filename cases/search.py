@@ -189,6 +189,8 @@ def listing(mode, pattern, subject, most=1000000):
 
 
 if __name__ == '__main__':
+    if len(sys.argv) > 1 or sys.stdin.isatty():
+        sys.exit(__doc__.strip())
     for row in sys.stdin:
         cells = row.rstrip('\n').split('\t')
         if cells[0] != 'group':

@@ -98,10 +98,16 @@ function card(   text, waiting, i, n, lines) {
         advance()
     }
     scan(text)
-    change()
+    if (is_too_large()) { stay(1, "", "a statement of more than 8,000 bytes is refused") } else { change() }
     put(body)
     n = split(substr(waiting, 2), lines, "\n")
     for (i = 1; i <= n; i++) { put_skipped(card_file ":" here_line - n + i - 1, lines[i]) }
+}
+
+# Whether the card is one statement that has too many bytes; comments, which are blanks of the mask, don't count.
+function is_too_large(   text) {
+    text = mask
+    return length(mask) > 8000 && !index(mask, ";") && gsub(/[^ \t]/, "", text) > 8000
 }
 
 # Where the byte `at` of the card stands.
@@ -110,33 +116,47 @@ function place(at,   before) {
     return card_file ":" (card_line + gsub(/\n/, "", before))
 }
 
-# Makes body and mask of the text: capitals outside literals, and no comments behind `;`.
-function scan(text,   i, c, last, quote, end, below) {
+# Makes body and mask of the text: capitals outside literals, and no comments behind `;`. Runs of bytes are taken in one, at
+# most 1,000 of them.
+function scan(text,   i, c, last, quote, end, below, run) {
     body = mask = quote = ""
     remarks = below = 0
     last = length(text)
     for (i = 1; i <= last; i++) {
         c = substr(text, i, 1)
-        end = index(substr(text, i + 1) "\n", "\n")
+        run = substr(text, i, 1000)
         if (c == "\n") {
             quote = ""
             below++
             # A line that continues, or one that is skipped.
-            if (substr(text, i + 1, 1) !~ /[+.]/) { both(substr(text, i, end), blanks(end)); i += end - 1; continue }
-            both(substr(text, i, 2), "  ")
+            if (substr(run, 2, 1) !~ /[+.]/) { end = line_size(text, i + 1); both(substr(text, i, end), blanks(end)); i += end - 1; continue }
+            both(substr(run, 1, 2), "  ")
             i++
+        } else if (quote != "" && match(run, "^[^" quote "\n]+")) {
+            both(substr(run, 1, RLENGTH), literal_signs(RLENGTH))
+            i += RLENGTH - 1
         } else if (quote != "" || c == "'" || c == "\"") {
             both(c, "\001")
             if (quote == "") { quote = c } else if (quote == c) { quote = "" }
-        } else if (c == ";" && substr(text, i + 1, 1) == "*") {
+        } else if (c == ";" && substr(run, 2, 1) == "*") {
             remarks++
-            i += end - 1
+            i += line_size(text, i + 1) - 1
+        } else if (match(run, /^[a-z]+/)) {
+            run = substr(run, 1, RLENGTH)
+            if (fold) { run = toupper(run); small(card_file, card_line + below) }
+            both(run, run)
+            i += RLENGTH - 1
         } else {
-            if (fold && c ~ /[a-z]/) { c = toupper(c); small(card_file, card_line + below) }
-            both(c, c)
+            match(run, /^(.[^'"\n;a-z]*)/)
+            run = substr(run, 1, RLENGTH)
+            both(run, run)
+            i += RLENGTH - 1
         }
     }
 }
+
+# How many bytes stand from there to the end of its line, and one.
+function line_size(text, from) { return index(substr(text, from) "\n", "\n") }
 
 # Remembers a line in which a small letter became a capital; `ranges` are the lines of a file, such as 1-3, 7.
 function small(path, n) {
@@ -147,7 +167,10 @@ function small(path, n) {
 function range_end(path) { return highest[path] > begun[path] ? "-" highest[path] : "" }
 
 function both(text, sign) { body = body text; mask = mask sign }
-function blanks(count) { return sprintf("%" count "s", "") }
+function blanks(count,   signs) {
+    for (; count > 1000; count -= 1000) { signs = signs sprintf("%1000s", "") }
+    return signs sprintf("%" count "s", "")
+}
 function literal_signs(count,   signs) { signs = blanks(count); gsub(/ /, "\001", signs); return signs }
 
 # Puts the text with this mask in the place of `count` bytes of the card.
@@ -194,8 +217,8 @@ function change_names(   at, from, name) {
     while ((at = find(CALL, from))) {
         from = at + RLENGTH
         name = substr(mask, at, RLENGTH - 1)
-        if (name == "DEFINE") { change_literals(from, 1, 1); defines(from) }
-        if (name == "DATA") { change_literals(from, 1, 1) }
+        if (name == "DEFINE") { change_literals(from, 1, 1); defines(from, 1) }
+        if (name == "DATA") { change_literals(from, 1, 1); defines(from, 200) }
         if (name == "ARRAY") { change_literals(from, 0, 1) }
         if (name == "CONVERT") { change_literals(type_place(from), 1, 0) }
     }
@@ -236,13 +259,13 @@ function change_literals(from, with_capitals, without_blanks,   at, end, open, c
     }
 }
 
-# The program defines this function itself.
-function defines(from,   name) {
-    if (match(substr(mask, from), "^[ \t]*\001+")) {
-        name = substr(body, from, RLENGTH)
-        gsub(/^[ \t]*['"]|[(].*/, "", name)
-        defined[name]
-    }
+# The program defines these functions itself: the first names of a prototype.
+function defines(from, most,   text, i, n, names) {
+    if (!match(substr(mask, from), "^[ \t]*\001+")) { return }
+    text = substr(body, from, RLENGTH)
+    gsub(/['" \t]/, "", text)
+    n = split(text, names, /[(),]/)
+    for (i = 1; i <= n && i <= most; i++) { if (names[i] != "") { defined[names[i]] } }
 }
 
 # The statements of the card, the last first, so that what stands before one keeps its place.
@@ -327,6 +350,7 @@ function look_for_calls(   at, from, name) {
         if (!(name in keyword)) { stay(at, "", "&" name " is error 14") }
     }
     if ((at = find("(^|[^A-Z0-9_.])[0-9]+[.][0-9]", 1))) { stay(at, "", "a real number is refused") }
+    if ((at = find("[ \t][?][ \t]", 1))) { stay(at, "", "? between operands is refused") }
     if ((at = find("[ \t]:[ \t]*[SF]?<", 1))) { stay(at, "", "a direct goto is refused") }
     if ((at = find("[(][ \t]*NRETURN[ \t]*[)]", 1))) { stay(at, "", "NRETURN is error 5") }
     if ((at = find("[ \t][.$][ \t]+[*]|@[*]", 1))) { stay(at, "", "a target that isn't evaluated is error 15") }
