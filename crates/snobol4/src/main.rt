@@ -7,6 +7,7 @@ mod standard;
 
 use snobol::{Device, Job, command, perform, status_of};
 use standard::{Asking, Output, Writing};
+use std::alloc::{AllocError, Global};
 use std::cell::RefCell;
 use std::env;
 use std::fs::File;
@@ -43,15 +44,22 @@ fn main(rt: HostRuntime) -> ExitCode {
     ExitCode::from(status)
 }
 
+/// The words of the command line as they are read: the program's name, however it was called, and those behind it.
+fn words_of<'a>(alloc: Global, args: &'a [String]) -> Result<Vec<&'a str>, AllocError> {
+    let mut words = Vec::new(alloc);
+    words.push("snobol4")?;
+    for arg in args.iter().skip(1) {
+        words.push(arg.as_str())?;
+    }
+    Ok(words)
+}
+
 /// Does what the words ask for.
 fn obey(rt: &HostRuntime, args: &[String]) -> u8 {
     let alloc = rt.alloc();
-    let mut words = Vec::new(alloc);
-    for arg in args {
-        if words.push(arg.as_str()).is_err() {
-            return no_memory(rt);
-        }
-    }
+    let Ok(words) = words_of(alloc, args) else {
+        return no_memory(rt);
+    };
     match command(alloc, &words) {
         Ok(job) => work(rt, &job),
         Err(error) => {

@@ -16,6 +16,7 @@ mod words;
 
 use command::{Job, command, status_of};
 use report::{Report, make_report};
+use std::alloc::{AllocError, Global};
 use std::env;
 use std::fs::File;
 use std::io::{self, ErrorKind, Read, Write};
@@ -51,15 +52,22 @@ fn main(rt: HostRuntime) -> ExitCode {
     ExitCode::from(status)
 }
 
+/// The words of the command line as they are read: the program's name, however it was called, and those behind it.
+fn words_of<'a>(alloc: Global, args: &'a [String]) -> Result<Vec<&'a str>, AllocError> {
+    let mut words = Vec::new(alloc);
+    words.push("snobol4-list")?;
+    for arg in args.iter().skip(1) {
+        words.push(arg.as_str())?;
+    }
+    Ok(words)
+}
+
 /// Does what the words ask for.
 fn obey(rt: &HostRuntime, args: &[String]) -> u8 {
     let alloc = rt.alloc();
-    let mut words = Vec::new(alloc);
-    for arg in args {
-        if words.push(arg.as_str()).is_err() {
-            return no_memory(rt);
-        }
-    }
+    let Ok(words) = words_of(alloc, args) else {
+        return no_memory(rt);
+    };
     match command(alloc, &words) {
         Ok(job) => work(rt, job),
         Err(error) => {

@@ -13,11 +13,13 @@ pub struct Beginning {
     pub is_exact: bool,
 }
 
-/// The beginning of a text in which the statement that is refused begins in this line, from 1.
+/// The beginning of a text in which the statement that is refused begins in this line, from 1. Where that is refused
+/// since the program is full, END may stand in the place of the statement before it.
 pub fn find_beginning(
     alloc: Global,
     text: &[u8],
     line: u32,
+    is_full: bool,
 ) -> Result<Option<Beginning>, AllocError> {
     let cuts = cuts_of(alloc, text, line)?;
     let found = last_accepted(alloc, text, cuts.as_slice())?;
@@ -27,7 +29,7 @@ pub fn find_beginning(
     let mut back = 1;
     for _ in 0..32 {
         let before = line.saturating_sub(back);
-        let found = cut_lines(alloc, text, line, before)?;
+        let found = before_line(alloc, text, line, before, is_full)?;
         if found.is_some() {
             return Ok(found);
         }
@@ -36,9 +38,24 @@ pub fn find_beginning(
     Ok(None)
 }
 
-/// A text without END, with one behind it.
+/// A text without END, with one behind it; where it has no room for that, in the place of its last statement.
 pub fn completed(alloc: Global, text: &[u8]) -> Result<Option<Beginning>, AllocError> {
-    read_with_end(alloc, text, 1, false)
+    let found = read_with_end(alloc, text, 1, false)?;
+    if found.is_some() {
+        return Ok(found);
+    }
+    find_beginning(alloc, text, last_line(text), true)
+}
+
+/// The number of the last line of a text.
+fn last_line(text: &[u8]) -> u32 {
+    let mut line: u32 = 1;
+    for at in 0..text.len().saturating_sub(1) {
+        if text[at] == b'\n' {
+            line = line.saturating_add(1);
+        }
+    }
+    line
 }
 
 /// The places at which a statement may begin in a line: its start, and behind each `;` outside literals.
@@ -92,6 +109,33 @@ fn last_accepted(
 fn read_to(alloc: Global, text: &[u8], end: usize) -> Result<Option<Beginning>, AllocError> {
     let end = end.min(text.len());
     read_with_end(alloc, &text[..end], 0, true)
+}
+
+/// The beginning up to the start of a line, with END behind another line; of a full program with END in its place, if
+/// a statement begins there.
+fn before_line(
+    alloc: Global,
+    text: &[u8],
+    line: u32,
+    before: u32,
+    is_full: bool,
+) -> Result<Option<Beginning>, AllocError> {
+    let start = line_start(text, before);
+    if is_full && begins_statement(text, start) {
+        let found = read_with_end(alloc, &text[..start], 0, false)?;
+        if found.is_some() {
+            return Ok(found);
+        }
+    }
+    cut_lines(alloc, text, line, before)
+}
+
+/// Whether the line that begins at a place is no comment, no control line and no continuation.
+fn begins_statement(text: &[u8], start: usize) -> bool {
+    match text.get(start) {
+        Some(byte) => !matches!(*byte, b'*' | b'-' | b'+' | b'.' | b'\n'),
+        None => false,
+    }
 }
 
 /// The beginning up to the start of a line, with END behind another line.

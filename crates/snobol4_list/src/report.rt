@@ -64,7 +64,13 @@ fn refused(
     let mut warnings = Warnings::new(alloc);
     let (shown, known) = match line_of(error) {
         Some(0) => (b"".as_slice(), None),
-        Some(line) => (up_to(text, line), find_beginning(alloc, text, line)?),
+        Some(line) => {
+            let is_full = matches!(error, ReadError::TooLarge { .. });
+            (
+                up_to(text, line),
+                find_beginning(alloc, text, line, is_full)?,
+            )
+        }
         None => (text, completed(alloc, text)?),
     };
     if let Some(known) = known {

@@ -34,7 +34,7 @@ pub fn warn(
                 place,
                 b"this pattern is built anew at each pass of a loop, ",
                 b"and its nodes count towards error 9: ",
-                b"build it before the loop, as P = .., and match P here",
+                b"build it before the loop where its parts do not change in it, as P = .., and match P here",
             )?;
         }
     }
