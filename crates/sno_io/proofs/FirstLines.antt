@@ -1,33 +1,46 @@
 -- The first line of a text, by where its first line feed stands.
-use Rattle.std.proofs.Common.{◌≡◌, ◌≢◌, ℕ, ◌+◌, ◌<◌, ◌≤◌, ◌⊎◌, inl, inr, List, [], ◌∷◌, ◌++◌, length, take, drop, get_or, refl, ap, ap₂, subst, sym, ◌∙◌, arith}
-use Rattle.std.proofs.Common.{Some, not}
+use Rattle.std.proofs.Common.{◌≡◌, ℕ, ◌+◌, ◌-◌, ◌<◌, ◌≤◌, ◌⊎◌, inl, inr, List, [], ◌∷◌, ◌++◌, length, take, drop, get_or, refl, ap, ap₂, sym, ◌∙◌, arith}
+use Rattle.std.proofs.Common.{Some, false, not}
 use Rattle.std.specs.Prelude.{Contains}
-use Rattle.std.proofs.lemmas.Bool.{both_ways, cases_lt, eq-eqb, eqb-true, ne_eqb}
-use Rattle.std.proofs.lemmas.List.{append-nil, take-append-le, drop-append-le, length-append}
+use Rattle.std.proofs.lemmas.Bool.{both_ways, cases_lt, eq-eqb, false_from_ne_true, ne_eqb}
+use Rattle.std.proofs.lemmas.List.{append-nil, take-append-le, drop-append-le, get_or-drop, length-append, length-drop}
 use Rattle.std.proofs.lemmas.List.Folds.{length-prefix_len, prefix_len-append}
-use Rattle.std.proofs.lemmas.List.Sums.{fails_before_first, passes_at_first, prefix_len-le-length}
+use Rattle.std.proofs.lemmas.List.Sums.{fails_before_first, position_or_len_is, prefix_len-le-length}
+use Rattle.memchr.specs.Find.{NoneBefore, Nowhere, Passes, is_byte}
 use Rattle.sno_io.specs.Lines.{behind_line, first_line, is_line_feed, line_length, next_line}
 
 pub line_length-le : (text : List ℕ) → line_length text ≤ length text
 line_length-le text = prefix_len-le-length (λ b. not (is_line_feed b)) text
 
--- a place that has no line feed is within the line, if those before it are
-pub one_more : (text : List ℕ) (at : ℕ) → at ≤ line_length text → at < length text → get_or text at 0 ≢ 10 → at + 1 ≤ line_length text
-one_more text at within inside other = go (cases_lt at (line_length text))
+-- the same, where so many bytes of what stands behind them are none either
+feedless : (text part : List ℕ) (searched n : ℕ) → searched ≤ line_length text → part ≡ drop searched text
+    → Nowhere (Passes (is_byte 10) part) 0 n → (k : ℕ) → k < searched + n → is_line_feed (get_or text k 0) ≡ false
+feedless text part searched n within e nowhere k lt = go (cases_lt k searched)
   where
-    go : (at < line_length text) ⊎ (line_length text ≤ at) → at + 1 ≤ line_length text
-    go (inl lt) = omega arith
-    go (inr le) =
-        let same : line_length text ≡ at = omega arith in
-        absurd (other (subst (λ k. get_or text k 0 ≡ 10) same (eqb-true _ 10 (passes_at_first is_line_feed text 0 (omega arith)))))
+    go : (k < searched) ⊎ (searched ≤ k) → is_line_feed (get_or text k 0) ≡ false
+    go (inl below) = fails_before_first is_line_feed text k 0 (omega arith)
+    go (inr behind) =
+        let place : searched + (k - searched) ≡ k = omega arith in
+        let same : get_or part (k - searched) 0 ≡ get_or text k 0 =
+        ap (λ xs. get_or xs (k - searched) 0) e ∙ get_or-drop searched text (k - searched) 0 ∙ ap (λ i. get_or text i 0) place in
+        ap is_line_feed (sym same) ∙ false_from_ne_true (is_line_feed (get_or part (k - searched) 0)) (nowhere (k - searched) (omega arith) (omega arith))
 
--- a line feed ends the line, if the places before it are within the line
-pub found : (text : List ℕ) (at : ℕ) → at ≤ line_length text → get_or text at 0 ≡ 10 → at ≡ line_length text
-found text at within feed = go (cases_lt at (line_length text))
-  where
-    go : (at < line_length text) ⊎ (line_length text ≤ at) → at ≡ line_length text
-    go (inl lt) = absurd (both_ways _ (fails_before_first is_line_feed text at 0 lt) (eq-eqb _ 10 feed))
-    go (inr le) = omega arith
+-- the first line feed of what stands behind the first bytes, which have none
+pub found : (text part : List ℕ) (searched k : ℕ) → searched ≤ line_length text → part ≡ drop searched text
+    → NoneBefore (Passes (is_byte 10) part) 0 (length part) k → Passes (is_byte 10) part k → searched + k ≡ line_length text
+found text part searched k within e none here =
+    let inside : searched + k ≤ length text = omega (arith, none.high, ap length e, length-drop searched text) in
+    let same : get_or part k 0 ≡ get_or text (searched + k) 0 = ap (λ xs. get_or xs k 0) e ∙ get_or-drop searched text k 0 in
+    sym (position_or_len_is is_line_feed text (searched + k) 0 inside (feedless text part searched k within e none.before)
+    (λ lt. ap is_line_feed (sym same) ∙ here))
+
+-- there is none behind the first bytes either
+pub not_found : (text part : List ℕ) (searched : ℕ) → searched ≤ line_length text → part ≡ drop searched text
+    → Nowhere (Passes (is_byte 10) part) 0 (length part) → length text ≡ line_length text
+not_found text part searched within e nowhere =
+    let size : searched + length part ≡ length text = omega (arith, ap length e, length-drop searched text, line_length-le text) in
+    sym (position_or_len_is is_line_feed text (length text) 0 (omega arith)
+    (λ k lt. feedless text part searched (length part) within e nowhere k (omega arith)) (λ lt. absurd (omega arith)))
 
 -- a text that has a line feed
 pub has_feed : (text : List ℕ) → Contains text 10 → line_length text < length text

@@ -6,6 +6,7 @@ ghost use Rattle.sno_io.specs.inner.Held.{IsSettled, Joins};
 
 use crate::buffer::Buffer;
 use crate::devices::{DeviceFault, Source};
+use memchr::memchr;
 use std::alloc::{AllocError, Global};
 use std::marker::Model;
 
@@ -51,12 +52,10 @@ fn line_end(bytes: &[u8], searched: usize) -> usize
     requires { searched ≤ line_length bytes.now }
     ensures { result ≡ line_length bytes.now }
 {
-    for at in searched..bytes.len() {
-        if bytes[at] == b'\n' {
-            return at;
-        }
+    match memchr(b'\n', &bytes[searched..]) {
+        Some(before) => searched + before,
+        None => bytes.len(),
     }
-    bytes.len()
 }
 
 /// The lines that a reader gives, one after another. Contracts see the bytes that are held, whether the reader has told

@@ -1,5 +1,5 @@
 -- How functions join that write what their actions write.
-use Rattle.std.proofs.Common.{Vec, Global, ◌≡◌, ℕ, zero, suc, arith, List, [], ◌∷◌, ◌++◌, drop, length, slice_get, codes, refl, ap, sym, ◌∙◌, subst}
+use Rattle.std.proofs.Common.{◌≡◌, ℕ, zero, suc, arith, List, [], ◌∷◌, ◌++◌, drop, length, slice_get, codes, refl, ap, sym, ◌∙◌, subst}
 use Rattle.std.proofs.Common.{append_assoc, Option, None, Some, Result, Ok, Err, true, false}
 use Rattle.std.proofs.lemmas.List.{append-nil, drop_all}
 use Rattle.std.specs.Io.KnownBytes.{Appends}
@@ -27,7 +27,7 @@ use Rattle.sno_runtime.specs.Values.{shown}
 use Rattle.sno_runtime.specs.Variables.{is_output, assigns, outputs, stores, writes, with_value, text_of, wrong_type}
 use Rattle.sno_runtime.specs.Lines.{line_of}
 use Rattle.sno_runtime.proofs.Stores.{set_seen, set_untouched}
-use Rattle.sno_runtime.specs.inner.Performs.{Ends, Performs, IsLineOf}
+use Rattle.sno_runtime.specs.inner.Performs.{Ends, Performs, WritesLine}
 
 pub appends_nothing : (taken : Option (List ℕ)) → Appends taken taken []
 appends_nothing None = tt
@@ -111,45 +111,46 @@ outputs_is : (name : Target) (v : Value) (bytes : List ℕ) (w : World) → text
 unfolding settles
 outputs_is name v bytes w has = ap (λ o. either wrong_type (λ bytes. and_then (stores name v) (λ done. writes (bytes ++ codes "\n"))) o w) has
 
-text_there : (o : Option (List ℕ)) (line : Vec ℕ Global) → IsLineOf o (Ok line) → (bytes : List ℕ) × (o ≡ Some bytes) × (line.items ≡ bytes ++ codes "\n")
-text_there None line h = absurd h
-text_there (Some bytes) line h = (bytes, refl, h)
+text_there : (o : Option (List ℕ)) (x y : Option (List ℕ)) → WritesLine o x y (Ok tt)
+    → (bytes : List ℕ) × (o ≡ Some bytes) × Appends x y (bytes ++ codes "\n")
+text_there None x y h = absurd h
+text_there (Some bytes) x y h = (bytes, refl, h)
 
-pub output_written : (name : Target) (value : Stored) (a b : Runtime) (x y : Option (List ℕ)) (line : Vec ℕ Global) → is_output name ≡ true
+text_cut : (o : Option (List ℕ)) (x y : Option (List ℕ)) → WritesLine o x y (Err WriteFault)
+    → (bytes : List ℕ) × (o ≡ Some bytes) × (part : List ℕ) × Begins part (bytes ++ codes "\n") × Appends x y part
+text_cut None x y h = absurd h
+text_cut (Some bytes) x y h = (bytes, refl, h.0, h.1, h.2)
+
+pub output_written : (name : Target) (value : Stored) (a b : Runtime) (x y : Option (List ℕ)) → is_output name ≡ true
     → b ≡ record a { store = with_stored name value a.store }
-    → IsLineOf (text_of (shown a.nodes value)) (Ok line) → Appends x y line.items → Performs (assigns name (shown a.nodes value)) a b x y (Ok tt)
-output_written name value a b x y line out is has put =
-    let t = text_there (text_of (shown a.nodes value)) line has in
+    → WritesLine (text_of (shown a.nodes value)) x y (Ok tt) → Performs (assigns name (shown a.nodes value)) a b x y (Ok tt)
+output_written name value a b x y out is has =
+    let t = text_there (text_of (shown a.nodes value)) x y has in
     rw (out, is) (record {
-      wrote = line.items;
-      appends = put;
+      wrote = t.0 ++ codes "\n";
+      appends = t.2;
       ends = λ more. outputs_is name (shown a.nodes value) t.0 (world a more) t.1
-          ∙ (λ i. record { ending = Got tt; world = sym (set_seen a name value more) i; wrote = sym t.2 i });
+          ∙ (λ i. record { ending = Got tt; world = sym (set_seen a name value more) i; wrote = t.0 ++ codes "\n" });
       unread = set_untouched a name value;
     })
 
-pub output_cut : (name : Target) (value : Stored) (a b : Runtime) (x y : Option (List ℕ)) (line : Vec ℕ Global) (part : List ℕ) → is_output name ≡ true
-    → untouched b ≡ untouched a
-    → IsLineOf (text_of (shown a.nodes value)) (Ok line) → Begins part line.items → Appends x y part
-    → Performs (assigns name (shown a.nodes value)) a b x y (Err WriteFault)
-output_cut name value a b x y line part out u has begins put =
-    let t = text_there (text_of (shown a.nodes value)) line has in
+-- what broke the line off, with nothing set
+pub output_broken : (name : Target) (value : Stored) (a : Runtime) (x y : Option (List ℕ)) (why : Stop) → is_output name ≡ true
+    → WritesLine (text_of (shown a.nodes value)) x y (Err why) → Performs (assigns name (shown a.nodes value)) a a x y (Err why)
+output_broken name value a x y (HasError code) out h =
+    rw (out, h.0, h.1, h.2) (record { wrote = []; appends = appends_nothing x; ends = λ more. (refl, refl); unread = refl })
+output_broken name value a x y NoMemory out h = rw h (no_memory (assigns name (shown a.nodes value)) a a x refl)
+output_broken name value a x y ReadFault out h = absurd h
+output_broken name value a x y WriteFault out h =
+    let t = text_cut (text_of (shown a.nodes value)) x y h in
     rw out (record {
-      wrote = part;
-      appends = put;
-      ends = λ more. rw (outputs_is name (shown a.nodes value) t.0 (world a more) t.1, ← t.2) begins;
-      unread = u;
+      wrote = t.2;
+      appends = t.4;
+      ends = λ more. rw (outputs_is name (shown a.nodes value) t.0 (world a more) t.1) t.3;
+      unread = refl;
     })
-
-pub output_refused : (name : Target) (value : Stored) (a : Runtime) (x : Option (List ℕ)) (why : Stop) → is_output name ≡ true
-    → IsLineOf (text_of (shown a.nodes value)) (Err why) → Performs (assigns name (shown a.nodes value)) a a x x (Err why)
-output_refused name value a x (HasError code) out h =
-    rw (out, h.0, h.1) (record { wrote = []; appends = appends_nothing x; ends = λ more. (refl, refl); unread = refl })
-output_refused name value a x NoMemory out h = no_memory (assigns name (shown a.nodes value)) a a x refl
-output_refused name value a x ReadFault out h = absurd h
-output_refused name value a x WriteFault out h = absurd h
-output_refused name value a x (HasErrorIn code statement) out h = absurd h
-output_refused name value a x HasEnded out h = absurd h
+output_broken name value a x y (HasErrorIn code statement) out h = absurd h
+output_broken name value a x y HasEnded out h = absurd h
 
 -- the line of an event
 

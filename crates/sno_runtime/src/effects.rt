@@ -1,18 +1,21 @@
 //! What the events of a match do.
-ghost use Rattle.std.specs.Prelude.{◌≡◌, ◌≤◌, [], length, false, true, OnOk};
+ghost use Rattle.std.specs.Prelude.{◌≡◌, ◌≤◌, ◌++◌, [], List, codes, length, false, true, OnErr, OnOk};
+ghost use Rattle.sno_io.specs.Devices.{TakesBytes};
+ghost use Rattle.sno_pattern.specs.Table.{Node};
 ghost use Rattle.sno_match.specs.Events.{in_trace};
 ghost use Rattle.sno_match.specs.Within.{IsWithin};
 ghost use Rattle.sno_runtime.specs.Values.{shown, IsValueOf};
 ghost use Rattle.sno_runtime.specs.Variables.{assigns, text_of};
 ghost use Rattle.sno_runtime.specs.Effects.{effect};
-ghost use Rattle.sno_runtime.specs.inner.Performs.{Performs, IsLineOf};
+ghost use Rattle.sno_runtime.specs.inner.Performs.{Performs, WritesLine};
 
 use crate::errors::DATA_TYPE;
 use crate::runtime::{Runtime, is_output};
 use crate::stops::Stop;
-use sno_io::{Sink, put};
+use sno_io::{DeviceFault, Sink, put};
 use sno_match::Event;
 use sno_value::{Name, Text, Value, int_text};
+use std::alloc::Global;
 
 /// What an event does: `$` sets its target to a part of the subject, and `@` to the cursor.
 pub fn take_effect<W: Sink>(
@@ -59,21 +62,38 @@ pub fn assign<W: Sink>(
         runtime.set(target, value);
         return Ok(());
     }
-    let line = output_line(runtime, &value)?;
+    write_value(runtime.alloc(), &value, writer)?;
     runtime.set(target, value);
-    put(writer, &line)?;
     Ok(())
 }
 
-/// The line that OUTPUT writes of a value, with its line feed.
-fn output_line(runtime: &Runtime, value: &Value) -> Result<Vec<u8>, Stop>
-    ensures { IsLineOf (text_of (shown runtime.now.nodes value.now)) result }
+/// Writes the text of a value as a line. The text is whole before its first byte is written.
+fn write_value<W: Sink>(alloc: Global, value: &Value, writer: &mut W) -> Result<(), Stop>
+    requires { (W.drain writer.old).broken ≡ false }
+    ensures line { (nodes : List Node) → WritesLine (text_of (shown nodes value.now))
+        (W.drain writer.old).taken (W.drain writer.new).taken result }
+    ensures sound { OnOk result ((W.drain writer.new).broken ≡ false) }
+    ensures fault { result ≡ Err Stop.WriteFault → (W.drain writer.new).broken ≡ true }
 {
-    let mut line = match value {
-        Value::Str(text) => text.as_slice().to_vec(runtime.alloc())?,
-        Value::Int(number) => int_text(runtime.alloc(), *number)?,
+    match value {
+        Value::Str(text) => write_line(text.as_slice(), writer)?,
+        Value::Int(number) => {
+            let digits = int_text(alloc, *number)?;
+            write_line(&digits, writer)?
+        }
         _ => return Err(Stop::Error(DATA_TYPE)),
-    };
-    line.push(b'\n')?;
-    Ok(line)
+    }
+    Ok(())
+}
+
+/// Writes a text and then a line feed, or on a fault a beginning of them.
+fn write_line<W: Sink>(text: &[u8], writer: &mut W) -> Result<(), DeviceFault>
+    requires { (W.drain writer.old).broken ≡ false }
+    ensures bytes { TakesBytes (W.drain writer.old).taken (W.drain writer.new).taken result (text.now ++ codes "\n") }
+    ensures sound { OnOk result ((W.drain writer.new).broken ≡ false) }
+    ensures fault { OnErr result ((W.drain writer.new).broken ≡ true) }
+{
+    put(writer, text)?;
+    put(writer, b"\n")?;
+    Ok(())
 }

@@ -1,7 +1,10 @@
--- Copies of a text, one more at a time.
-use Rattle.std.proofs.Common.{◌≡◌, ℕ, zero, suc, ◌+◌, ◌*◌, ℤ, pos, negsuc, ◌≤ℤ◌, unsigned_abs, List, [], ◌∷◌, ◌++◌, length, refl, sym, ◌∙◌, ap, append_assoc}
-use Rattle.std.proofs.Common.{append-nil, arith, add-one, nat_lt, Ok, Err, Some, if◌then◌else◌}
+-- Copies of a text, as many more as there are, or fewer.
+use Rattle.std.proofs.Common.{◌≡◌, ℕ, zero, suc, ◌+◌, ◌-◌, ◌*◌, ℤ, pos, negsuc, ◌≤◌, ◌≤ℤ◌, unsigned_abs, List, [], ◌∷◌, ◌++◌, length, refl, sym, ◌∙◌, ap, append_assoc}
+use Rattle.std.proofs.Common.{arith, nat_lt, Ok, Err, Some, if◌then◌else◌, slice_range, take}
+use Rattle.std.proofs.Math.Nat.{suc-add, sub-zero, suc-mul, zero-add}
 use Rattle.std.proofs.lemmas.Grind.{common_steps}
+use Rattle.std.proofs.Math.Seq.{take-append_seam}
+use Rattle.std.proofs.lemmas.List.{append-nil, length-append}
 use Rattle.sno_value.specs.Strings.{copies, duplicate}
 use Rattle.sno_value.specs.declared.strings.TextError.TheVariants.{TooLong}
 
@@ -16,16 +19,42 @@ copies_null zero text h = refl
 copies_null (suc n) [] h = sym (copies-nil n)
 copies_null (suc n) (b ∷ text) h = absurd (grind (arith, common_steps))
 
-copies-last : (n : ℕ) (text : List ℕ) → copies n text ++ text ≡ text ++ copies n text
+pub copies_one : (text : List ℕ) → text ≡ copies 1 text
 unfolding copies
-copies-last zero text = sym (append-nil text)
-copies-last (suc n) text = append_assoc text (copies n text) text ∙ ap (λ r. text ++ r) (copies-last n text)
+copies_one text = sym (append-nil text)
 
-pub copies_more : (n : ℕ) (text : List ℕ) → copies (n + 1) text ≡ copies n text ++ text
+pub length-copies : (n : ℕ) (text : List ℕ) → length (copies n text) ≡ n * length text
 unfolding copies
-copies_more n text = ap (λ k. copies k text) (add-one n) ∙ sym (copies-last n text)
+length-copies zero text = omega arith
+length-copies (suc n) text = omega (arith, length-append text (copies n text), length-copies n text, suc-mul n (length text))
 
-pub ruleset copying = (copies_more, copies_null)
+pub copies-plus : (m n : ℕ) (text : List ℕ) → copies (m + n) text ≡ copies m text ++ copies n text
+unfolding copies
+copies-plus zero n text = ap (λ k. copies k text) (zero-add n)
+copies-plus (suc m) n text =
+    ap (λ k. copies k text) (suc-add m n)
+    ∙ ap (λ r. text ++ r) (copies-plus m n text)
+    ∙ sym (append_assoc text (copies m text) (copies n text))
+
+-- the first n of m copies
+pub first_copies : (m n : ℕ) (text : List ℕ) → n ≤ m → take (n * length text) (copies m text) ≡ copies n text
+first_copies m n text h =
+    let parts : m ≡ n + (m - n) = omega arith in
+    ap (λ k. take (n * length text) (copies k text)) parts
+    ∙ ap (take (n * length text)) (copies-plus n (m - n) text)
+    ∙ ap (λ k. take k (copies n text ++ copies (m - n) text)) (sym (length-copies n text))
+    ∙ take-append_seam (copies n text) (copies (m - n) text)
+
+-- so many more copies behind those that were made, taken from their front
+pub copies_more : (m n : ℕ) (text made : List ℕ) → n ≤ m → made ≡ copies m text
+    → made ++ slice_range made 0 (n * length text) ≡ copies (m + n) text
+copies_more m n text made h e =
+    ap (λ xs. xs ++ slice_range xs 0 (n * length text)) e
+    ∙ ap (λ k. copies m text ++ take k (copies m text)) (sub-zero (n * length text))
+    ∙ ap (λ xs. copies m text ++ xs) (first_copies m n text h)
+    ∙ sym (copies-plus m n text)
+
+pub ruleset copying = (copies_one, copies_null)
 
 pub duplicate_at : (text : List ℕ) (z : ℤ) → pos 0 ≤ℤ z
     → duplicate text z ≡ (if nat_lt 1_000_000 (unsigned_abs z * length text) then Err TooLong else Ok (Some (copies (unsigned_abs z) text)))

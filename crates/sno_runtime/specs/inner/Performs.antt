@@ -1,7 +1,5 @@
 -- What functions did that write. Private contracts alone cite it.
 use Rattle.std.specs.Prelude.{◌≡◌, ℕ, List, ◌++◌, Option, None, Some, Result, Ok, Err, codes}
-use Rattle.std.specs.declared.alloc.Global.{Global}
-use Rattle.std.specs.declared.vec.Vec.{Vec}
 use Rattle.std.specs.Io.KnownBytes.{Appends}
 use Rattle.sno_io.specs.Devices.{Begins}
 use Rattle.sno_runtime.specs.declared.stops.Stop.{Stop}
@@ -30,13 +28,15 @@ pub record Performs (act : Action Unit) (before after : Runtime) (taken now : Op
   pub ends : (more : List ℕ) → Ends (act (world before more)) (world after more) wrote result
   pub unread : untouched after ≡ untouched before
 
--- a value's text with a line feed; a value without one is error 1
-abbrev pub IsLineOf : Option (List ℕ) → Result (Vec ℕ Global) Stop → Type 0
-IsLineOf None (Ok line) = ⊥
-IsLineOf (Some bytes) (Ok line) = line.items ≡ bytes ++ codes "\n"
-IsLineOf o (Err (HasError code)) = (o ≡ None) × (code ≡ 1)
-IsLineOf o (Err (HasErrorIn code statement)) = ⊥
-IsLineOf o (Err NoMemory) = Unit {0}
-IsLineOf o (Err ReadFault) = ⊥
-IsLineOf o (Err WriteFault) = ⊥
-IsLineOf o (Err HasEnded) = ⊥
+-- a value's text with a line feed was written, or a beginning of it; nothing is where memory was refused, nor of a value
+-- without a text, which is error 1
+abbrev pub WritesLine : Option (List ℕ) → Option (List ℕ) → Option (List ℕ) → Result Unit Stop → Type 0
+WritesLine None taken now (Ok done) = ⊥
+WritesLine (Some bytes) taken now (Ok done) = Appends taken now (bytes ++ codes "\n")
+WritesLine o taken now (Err (HasError code)) = (o ≡ None) × (code ≡ 1) × (now ≡ taken)
+WritesLine o taken now (Err (HasErrorIn code statement)) = ⊥
+WritesLine o taken now (Err NoMemory) = now ≡ taken
+WritesLine o taken now (Err ReadFault) = ⊥
+WritesLine None taken now (Err WriteFault) = ⊥
+WritesLine (Some bytes) taken now (Err WriteFault) = (part : List ℕ) × Begins part (bytes ++ codes "\n") × Appends taken now part
+WritesLine o taken now (Err HasEnded) = ⊥

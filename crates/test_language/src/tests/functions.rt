@@ -220,6 +220,19 @@ fn copies(rt: HostRuntime) -> Result<(), Fail> {
     check_rows::<Values, _>(&rt, COPIES)
 }
 
+const MANY_COPIES: &str = r"
+IDENT(DUPL('AB',1000),DUPL('ABAB',500)) => <>
+IDENT(DUPL('ABC',1001),'ABC' DUPL('ABC',1000)) => <>
+IDENT(DUPL('ABC',1001),DUPL('ABC',1000) 'ABC') => <>
+SIZE(DUPL('ABC',333333)) => <999999>
+DUPL('ABC',333334) => error 8
+";
+
+#[test]
+fn many_copies(rt: HostRuntime) -> Result<(), Fail> {
+    check_rows::<Values, _>(&rt, MANY_COPIES)
+}
+
 const REPLACEMENTS: &str = r"
 REPLACE('ABA','AB','XY') => <XYX>
 REPLACE('A','AA','XY') => <Y>

@@ -136,6 +136,43 @@ fn gives_lines(rt: HostRuntime) -> Result<(), Fail> {
     check_rows::<Inputs, _>(&rt, LINES)
 }
 
+/// What is told of `size` letters of which that at the place is a line feed, or none where the place is behind them.
+fn two_lines(alloc: Global, size: usize, place: usize) -> Result<String, Fail> {
+    if size == 0 {
+        return Ok(String::from_str(alloc, "----")?);
+    }
+    let first = "x".repeat(alloc, place.min(size))?;
+    if place.saturating_add(1) >= size {
+        return Ok(format!(in alloc; "[{first}]---")?);
+    }
+    let second = "x".repeat(alloc, size.saturating_sub(place).saturating_sub(1))?;
+    Ok(format!(in alloc; "[{first}][{second}]--")?)
+}
+
+/// A line feed at each place of so many letters, and none, where so many bytes come at once.
+fn check_places<R: Abort + AllocGlobal>(rt: &R, size: usize, at_once: usize) -> Result<(), Fail> {
+    for place in 0..=size {
+        let mut text = vec![in rt.alloc(); b'x'; size]?;
+        if place < size {
+            text[place] = b'\n';
+        }
+        let (told, _) = four_calls(rt.alloc(), &text, at_once, 100, false)?;
+        let wanted = two_lines(rt.alloc(), size, place)?;
+        assert!(rt; told == wanted, "{size} letters, a line feed at {place}");
+    }
+    Ok(())
+}
+
+#[test]
+fn a_line_feed_at_each_place(rt: HostRuntime) -> Result<(), Fail> {
+    for size in [0, 1, 31, 32, 33, 63, 64, 65] {
+        check_places(&rt, size, 8192)?;
+        check_places(&rt, size, 31)?;
+        check_places(&rt, size, 32)?;
+    }
+    Ok(())
+}
+
 /// The lines of an input and what is held behind each, behind how many bytes come at once and how many reads succeed.
 #[derive(Drop)]
 struct Reads;

@@ -63,9 +63,28 @@ fn trims(rt: HostRuntime) -> Result<(), Fail> {
 }
 
 const COPIES: &str = r"
-DUPL|AB|3 => [ABABAB]
-DUPL|AB|1 => [AB]
+DUPL|A|0 => []
+DUPL|A|1 => [A]
+DUPL|A|2 => [AA]
+DUPL|A|3 => [AAA]
 DUPL|AB|0 => []
+DUPL|AB|1 => [AB]
+DUPL|AB|2 => [ABAB]
+DUPL|AB|3 => [ABABAB]
+DUPL|ABC|0 => []
+DUPL|ABC|1 => [ABC]
+DUPL|ABC|2 => [ABCABC]
+DUPL|ABC|5 => [ABCABCABCABCABC]
+DUPL||1000 => []
+DUPL|A|999 => [\<999:A\>]
+DUPL|A|1000 => [\<1000:A\>]
+DUPL|A|1001 => [\<1001:A\>]
+DUPL|AB|999 => [\<999:AB\>]
+DUPL|AB|1000 => [\<1000:AB\>]
+DUPL|AB|1001 => [\<1001:AB\>]
+DUPL|ABC|999 => [\<999:ABC\>]
+DUPL|ABC|1000 => [\<1000:ABC\>]
+DUPL|ABC|1001 => [\<1001:ABC\>]
 DUPL||9223372036854775807 => []
 DUPL||0 => []
 DUPL|A|-1 => none
@@ -73,10 +92,14 @@ DUPL|A|-9223372036854775808 => none
 DUPL||-1 => none
 -- up to the limit
 DUPL|AB|500000 => [\<500000:AB\>]
+DUPL|AB|499999 => [\<499999:AB\>]
+DUPL|ABC|333333 => [\<333333:ABC\>]
+DUPL|A|999999 => [\<999999:A\>]
 DUPL|A|1000000 => [\<1000000:A\>]
 DUPL|\<1000000:A\>|1 => [\<1000000:A\>]
 DUPL|\<1000001:A\>|0 => []
 DUPL|AB|500001 => string too long
+DUPL|ABC|333334 => string too long
 DUPL|A|1000001 => string too long
 DUPL|A|9223372036854775807 => string too long
 DUPL|AB|9223372036854775807 => string too long
@@ -118,6 +141,11 @@ LGT|B|AZ => true
 LGT|\0| => true
 LGT|\<1000001:A\>|\<1000000:A\> => true
 LGT|\<1000000:A\>|\<1000001:A\> => false
+LGT|\<64:A\>B|\<64:A\>A => true
+LGT|\<64:A\>|\<63:A\>B => false
+LGT|\<63:A\>BA|\<63:A\>AB => true
+LGT|\<1000:A\>AB\<100:A\>|\<1000:A\>BA\<100:B\> => false
+LGT|\<65:A\>|\<65:A\> => false
 ";
 
 #[test]

@@ -1,12 +1,26 @@
-use Rattle.std.proofs.Common.{arith}
-use Rattle.sno_io.proofs.FirstLines.{found, line_length-le, one_more}
+use Rattle.std.proofs.Common.{◌≡◌, ◌-◌, length, drop, take, arith}
+use Rattle.std.proofs.lemmas.List.{length-drop, take_all}
+use Rattle.sno_io.proofs.FirstLines.{found, line_length-le, not_found}
 use Rattle.sno_io.proofs.lines.line_end.Goals as goal
 
-pub returns-then-bytes-at-eq10 : goal.returns-then-bytes-at-eq10
-returns-then-bytes-at-eq10 c = found c.args.bytes.now c.loop-at.at c.loop-at.invariant c.if-bytes-at-eq10.true
+pub slice_bounds-memchr-count : goal.slice_bounds-memchr-count
+slice_bounds-memchr-count c = omega (arith, c.requires, line_length-le c.args.bytes.now)
 
-pub loop-at-preserved : goal.loop-at-preserved
-loop-at-preserved c = one_more c.args.bytes.now c.loop-at.at c.loop-at.invariant c.loop-at-test.true c.if-bytes-at-eq10.false
+pub slice_bounds-memchr-start : goal.slice_bounds-memchr-start
+slice_bounds-memchr-start c = omega (arith, c.requires, line_length-le c.args.bytes.now)
 
-pub returns : goal.returns
-returns c = omega (arith, line_length-le c.args.bytes.now, c.loop-at.invariant)
+pub returns-in-Some : goal.returns-in-Some
+returns-in-Some c =
+    let bytes = c.args.bytes.now in
+    let behind = drop c.args.searched bytes in
+    let whole : take (length bytes - c.args.searched) behind ≡ behind =
+    take_all (length bytes - c.args.searched) behind (omega (arith, length-drop c.args.searched bytes)) in
+    found bytes _ c.args.searched c.in-Some.before c.requires whole c.in-Some.ensures.0 c.in-Some.ensures.1
+
+pub returns-in-None : goal.returns-in-None
+returns-in-None c =
+    let bytes = c.args.bytes.now in
+    let behind = drop c.args.searched bytes in
+    let whole : take (length bytes - c.args.searched) behind ≡ behind =
+    take_all (length bytes - c.args.searched) behind (omega (arith, length-drop c.args.searched bytes)) in
+    not_found bytes _ c.args.searched c.requires whole c.in-None.ensures
