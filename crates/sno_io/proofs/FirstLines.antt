@@ -6,7 +6,7 @@ use Rattle.std.proofs.lemmas.Bool.{both_ways, cases_lt, eq-eqb, false_from_ne_tr
 use Rattle.std.proofs.lemmas.List.{append-nil, take-append-le, drop-append-le, get_or-drop, length-append, length-drop}
 use Rattle.std.proofs.lemmas.List.Folds.{length-prefix_len, prefix_len-append}
 use Rattle.std.proofs.lemmas.List.Sums.{fails_before_first, position_or_len_is, prefix_len-le-length}
-use Rattle.memchr.specs.Find.{NoneBefore, Nowhere, Passes, is_byte}
+use Rattle.bstr.specs.Find.{NoneBefore, Nowhere, Passes, is_byte}
 use Rattle.sno_io.specs.Lines.{behind_line, first_line, is_line_feed, line_length, next_line}
 
 pub line_length-le : (text : List ℕ) → line_length text ≤ length text

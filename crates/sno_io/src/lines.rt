@@ -6,7 +6,7 @@ ghost use Rattle.sno_io.specs.inner.Held.{IsSettled, Joins};
 
 use crate::buffer::Buffer;
 use crate::devices::{DeviceFault, Source};
-use memchr::memchr;
+use bstr::ByteSlice;
 use std::alloc::{AllocError, Global};
 use std::marker::Model;
 
@@ -52,7 +52,7 @@ fn line_end(bytes: &[u8], searched: usize) -> usize
     requires { searched ≤ line_length bytes.now }
     ensures { result ≡ line_length bytes.now }
 {
-    match memchr(b'\n', &bytes[searched..]) {
+    match (&bytes[searched..]).find_byte(b'\n') {
         Some(before) => searched + before,
         None => bytes.len(),
     }

@@ -1,17 +1,13 @@
 //! The lines that `ways` writes.
-ghost use Rattle.std.specs.Prelude.{◌≡◌, ◌++◌, IfOk, OnOk, codes, decimal};
+ghost use Rattle.std.specs.Prelude.{◌≡◌, ◌++◌, IfOk, OnOk, codes, string_bytes};
 ghost use Rattle.sno_match.specs.Events.{in_trace};
 ghost use Rattle.sno_runtime.specs.Variables.{text_of_name};
 ghost use Rattle.sno_runtime.specs.Lines.{line_of, pending_part, pending_parts};
 
 use crate::runtime::Runtime;
-use itoa::Buffer;
 use sno_match::{Event, Pending};
 use sno_value::Name;
 use std::alloc::AllocError;
-
-/// The room that a line has at first: no more is asked for where names are short and few assignments wait.
-const ROOM: usize = 64;
 
 /// The line of an event, with its line feed. `way` is the pending list of the last way.
 pub fn line_of(runtime: &Runtime, event: Event, way: &[Pending]) -> Result<Vec<u8>, AllocError>
@@ -21,17 +17,12 @@ pub fn line_of(runtime: &Runtime, event: Event, way: &[Pending]) -> Result<Vec<u
     match event {
         Event::Way { start, end } => way_line(runtime, start, end, way),
         Event::Assign { target, start, end } => {
-            let mut line = target_line(runtime, b"set ", target)?;
-            push_number(&mut line, b" ", start)?;
-            push_number(&mut line, b" ", end)?;
-            line.push(b'\n')?;
-            Ok(line)
+            let places = format!(in alloc; " {start} {end}\n")?;
+            target_line(runtime, b"set ", target, places.as_bytes())
         }
         Event::Cursor { target, at } => {
-            let mut line = target_line(runtime, b"cursor ", target)?;
-            push_number(&mut line, b" ", at)?;
-            line.push(b'\n')?;
-            Ok(line)
+            let place = format!(in alloc; " {at}\n")?;
+            target_line(runtime, b"cursor ", target, place.as_bytes())
         }
         Event::Exhausted => b"exhausted\n".to_vec(alloc),
         Event::Aborted => b"aborted\n".to_vec(alloc),
@@ -50,9 +41,7 @@ fn way_line(
     ensures { IfOk result (λ line. line.items ≡ line_of runtime.now.store.symbols
         (in_trace (Event.Way start end) pending.now)) }
 {
-    let mut line = Vec::with_capacity(runtime.alloc(), ROOM)?;
-    push_number(&mut line, b"way ", start)?;
-    push_number(&mut line, b" ", end)?;
+    let mut line = format!(in runtime.alloc(); "way {start} {end}")?.into_bytes();
     for assignment in pending {
         push_pending(runtime, &mut line, *assignment)?;
     }
@@ -69,30 +58,25 @@ fn push_pending(
     ensures { OnOk result (line.new.items ≡ line.old.items ++ pending_part runtime.now.store.symbols assignment) }
 {
     let Pending { target, start, end } = assignment;
+    let places = format!(in runtime.alloc(); "={start}-{end}")?;
     line.push(b' ')?;
     line.extend_from_slice(runtime.name_text(target))?;
-    push_number(line, b"=", start)?;
-    push_number(line, b"-", end)?;
+    line.extend_from_slice(places.as_bytes())?;
     Ok(())
 }
 
-/// The beginning of a line: a word and a name.
-fn target_line(runtime: &Runtime, word: &[u8], target: Name) -> Result<Vec<u8>, AllocError>
-    ensures { IfOk result (λ line. line.items ≡ word.now ++ text_of_name runtime.now.store.symbols target) }
+/// A line with a name between two texts.
+fn target_line(
+    runtime: &Runtime,
+    word: &[u8],
+    target: Name,
+    places: &[u8],
+) -> Result<Vec<u8>, AllocError>
+    ensures { IfOk result (λ line. line.items ≡ word.now
+        ++ (text_of_name runtime.now.store.symbols target ++ places.now)) }
 {
-    let mut line = Vec::with_capacity(runtime.alloc(), ROOM)?;
-    line.extend_from_slice(word)?;
+    let mut line = word.to_vec(runtime.alloc())?;
     line.extend_from_slice(runtime.name_text(target))?;
+    line.extend_from_slice(places)?;
     Ok(line)
-}
-
-/// Puts a text and a number behind a line.
-fn push_number(line: &mut Vec<u8>, text: &[u8], number: usize) -> Result<(), AllocError>
-    ensures { OnOk result (line.new.items ≡ line.old.items ++ (text.now ++ decimal number)) }
-{
-    let mut buffer = Buffer::new();
-    let digits = buffer.format(number);
-    line.extend_from_slice(text)?;
-    line.extend_from_slice(digits.as_bytes())?;
-    Ok(())
 }

@@ -3,11 +3,11 @@ use Rattle.std.proofs.lemmas.List.{length-drop, take_all}
 use Rattle.sno_io.proofs.FirstLines.{found, line_length-le, not_found}
 use Rattle.sno_io.proofs.lines.line_end.Goals as goal
 
-pub slice_bounds-memchr-count : goal.slice_bounds-memchr-count
-slice_bounds-memchr-count c = omega (arith, c.requires, line_length-le c.args.bytes.now)
+pub slice_bounds-find_byte-count : goal.slice_bounds-find_byte-count
+slice_bounds-find_byte-count c = omega (arith, c.requires, line_length-le c.args.bytes.now)
 
-pub slice_bounds-memchr-start : goal.slice_bounds-memchr-start
-slice_bounds-memchr-start c = omega (arith, c.requires, line_length-le c.args.bytes.now)
+pub slice_bounds-find_byte-start : goal.slice_bounds-find_byte-start
+slice_bounds-find_byte-start c = omega (arith, c.requires, line_length-le c.args.bytes.now)
 
 pub returns-in-Some : goal.returns-in-Some
 returns-in-Some c =
