@@ -28,8 +28,8 @@ pub record Performs (act : Action Unit) (before after : Runtime) (taken now : Op
   pub ends : (more : List ℕ) → Ends (act (world before more)) (world after more) wrote result
   pub unread : untouched after ≡ untouched before
 
--- a value's text with a line feed was written, or a beginning of it; nothing is where memory was refused, nor of a value
--- without a text, which is error 1
+-- a value's text with a line feed was written, or a beginning of it; nothing is where memory was refused, nor of a
+-- value without a text, which is error 1
 abbrev pub WritesLine : Option (List ℕ) → Option (List ℕ) → Option (List ℕ) → Result Unit Stop → Type 0
 WritesLine None taken now (Ok done) = ⊥
 WritesLine (Some bytes) taken now (Ok done) = Appends taken now (bytes ++ codes "\n")
@@ -38,5 +38,6 @@ WritesLine o taken now (Err (HasErrorIn code statement)) = ⊥
 WritesLine o taken now (Err NoMemory) = now ≡ taken
 WritesLine o taken now (Err ReadFault) = ⊥
 WritesLine None taken now (Err WriteFault) = ⊥
-WritesLine (Some bytes) taken now (Err WriteFault) = (part : List ℕ) × Begins part (bytes ++ codes "\n") × Appends taken now part
+WritesLine (Some bytes) taken now (Err WriteFault) =
+    (part : List ℕ) × Begins part (bytes ++ codes "\n") × Appends taken now part
 WritesLine o taken now (Err HasEnded) = ⊥
