@@ -204,24 +204,78 @@ fn add_balance(table: &mut Patterns) -> Result<PatId, BuildError> {
     Ok(balance)
 }
 
-/// Whether a match tells its events. A deferred part is answered by the first pattern of the table.
+/// Whether a match tells its events, and tells them anew where it is begun again.
 fn tells<P: Points>(alloc: Global, table: &Patterns, pattern: PatId, row: Row) -> bool
     requires { pattern.0 < length table.now }
 {
     let Some(mut m) = begin::<P>(alloc, table, pattern, row) else {
         return false;
     };
+    tells_all(&mut m, table, row)
+        && begins_again(alloc, &mut m, table, pattern, row)
+        && begins_again(alloc, &mut m, table, pattern, row)
+        && tells_all(&mut m, table, row)
+}
+
+/// Whether a match that has begun tells its events. A deferred part is answered by the first pattern of the table.
+fn tells_all<P: Points>(m: &mut Engine<P>, table: &Patterns, row: Row) -> bool
+    requires table { m.old.nodes ≡ table.now }
+    requires asked { m.old.waits ≡ false }
+{
     let mut told = 0u64;
     'events: for (event, steps) in row.told {
-        if ask(&mut m, table, *steps) != Some(*event) || m.steps() != *steps {
+        if ask(m, table, *steps) != Some(*event) || m.steps() != *steps {
             return false;
         }
         told = told.saturating_add(1);
-        if m.told() != told || !is_answered(&mut m, table) {
+        if m.told() != told || !is_answered(m, table) {
             return false;
         }
     }
     m.pending() == row.pending
+}
+
+/// Begins a match again, once more behind a refusal, which has changed nothing.
+fn begins_again<P: Points>(
+    alloc: Global,
+    m: &mut Engine<P>,
+    table: &Patterns,
+    pattern: PatId,
+    row: Row,
+) -> bool
+    requires { pattern.0 < length table.now }
+    ensures table { IsTrue result → m.new.nodes ≡ table.now }
+    ensures asked { IsTrue result → m.new.waits ≡ false }
+{
+    let told = m.told();
+    let steps = m.steps();
+    let points = m.points();
+    if begin_once(alloc, m, table, pattern, row) {
+        return true;
+    }
+    if m.told() != told || m.steps() != steps || m.points() != points {
+        return false;
+    }
+    begin_once(alloc, m, table, pattern, row)
+}
+
+/// Begins a match again. It is false where memory was refused.
+fn begin_once<P: Points>(
+    alloc: Global,
+    m: &mut Engine<P>,
+    table: &Patterns,
+    pattern: PatId,
+    row: Row,
+) -> bool
+    requires { pattern.0 < length table.now }
+    ensures table { IsTrue result → m.new.nodes ≡ table.now }
+    ensures asked { IsTrue result → m.new.waits ≡ false }
+{
+    let Ok(subject) = row.subject.to_vec(alloc) else {
+        return false;
+    };
+    m.begin_again(table, pattern, subject, row.anchored, 1000)
+        .is_ok()
 }
 
 /// The match of a row.

@@ -120,6 +120,38 @@ impl<P: Points> Engine<P> {
         })
     }
 
+    /// Begins a match as `over` does, with the lists of the one before: they keep their room, and of what they held
+    /// nothing is left. Where memory is refused the match before goes on.
+    pub fn begin_again(
+        &mut self,
+        patterns: &Patterns,
+        pattern: PatId,
+        subject: Vec<u8>,
+        anchored: bool,
+        limit: u32,
+    ) -> Result<(), AllocError>
+        requires { pattern.0 < length patterns.now }
+        ensures begins { OnOk result
+            (self.new ≡ begins patterns.now pattern subject.items anchored limit self.new.records) }
+        ensures err { OnErr result (self.new ≡ self.old) }
+        ensures counts { IsCounted self.new }
+    {
+        self.points.begin(Goal::Match(pattern), 0)?;
+        self.lent = Snapshot::of(patterns);
+        self.pattern = pattern;
+        self.subject = subject;
+        self.looks.clear();
+        self.anchored = anchored;
+        self.limit = limit;
+        self.start = 0;
+        self.steps = 0;
+        self.told = 0;
+        self.way.clear();
+        self.answers.clear();
+        self.state = State::Going;
+        Ok(())
+    }
+
     /// The next event. Behind one of the last three it is that event again, and no memory is taken. Where memory is
     /// refused no event was told, and the call may be made again. What an event tells lies within the subject.
     ///

@@ -74,10 +74,9 @@ pub trait Points: Drop + Sized {
         ensures err { OnErr result ((points self.new ≡ points self.old) × (records self.new ≡ records self.old)
             × (way.new.items ≡ way.old.items)) };
 
-    /// The first point of a search from a start.
+    /// The first point of a search from a start takes the place of all points.
     fn begin(&mut self, goal: Goal, cursor: usize) -> Result<(), AllocError>
-        requires { points self.old ≡ [] }
         ensures ok { OnOk result (points self.new ≡ first_point goal cursor ∷ []) }
-        ensures records { records self.new ≤ records self.old + 1 }
+        ensures records { OnOk result (records self.new ≤ 1) }
         ensures err { OnErr result ((points self.new ≡ points self.old) × (records self.new ≡ records self.old)) };
 }

@@ -38,6 +38,14 @@ impl Balance {
         }
     }
 
+    /// The table is let go, as long as it may be, and looks are counted anew.
+    pub(crate) fn clear(&mut self)
+        ensures { self.new ≡ [] }
+    {
+        self.table = Vec::new(self.alloc);
+        self.looked = 0;
+    }
+
     /// BAL's first end from a cursor.
     pub(crate) fn first_end(&mut self, subject: &[u8], at: usize) -> Option<usize>
         requires at { at ≤ length subject.now }

@@ -30,6 +30,14 @@ pub(crate) struct Run {
     pub end: Option<usize>,
 }
 
+/// A run without a cursor.
+const NO_RUN: Run = Run {
+    id: PatId(0),
+    from: 1,
+    until: 0,
+    end: None,
+};
+
 /// What the looks through one subject have found out: the last runs that SPAN, BREAK and BREAKX looked through, and
 /// BAL's first ends.
 #[derive(Drop)]
@@ -52,16 +60,18 @@ impl Looks {
     pub fn new(alloc: Global) -> Looks
         ensures { (nodes : List Node) (s : List ℕ) → AreTrue nodes s result }
     {
-        let none = Run {
-            id: PatId(0),
-            from: 1,
-            until: 0,
-            end: None,
-        };
         Looks {
-            runs: [none; RUNS],
+            runs: [NO_RUN; RUNS],
             balance: Balance::new(alloc),
         }
+    }
+
+    /// Forgets what was found out: nothing was looked through, as `new` has it.
+    pub fn clear(&mut self)
+        ensures { (nodes : List Node) (s : List ℕ) → AreTrue nodes s self.new }
+    {
+        self.runs = [NO_RUN; RUNS];
+        self.balance.clear();
     }
 
     /// The first end of a primitive from a cursor, if the run in this slot tells it.

@@ -1,3 +1,4 @@
+mod again;
 mod drawing;
 mod driver;
 mod ends;

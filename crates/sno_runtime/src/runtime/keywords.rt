@@ -5,6 +5,7 @@ ghost use Rattle.sno_runtime.specs.World.{Keywords};
 ghost use Rattle.sno_runtime.specs.Keywords.{keyword, alphabet, is_anchored, with_begun, with_keyword};
 ghost use Rattle.sno_runtime.specs.declared.stops.Stop.{Stop};
 ghost use Rattle.sno_runtime.specs.inner.Runtime.{Does};
+ghost use Rattle.sno_runtime.specs.declared.stops.Stop.{Stop};
 
 use crate::errors::{NO_KEYWORD, STATEMENT_LIMIT};
 use crate::runtime::Runtime;

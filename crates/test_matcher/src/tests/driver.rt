@@ -32,6 +32,23 @@ pub fn begin<P: Points>(
     Ok(m)
 }
 
+/// The match begun again. Of what `begin_again` ensures this says no more than that a test may go on.
+pub fn begin_again<P: Points>(
+    m: &mut Engine<P>,
+    table: &Patterns,
+    pattern: PatId,
+    subject: Vec<u8>,
+    anchored: bool,
+    limit: u32,
+) -> Result<(), AllocError>
+    requires { pattern.0 < length table.now }
+    ensures table { OnOk result (m.new.nodes ≡ table.now) }
+    ensures asked { OnOk result (m.new.waits ≡ false) }
+{
+    m.begin_again(table, pattern, subject, anchored, limit)?;
+    Ok(())
+}
+
 /// The next event. Of what `next` ensures this says no more than that a test may go on.
 pub fn next_event<P: Points>(m: &mut Engine<P>, table: &Patterns) -> Result<Event, AllocError>
     requires table { m.old.nodes ≡ table.now }
@@ -98,11 +115,26 @@ pub fn all_events<P: Points>(
     requires { pattern.0 < length table.now }
 {
     let mut m = begin::<P>(alloc, table, pattern, subject, anchored, limit)?;
+    let told = events_of(alloc, &mut m, table, answers, 100_000)?;
+    Ok(told)
+}
+
+/// The events that a match tells, at most so many, up to the last or to a Value for which there is no answer.
+pub fn events_of<P: Points>(
+    alloc: Global,
+    m: &mut Engine<P>,
+    table: &Patterns,
+    answers: &[Option<PatId>],
+    most: usize,
+) -> Result<Vec<Told>, AllocError>
+    requires table { m.old.nodes ≡ table.now }
+    requires asked { m.old.waits ≡ false }
+{
     let mut told = Vec::new(alloc);
     let mut given = 0;
-    'events: for _ in 0..100_000 {
-        let event = next_event(&mut m, table)?;
-        told.push(told_by(alloc, &m, event)?)?;
+    'events: for _ in 0..most {
+        let event = next_event(m, table)?;
+        told.push(told_by(alloc, m, event)?)?;
         if m.is_waiting() {
             let Some(answer) = answers.get(given) else {
                 return Ok(told);
@@ -110,7 +142,7 @@ pub fn all_events<P: Points>(
             if !is_known(table, *answer) {
                 return Ok(told);
             }
-            give(&mut m, table, *answer)?;
+            give(m, table, *answer)?;
             given += 1;
         } else if is_last(event) {
             return Ok(told);

@@ -16,17 +16,17 @@ const TEXTS: [&str; 5] = ["", "A", "B", "AB", "AA"];
 
 const SETS: [&str; 3] = ["A", "AB", "()"];
 
-const SUBJECTS: [&str; 10] = [
+pub const SUBJECTS: [&str; 10] = [
     "", "A", "AB", "AAA", "(A)B", "())", "BABA", "A(", "ABAB", "AABBA",
 ];
 
 /// Numbers that look like chance.
 #[derive(Drop)]
-struct Chance(u64);
+pub struct Chance(pub u64);
 
 impl Chance {
     /// A number below `n`, or 0 where there is none.
-    fn below(&mut self, n: usize) -> usize
+    pub fn below(&mut self, n: usize) -> usize
         ensures { 0 < n → result < n }
     {
         self.0 = self
@@ -38,7 +38,7 @@ impl Chance {
     }
 
     /// One of some texts.
-    fn among(&mut self, texts: &[&'static str]) -> &'static [u8] {
+    pub fn among(&mut self, texts: &[&'static str]) -> &'static [u8] {
         let place = self.below(texts.len());
         match texts.get(place) {
             Some(text) => text.as_bytes(),
@@ -103,7 +103,7 @@ impl Chance {
     }
 
     /// At least one form.
-    fn forms(&mut self, alloc: Global) -> Result<Vec<Form>, AllocError> {
+    pub fn forms(&mut self, alloc: Global) -> Result<Vec<Form>, AllocError> {
         let mut forms = Vec::new(alloc);
         for _ in 0..=self.below(8) {
             let form = self.form(forms.len());
@@ -113,7 +113,11 @@ impl Chance {
     }
 
     /// Answers for deferred parts: some let the part fail, and some are one of the forms.
-    fn answers(&mut self, alloc: Global, forms: usize) -> Result<Vec<Option<PatId>>, AllocError> {
+    pub fn answers(
+        &mut self,
+        alloc: Global,
+        forms: usize,
+    ) -> Result<Vec<Option<PatId>>, AllocError> {
         let mut answers = Vec::new(alloc);
         for _ in 0..self.below(4) {
             let answer = self.part(forms);

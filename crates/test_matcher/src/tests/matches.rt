@@ -15,14 +15,14 @@ use std::test::Fail;
 
 /// What a row asks for: `anchored LIMIT SUBJECT: FORMS` or `floating LIMIT SUBJECT: FORMS`.
 #[derive(Clone, Copy, Drop)]
-struct Search {
-    words: &'static str,
-    subject: &'static [u8],
-    anchored: bool,
-    limit: u32,
+pub struct Search {
+    pub words: &'static str,
+    pub subject: &'static [u8],
+    pub anchored: bool,
+    pub limit: u32,
 }
 
-fn search_of(text: &'static str) -> Result<Search, Fail> {
+pub fn search_of(text: &'static str) -> Result<Search, Fail> {
     let (mode, rest) = parts(text, " ")?;
     let (limit, rest) = parts(rest, " ")?;
     let (subject, words) = parts(rest, ": ")?;

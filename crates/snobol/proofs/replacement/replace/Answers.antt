@@ -1,7 +1,7 @@
 use Rattle.std.proofs.Common.{ap, ◌∙◌, length, Some, Err}
 use Rattle.std.proofs.lemmas.Result.{err_from_is_err_and}
 use Rattle.snobol.proofs.RunningLaws.{answered}
-use Rattle.snobol.proofs.StatementLaws.{of_part, of_subject, read_runs, part_runs, part_ended, name_runs, nameless_runs, text_runs, textless_runs, pattern_runs}
+use Rattle.snobol.proofs.StatementLaws.{of_part, read_runs, part_runs, part_ended, name_runs, nameless_runs, text_runs, textless_runs, pattern_runs}
 use Rattle.snobol.proofs.StatementLaws.{patternless_runs}
 use Rattle.snobol.proofs.replacement.replace.Goals as goal
 
@@ -63,76 +63,26 @@ returns-in_err-matcher g c =
     answered (p.1 ∙ ap Err p.2) (part_runs _ named (name_runs _ _ c.in_ok-target.target (c.in_ok-target.ensures c.evaluate.new.runtime.nodes)
     (part_runs _ read (text_runs _ _ c.in_ok-text.text (c.in_ok-text.ensures.text c.read.new.self.nodes) (part_ended _ lost)))))
 
-pub find_first-requires-clause-subject : goal.find_first-requires-clause-subject
-find_first-requires-clause-subject g c = rw c.in_ok-matcher.ensures.subject (c.in_ok-text.ensures.short c.read.new.self.nodes c.in_ok-value.ensures.answer)
+pub replace_first-done-requires-clause-subject : goal.replace_first-done-requires-clause-subject
+replace_first-done-requires-clause-subject g c =
+    rw (c.deref_mut.ensures.value, c.in_ok-matcher.ensures.subject) (c.in_ok-text.ensures.short c.read.new.self.nodes c.in_ok-value.ensures.answer)
 
-pub find_first-requires-clause-level : goal.find_first-requires-clause-level
-find_first-requires-clause-level g c =
+pub replace_first-done-requires-clause-level : goal.replace_first-done-requires-clause-level
+replace_first-done-requires-clause-level g c =
     let begun = pattern_runs _ _ c.args.pattern (of_part _ _ (ap Some c.value_of.ensures) c.in_ok-value-2.ensures) c.in_ok-matcher.ensures.does in
     ap length begun.calls ∙ (ap length c.in_ok-value.ensures.calls ∙ (ap length c.in_ok-name.ensures.calls ∙ c.requires.level))
 
-pub find_first-requires-clause-ready : goal.find_first-requires-clause-ready
-find_first-requires-clause-ready g c =
+pub replace_first-done-requires-clause-ready : goal.replace_first-done-requires-clause-ready
+replace_first-done-requires-clause-ready g c =
     let begun = pattern_runs _ _ c.args.pattern (of_part _ _ (ap Some c.value_of.ensures) c.in_ok-value-2.ensures) c.in_ok-matcher.ensures.does in
     begun.ready
-
-pub returns-in_err-span : goal.returns-in_err-span
-returns-in_err-span g c =
-    let p = err_from_is_err_and c.from_residual-in_err-span.result c.from_residual-in_err-span.ensures.1 in
-    let named = of_part _ _ (ap Some c.name_of.ensures) c.in_ok-name.ensures in
-    let read = read_runs named.ready c.in_ok-value.ensures in
-    let begun = pattern_runs _ _ c.args.pattern (of_part _ _ (ap Some c.value_of.ensures) c.in_ok-value-2.ensures) c.in_ok-matcher.ensures.does in
-    let lost = of_subject _ _ _ c.in_ok-matcher.ensures.subject c.in_err-span.ensures.does in
-    answered (p.1 ∙ ap Err p.2) (part_runs _ named (name_runs _ _ c.in_ok-target.target (c.in_ok-target.ensures c.evaluate.new.runtime.nodes)
-    (part_runs _ read (text_runs _ _ c.in_ok-text.text (c.in_ok-text.ensures.text c.read.new.self.nodes) (part_runs _ begun (part_ended _ lost))))))
-
-pub evaluate-requires-3-clause-level : goal.evaluate-requires-3-clause-level
-evaluate-requires-3-clause-level g c =
-    let begun = pattern_runs _ _ c.args.pattern (of_part _ _ (ap Some c.value_of.ensures) c.in_ok-value-2.ensures) c.in_ok-matcher.ensures.does in
-    ap length c.in_ok-span.ensures.does.calls
-    ∙ (ap length begun.calls ∙ (ap length c.in_ok-value.ensures.calls ∙ (ap length c.in_ok-name.ensures.calls ∙ c.requires.level)))
-
-pub evaluate-requires-3-clause-ready : goal.evaluate-requires-3-clause-ready
-evaluate-requires-3-clause-ready g c = c.in_ok-span.ensures.does.ready
-
-pub returns-in_err-value-3 : goal.returns-in_err-value-3
-returns-in_err-value-3 g c =
-    let p = err_from_is_err_and c.from_residual-in_err-value-3.result c.from_residual-in_err-value-3.ensures.1 in
-    let named = of_part _ _ (ap Some c.name_of.ensures) c.in_ok-name.ensures in
-    let read = read_runs named.ready c.in_ok-value.ensures in
-    let begun = pattern_runs _ _ c.args.pattern (of_part _ _ (ap Some c.value_of.ensures) c.in_ok-value-2.ensures) c.in_ok-matcher.ensures.does in
-    let found = of_subject _ _ _ c.in_ok-matcher.ensures.subject c.in_ok-span.ensures.does in
-    let lost = of_part _ _ c.object_part.ensures c.in_err-value-3.ensures in
-    answered (p.1 ∙ ap Err p.2) (part_runs _ named (name_runs _ _ c.in_ok-target.target (c.in_ok-target.ensures c.evaluate.new.runtime.nodes)
-    (part_runs _ read (text_runs _ _ c.in_ok-text.text (c.in_ok-text.ensures.text c.read.new.self.nodes)
-    (part_runs _ begun (part_runs _ found (part_ended _ lost)))))))
-
-pub put_value-requires-clause-order : goal.put_value-requires-clause-order
-put_value-requires-clause-order g c = c.in_ok-span.ensures.does.answer.0
-
-pub put_value-requires-clause-within : goal.put_value-requires-clause-within
-put_value-requires-clause-within g c = rw (c.subject.ensures, c.in_ok-span.ensures.subject) c.in_ok-span.ensures.does.answer.1
-
-pub put_value-requires-clause-short : goal.put_value-requires-clause-short
-put_value-requires-clause-short g c =
-    rw (c.subject.ensures, c.in_ok-span.ensures.subject, c.in_ok-matcher.ensures.subject)
-    (c.in_ok-text.ensures.short c.read.new.self.nodes c.in_ok-value.ensures.answer)
-
-pub put_value-requires-clause-value : goal.put_value-requires-clause-value
-put_value-requires-clause-value g c = c.in_ok-value-3.ensures.answer
-
-pub put_value-requires-clause-sound : goal.put_value-requires-clause-sound
-put_value-requires-clause-sound g c = c.in_ok-value-3.ensures.ready.writes
 
 pub returns : goal.returns
 returns g c =
     let named = of_part _ _ (ap Some c.name_of.ensures) c.in_ok-name.ensures in
     let read = read_runs named.ready c.in_ok-value.ensures in
     let begun = pattern_runs _ _ c.args.pattern (of_part _ _ (ap Some c.value_of.ensures) c.in_ok-value-2.ensures) c.in_ok-matcher.ensures.does in
-    let found = of_subject _ _ _ c.in_ok-matcher.ensures.subject c.in_ok-span.ensures.does in
-    let object = of_part _ _ c.object_part.ensures c.in_ok-value-3.ensures in
-    let same = c.subject.ensures ∙ (c.in_ok-span.ensures.subject ∙ c.in_ok-matcher.ensures.subject) in
-    let put = rw same at (c.put_value.ensures _ object.ready.reads) in
+    let done = rw (c.deref_mut.ensures.value, c.in_ok-matcher.ensures.subject) at c.replace_first-done.ensures in
+    rw c.keep_matcher.ensures
     (part_runs _ named (name_runs _ _ c.in_ok-target.target (c.in_ok-target.ensures c.evaluate.new.runtime.nodes)
-    (part_runs _ read (text_runs _ _ c.in_ok-text.text (c.in_ok-text.ensures.text c.read.new.self.nodes)
-    (part_runs _ begun (part_runs _ found (part_runs _ object put)))))))
+    (part_runs _ read (text_runs _ _ c.in_ok-text.text (c.in_ok-text.ensures.text c.read.new.self.nodes) (part_runs _ begun done)))))

@@ -1,12 +1,10 @@
-use Rattle.std.proofs.Common.{◌≤◌, arith}
 use Rattle.sno_match.proofs.SessionLaws as laws
 use Rattle.sno_match.proofs.engine.Engine.over.Goals as goal
 
 pub invariant_of-result : goal.invariant_of-result
-invariant_of-result g c =
-    let few : g.P.Points.records c.begin.new.self ≤ 1 = omega (arith, c.empty-points.ensures.records, c.begin.ensures.records) in (
-      rw (c.of.ensures, c.new-2.ensures.items, c.new.ensures.items)
-          (laws.new_match c.args.patterns.now c.args.pattern c.args.subject.items c.args.anchored c.args.limit (g.P.Points.points c.begin.new.self)
-          (g.P.Points.records c.begin.new.self) c.requires c.in_ok-begin.ensures.ok few),
-      c.new-looks.ensures c.of.result.value c.args.subject.items,
-    )
+invariant_of-result g c = (
+  rw (c.of.ensures, c.new-2.ensures.items, c.new.ensures.items)
+      (laws.new_match c.args.patterns.now c.args.pattern c.args.subject.items c.args.anchored c.args.limit (g.P.Points.points c.begin.new.self)
+      (g.P.Points.records c.begin.new.self) c.requires c.in_ok-begin.ensures.ok c.in_ok-begin.ensures.records),
+  c.new-looks.ensures c.of.result.value c.args.subject.items,
+)
