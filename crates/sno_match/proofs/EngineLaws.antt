@@ -135,4 +135,5 @@ module _ (o : Matching) (nodes : List Node) (pattern : PatId) (s : List ℕ) (an
       pub begun_leads : anchored ≡ false → at < length s → (new : List Point) (new_records : ℕ) → (steps + spent ≡ limit → ⊥)
           → new ≡ first_point (N.Match pattern) (at + 1) ∷ [] → new_records ≤ 1 →
           Leads m start points None (steps + spent + 1) (at + 1) new way new_records
-      begun_leads a room new new_records h is few = start_leads m start points inv_going empty at spent in_s enough_so passed_so a room new new_records h is (omega (arith, few))
+      begun_leads a room new new_records h is few =
+          start_leads m start points inv_going empty at spent in_s enough_so passed_so a room new new_records h is (omega (arith, few))
