@@ -1,6 +1,6 @@
 -- Items of arrays and tables, as the code finds them.
 use Rattle.std.proofs.Common.{Vec, Global, ◌≡◌, ℕ, zero, suc, ◌+◌, ◌<◌, arith, ℤ, List, [], ◌∷◌, ◌++◌, take, length, get_or, map, refl, ap, ◌∙◌, Option, None}
-use Rattle.std.proofs.Common.{Some, Result, Ok, Err}
+use Rattle.std.proofs.Common.{IfSome, Some, Result, Ok, Err}
 use Rattle.std.specs.Option.{option_map}
 use Rattle.sno_value.specs.declared.ids.ObjId.{ObjId}
 use Rattle.sno_value.specs.declared.value.Name.{Name as Target}
@@ -90,6 +90,11 @@ pub element_there : (id : ObjId) (numbers : List ℤ) (s : Runtime) (name : Targ
     → Does itself any (element_numbered id (Some numbers)) s s (Ok name)
 element_there id numbers s name h = then_got itself any itself any (named id numbers) (either fails gives) s s s (Some name) (Ok name) h
     (gives_does itself any s name name refl tt)
+
+pub elements_there : (id : ObjId) (numbers : List ℤ) (s : Runtime) (found : Option Target) → Does itself any (named id numbers) s s (Ok found)
+    → IfSome found (λ name. Does itself any (element_numbered id (Some numbers)) s s (Ok name))
+elements_there id numbers s (Some name) h = element_there id numbers s name h
+elements_there id numbers s None h = tt
 
 pub out_of_range : (id : ObjId) (numbers : List ℤ) (s : Runtime) → Does itself any (named id numbers) s s (Ok None)
     → Does {X = Target} itself any (element_numbered id (Some numbers)) s s (Err Failure)

@@ -3,13 +3,9 @@ use Rattle.std.specs.Prelude.{◌≡◌, ℕ, ◌<◌, ◌≤◌, true, false, L
 use Rattle.std.specs.Prelude.{None, Result, Ok, Err}
 use Rattle.std.specs.List.{AllByRecursion}
 use Rattle.sno_value.specs.declared.ids.PatId.{PatId}
-use Rattle.sno_pattern.specs.declared.table.BuildError.TheVariants as refusal
 use Rattle.sno_pattern.specs.Pattern.{Pattern}
 use Rattle.sno_pattern.specs.Table.{Node, tree}
 use Rattle.sno_store.specs.Store.{Store, place}
-use Rattle.sno_store.specs.declared.error.StoreError.TheVariants as store_refusal
-use Rattle.sno_value.specs.declared.value.Value.TheVariants as stored
-use Rattle.sno_io.specs.declared.lines.LineError.TheVariants as too
 use Rattle.sno_runtime.specs.Values.{shown, shown_objects, IsValueOf, IsObjectOf}
 use Rattle.sno_runtime.specs.declared.stops.Exit.{Exit}
 use Rattle.sno_runtime.specs.declared.stops.Exit.TheVariants.{Failure, Halt}

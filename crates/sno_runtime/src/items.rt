@@ -1,8 +1,8 @@
 //! Items of arrays and tables, by their subscripts.
-ghost use Rattle.std.specs.Prelude.{◌≡◌, ◌∷◌, [], List, map, length, IfOk, IfErr, Some};
+ghost use Rattle.std.specs.Prelude.{◌≡◌, ◌∷◌, [], List, map, length, IfOk, IfErr, IfSome, Ok, Some};
 ghost use Rattle.std.specs.List.{AllByRecursion};
 ghost use Rattle.sno_pattern.specs.Table.{Node};
-ghost use Rattle.sno_runtime.specs.Values.{shown, IsValueOf};
+ghost use Rattle.sno_runtime.specs.Values.{shown, Array, Int, IsValueOf};
 ghost use Rattle.sno_runtime.specs.Operators.{item_name};
 ghost use Rattle.sno_runtime.specs.Containers.{item, item_named, element_numbered, entry_read, numbers_of};
 ghost use Rattle.sno_runtime.specs.inner.Converted.{IsThere};
@@ -80,6 +80,19 @@ fn element(runtime: &Runtime, array: ObjId, subscripts: &[Value]) -> Result<Name
     match runtime.element(array, &numbers)? {
         Some(name) => Ok(name),
         None => Err(Exit::Failure),
+    }
+}
+
+/// The element of an array that one integer names, where it is in range and the array has one dimension.
+#[inline]
+pub fn element_at(runtime: &Runtime, array: ObjId, subscript: i64) -> Option<Name>
+    ensures { IfSome result (λ name. Does itself any (item_named (Array array.0) (Int subscript ∷ []))
+        runtime.now runtime.now (Ok name)) }
+{
+    let subscripts = std::slice::from_ref(&subscript);
+    match runtime.element(array, subscripts) {
+        Ok(name) => name,
+        Err(_refused) => None,
     }
 }
 

@@ -37,7 +37,7 @@ pub use errors::{
 };
 pub use fields::{ask_field, construct, field_as_name, field_value};
 pub use functions::{answer, argument, called};
-pub use items::{item, item_name};
+pub use items::{element_at, item, item_name};
 pub use keywords::{Keywords, is_settable};
 pub use limits::MOST_BYTES;
 pub use lines::line_of;

@@ -2,6 +2,7 @@ pub mod Expressions
 pub mod FlatLaws
 pub mod QuickLaws
 pub mod Leads
+pub mod InPlaceLaws
 pub mod ApplyLaws
 pub mod Holders
 pub mod Ordered

@@ -4,7 +4,6 @@ use Rattle.std.specs.Prelude.{Ok, Err}
 use Rattle.sno_value.specs.declared.value.Name.{Name as Target}
 use Rattle.sno_value.specs.declared.value.Name.TheVariants.{Var}
 use Rattle.sno_value.specs.declared.value.Value.{Value as Stored}
-use Rattle.sno_value.specs.declared.value.Value.TheVariants as stored
 use Rattle.sno_pattern.specs.Table.{Node}
 use Rattle.sno_store.specs.Calls.{function_value}
 use Rattle.sno_store.specs.declared.functions.Function.{Function}

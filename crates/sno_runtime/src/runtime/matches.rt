@@ -28,12 +28,25 @@ impl Runtime {
             (is_anchored self.old.keywords.anchor) self.old.keywords.steps matcher.value.records) }
         ensures same { self.new ≡ self.old }
     {
-        let anchored = self.anchored();
-        let limit = self.steps();
         if let Some(mut matcher) = self.idle.pop() {
+            let anchored = self.anchored();
+            let limit = self.steps();
             matcher.begin_again(&self.patterns, pattern, subject, anchored, limit)?;
             return Ok(matcher);
         }
+        self.new_match(pattern, subject)
+    }
+
+    /// The same with a matcher of its own. It stands apart, so that a match that begins again needs no room for one.
+    #[cold]
+    #[inline(never)]
+    fn new_match(&self, pattern: PatId, subject: Vec<u8>) -> Result<Box<Matcher>, AllocError>
+        requires { pattern.0 < length self.now.nodes }
+        ensures { IfOk result (λ matcher. matcher.value ≡ begins self.now.nodes pattern subject.items
+            (is_anchored self.now.keywords.anchor) self.now.keywords.steps matcher.value.records) }
+    {
+        let anchored = self.anchored();
+        let limit = self.steps();
         let matcher = Matcher::over(
             self.alloc,
             &self.patterns,

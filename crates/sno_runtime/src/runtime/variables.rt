@@ -121,6 +121,14 @@ impl Runtime {
         Ok(value)
     }
 
+    /// The same, where it lies.
+    #[inline]
+    pub fn held(&self, name: Name) -> &Value
+        ensures { Does shown IsValueOf (holds name) self.now self.now (Ok result.now) }
+    {
+        self.store.get(name)
+    }
+
     /// Gives a variable a value.
     pub fn set(&mut self, name: Name, value: Value)
         requires { IsValueOf self.old.nodes value }

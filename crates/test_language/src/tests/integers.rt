@@ -23,6 +23,12 @@ const ARITHMETIC: &str = r"
 4000000000 * 4000000000 => error 2
 (10 - 4) - (3 - 1) => <4>
 DATATYPE(3 + 4) => <INTEGER>
+DATATYPE('' 5) => <INTEGER>
+DATATYPE(5 '') => <INTEGER>
+DATATYPE(LT(1,2) 5) => <INTEGER>
+DATATYPE(LT(1,2) LEN(2)) => <PATTERN>
+DATATYPE('' '') => <STRING>
+2 + 3 * 4 - 5 => <9>
 ";
 
 #[test]
@@ -52,6 +58,8 @@ LT(1,ARB) => error 1
 GT(1) => <>
 LT(1) => fails
 EQ() => <>
+LT(1,2,0) 'Y' => <Y>
+LT(2,1,5) => fails
 ";
 
 #[test]
@@ -65,6 +73,12 @@ const PROGRAMS: &str = r"
  OUTPUT = LT(1,2) 'a'\n DEFINE('LT(A,B)')\n OUTPUT = LT(2,1) 'b' :(END)\nLT LT = 'mine' :(RETURN)\nEND\n => a\nmineb\n
  DATA('GT(A,B)')\n X = GT(1,2)\n OUTPUT = A(X) B(X)\nEND\n => 12\n
 L N = N + INPUT :S(L)\n OUTPUT = N\nEND\n <- 3\n4\n => 7\n
+ OUTPUT = INPUT + 1\n OUTPUT = 1 + INPUT\n OUTPUT = INPUT - INPUT\nEND\n <- 3\n4\n9\n2\n => 4\n5\n7\n
+ N = '5'\n OUTPUT = N + 1\n OUTPUT = 1 + N\n OUTPUT = N - N\nEND\n => 6\n6\n0\n
+ N = 3\n OUTPUT = 'a' ~LT(N,2) 'b'\n OUTPUT = 'a' ~GT(N,2) 'b'\n OUTPUT = 'c'\nEND\n => ab\nc\n
+ DEFINE('F()') :(M)\nF N = 10\n F = 1 :(RETURN)\nM N = 3\n OUTPUT = N + F()\n OUTPUT = F() + N\nEND\n => 4\n11\n
+ DEFINE('F()') :(M)\nF A = ARRAY(2,'new')\n F = 1 :(RETURN)\nM A = ARRAY(2,'old')\n OUTPUT = A<F()>\n OUTPUT = A<1>\nEND\n => old\nnew\n
+ A = ARRAY(3,0)\n A<2> = 5\n I = 1\n OUTPUT = A<I + 1> + A<I> A<I + 2> - 1\n A<I + 3> = 1 :S(END)\n OUTPUT = 'out'\nEND\n => 5-1\nout\n
 ";
 
 #[test]
