@@ -212,8 +212,8 @@ fn tells<P: Points>(alloc: Global, table: &Patterns, pattern: PatId, row: Row) -
         return false;
     };
     tells_all(&mut m, table, row)
-        && begins_again(alloc, &mut m, table, pattern, row)
-        && begins_again(alloc, &mut m, table, pattern, row)
+        && begins_again(&mut m, table, pattern, row)
+        && begins_again(&mut m, table, pattern, row)
         && tells_all(&mut m, table, row)
 }
 
@@ -236,13 +236,7 @@ fn tells_all<P: Points>(m: &mut Engine<P>, table: &Patterns, row: Row) -> bool
 }
 
 /// Begins a match again, once more behind a refusal, which has changed nothing.
-fn begins_again<P: Points>(
-    alloc: Global,
-    m: &mut Engine<P>,
-    table: &Patterns,
-    pattern: PatId,
-    row: Row,
-) -> bool
+fn begins_again<P: Points>(m: &mut Engine<P>, table: &Patterns, pattern: PatId, row: Row) -> bool
     requires { pattern.0 < length table.now }
     ensures table { IsTrue result → m.new.nodes ≡ table.now }
     ensures asked { IsTrue result → m.new.waits ≡ false }
@@ -250,31 +244,22 @@ fn begins_again<P: Points>(
     let told = m.told();
     let steps = m.steps();
     let points = m.points();
-    if begin_once(alloc, m, table, pattern, row) {
+    if begin_once(m, table, pattern, row) {
         return true;
     }
     if m.told() != told || m.steps() != steps || m.points() != points {
         return false;
     }
-    begin_once(alloc, m, table, pattern, row)
+    begin_once(m, table, pattern, row)
 }
 
 /// Begins a match again. It is false where memory was refused.
-fn begin_once<P: Points>(
-    alloc: Global,
-    m: &mut Engine<P>,
-    table: &Patterns,
-    pattern: PatId,
-    row: Row,
-) -> bool
+fn begin_once<P: Points>(m: &mut Engine<P>, table: &Patterns, pattern: PatId, row: Row) -> bool
     requires { pattern.0 < length table.now }
     ensures table { IsTrue result → m.new.nodes ≡ table.now }
     ensures asked { IsTrue result → m.new.waits ≡ false }
 {
-    let Ok(subject) = row.subject.to_vec(alloc) else {
-        return false;
-    };
-    m.begin_again(table, pattern, subject, row.anchored, 1000)
+    m.begin_again(table, pattern, row.subject, row.anchored, 1000)
         .is_ok()
 }
 

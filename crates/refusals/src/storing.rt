@@ -278,8 +278,8 @@ fn nothing(answer: Result<(), StoreError>) -> Result<Answer, StoreError> {
 }
 
 fn text(alloc: Global, bytes: &[u8]) -> Result<Value, AllocError> {
-    let bytes = Vec::from_slice(alloc, bytes)?;
-    Ok(Value::Str(Text::new(bytes)))
+    let text = Text::from_slice(alloc, bytes)?;
+    Ok(Value::Str(text))
 }
 
 fn two_values(alloc: Global) -> Result<Vec<Value>, AllocError> {

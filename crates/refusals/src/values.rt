@@ -5,8 +5,10 @@ use std::alloc::{AllocError, Global};
 /// Whether each gives what it must, or that memory was refused and then what it must.
 pub(crate) fn hold(alloc: Global) -> Result<bool, AllocError> {
     let copies = copy_holds(alloc)?;
+    let texts = texts_hold(alloc)?;
     Ok(
         copies
+            && texts
             && integer_holds(alloc, -9_223_372_036_854_775_808, b"-9223372036854775808")
             && integer_holds(alloc, 0, b"0")
             && copies_hold(alloc)
@@ -47,12 +49,49 @@ fn replacement_holds(alloc: Global) -> bool {
     }
 }
 
+/// Strings that are too long to lie in their values, and parts of one: a part that is shorter than a quarter is copied.
+fn texts_hold(alloc: Global) -> Result<bool, AllocError> {
+    let bytes = [b'x'; 100];
+    let list = Vec::from_slice(alloc, &bytes)?;
+    let text = match Text::new(alloc, list) {
+        Err(_) => Text::new(alloc, Vec::from_slice(alloc, &bytes)?)?,
+        Ok(text) => text,
+    };
+    let copied = match Text::from_slice(alloc, &bytes) {
+        Err(_) => Text::from_slice(alloc, &bytes)?,
+        Ok(copied) => copied,
+    };
+    let joined = match Text::joined(alloc, &bytes[..40], &bytes[40..]) {
+        Err(_) => Text::joined(alloc, &bytes[..40], &bytes[40..])?,
+        Ok(joined) => joined,
+    };
+    Ok(
+        text.as_slice() == bytes.as_slice()
+            && copied == text
+            && joined == text
+            && part_holds(alloc, &text, 10, 90)?
+            && part_holds(alloc, &text, 10, 34)?
+            && text == copied,
+    )
+}
+
+/// A part of a text, behind which the text is as before.
+fn part_holds(alloc: Global, text: &Text, start: usize, end: usize) -> Result<bool, AllocError> {
+    if start > end || end > text.as_slice().len() {
+        return Ok(false);
+    }
+    let part = match text.part(alloc, start, end) {
+        Err(_) => text.part(alloc, start, end)?,
+        Ok(part) => part,
+    };
+    Ok(part.as_slice() == &text.as_slice()[start..end])
+}
+
 /// A copy of a text, behind which the text is as before.
 fn copy_holds(alloc: Global) -> Result<bool, AllocError> {
-    let bytes = Vec::from_slice(alloc, b"a text")?;
-    let value = Value::Str(Text::new(bytes));
-    let copy = match value.copy(alloc) {
-        Err(_) => value.copy(alloc),
+    let value = Value::Str(Text::from_slice(alloc, b"a text")?);
+    let copy = match value.copy() {
+        Err(_) => value.copy(),
         copy => copy,
     };
     let Ok(Value::Str(copy)) = copy else {

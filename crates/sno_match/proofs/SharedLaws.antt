@@ -1,5 +1,5 @@
 -- Lists of goals as records: what stays where records are added or cut back.
-use Rattle.std.proofs.Common.{◌≡◌, ℕ, ◌+◌, ◌-◌, ◌≤◌, ◌<◌, Bool, true, false, if◌then◌else◌, eqb, List, [], ◌∷◌, ◌++◌, Option, Some, None, length, map, reverse}
+use Rattle.std.proofs.Common.{◌≡◌, ◌==◌, ℕ, suc, ◌+◌, ◌-◌, ◌≤◌, ◌<◌, Bool, true, false, if◌then◌else◌, eqb, List, [], ◌∷◌, ◌++◌, Option, Some, None, length, map, reverse}
 use Rattle.std.proofs.Common.{take, drop, refl, ◌∙◌, sym, ap, subst, arith, append_assoc, append-nil, length-append, get_or}
 use Rattle.std.proofs.lemmas.List.{reverse-append, length-reverse, take-append-drop, length-take-le, take-append-le, take-take, take_all, drop_more}
 use Rattle.std.proofs.lemmas.List.{nil_from_length}
@@ -13,6 +13,9 @@ use Rattle.sno_match.specs.declared.shared.Held.{Held}
 use Rattle.sno_match.specs.Point.{Point, rest_of, with_front, replaced, branched, closed, below as points_below}
 use Rattle.sno_match.specs.Top.{first_point}
 use Rattle.sno_match.specs.inner.Shared.{goals_at, goals_of, Falls, Fits, Holds, Extends, point_of, points_of, held_of}
+
+false_or_true : false ≡ true → ⊥
+false_or_true e = absurd (cc)
 
 at_newest : (b : Bool) (xs ys : List Goal) → b ≡ true → (if b then xs else ys) ≡ xs
 at_newest true xs ys h = refl
@@ -245,6 +248,22 @@ module _ (records : List GoalRecord) (pending : List Pending) (top : Option Held
           (record { goals = point.goals; cursor = point.cursor; mark = Next next; floor = point.floor; assigned = point.assigned } ∷ reverse below)
           fits_stays inside puts.kept) ∙
           ap (branched front cursor next) (sym stacked)
+
+  -- nothing takes the place of the first goal, and no record changes
+  module _ (cursor behind : ℕ) (rest : goals_of records behind ≡ rest_of (goals_of records point.goals)) (near : behind ≤ point.goals) where
+    none_put : Extends (take (length records) records) behind [] records behind
+    none_put = subst (λ rs. Extends rs behind [] records behind) (sym (take_all (length records) records (omega arith)))
+        (extends_none records behind (omega (arith, near, fits.0)) holds.falls)
+
+    pub first_dropped_holds : Holds records pending (Some record { goals = behind; cursor = cursor; mark = Enter; floor = point.floor; assigned = point.assigned })
+        below
+    first_dropped_holds = replaced_holds records [] cursor behind (length records) behind rest (omega (arith, near, fits.0)) (omega arith) none_put fits.1
+
+    pub first_dropped_points : (front : List Goal) → (length front == 0) ≡ true →
+        points_of records pending (Some record { goals = behind; cursor = cursor; mark = Enter; floor = point.floor; assigned = point.assigned }) below
+        ≡ replaced front cursor (points_of records pending top below)
+    first_dropped_points [] h = replaced_points records [] cursor behind (length records) behind rest (omega (arith, near, fits.0)) (omega arith) none_put fits.1
+    first_dropped_points (goal ∷ front) h = absurd (false_or_true (sym (ne_eqb (suc (length front)) 0 (λ e. omega arith)) ∙ h))
 
   -- an entry behind the point's own
   module _ (entries : List Pending) (assignment : Pending) (behind : ℕ) (rest : goals_of records behind ≡ rest_of (goals_of records point.goals))

@@ -1,6 +1,6 @@
 //! A match that is asked for one event after another.
 ghost use Rattle.std.specs.Prelude.{◌≡◌, ◌<◌, ◌≤◌, ◌+◌, ◌-◌, ◌*◌, ◌++◌, [], ◌∷◌, false, true, length, drop, take, IfOk};
-ghost use Rattle.std.specs.Prelude.{IfSome, IsOk, OnOk, OnErr};
+ghost use Rattle.std.specs.Prelude.{IfSome, IsOk, OnOk, OnErr, vec_capacity};
 ghost use Rattle.sno_match.specs.Matching.{SameMatch, IsTold, StaysAt, IsCounted, TellsWays, Begins, begins, told_of};
 ghost use Rattle.sno_match.specs.Events.{in_trace, last_pending};
 ghost use Rattle.sno_match.specs.Within.{IsWithin};
@@ -120,26 +120,28 @@ impl<P: Points> Engine<P> {
         })
     }
 
-    /// Begins a match as `over` does, with the lists of the one before: they keep their room, and of what they held
+    /// Begins a match as `new` does, with the lists of the one before: they keep their room, and of what they held
     /// nothing is left. Where memory is refused the match before goes on.
     pub fn begin_again(
         &mut self,
         patterns: &Patterns,
         pattern: PatId,
-        subject: Vec<u8>,
+        subject: &[u8],
         anchored: bool,
         limit: u32,
     ) -> Result<(), AllocError>
         requires { pattern.0 < length patterns.now }
         ensures begins { OnOk result
-            (self.new ≡ begins patterns.now pattern subject.items anchored limit self.new.records) }
+            (self.new ≡ begins patterns.now pattern subject.now anchored limit self.new.records) }
         ensures err { OnErr result (self.new ≡ self.old) }
         ensures counts { IsCounted self.new }
     {
+        let more = subject.len().saturating_sub(self.subject.len());
+        self.subject.reserve(more)?;
         self.points.begin(Goal::Match(pattern), 0)?;
         self.lent = Snapshot::of(patterns);
         self.pattern = pattern;
-        self.subject = subject;
+        put_in_place(&mut self.subject, subject);
         self.looks.clear();
         self.anchored = anchored;
         self.limit = limit;
@@ -349,6 +351,17 @@ impl<P: Points> Engine<P> {
         ensures { result.now ≡ self.now.subject }
     {
         &self.subject
+    }
+}
+
+/// These bytes take the place of those in a list that has room for them.
+fn put_in_place(list: &mut Vec<u8>, bytes: &[u8])
+    requires { length bytes.now ≤ vec_capacity list.old }
+    ensures { list.new.items ≡ bytes.now }
+{
+    list.clear();
+    if let Err(_refused) = list.extend_from_slice(bytes) {
+        unreachable!();
     }
 }
 

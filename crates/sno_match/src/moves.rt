@@ -1,17 +1,18 @@
 //! One move of the search: what is due at the newest resumption point is done.
-ghost use Rattle.std.specs.Prelude.{◌≡◌, ◌≤◌, ◌+◌, ◌-◌, ◌*◌, [], ◌∷◌, length, IfOk, OnOk, OnErr};
+ghost use Rattle.std.specs.Prelude.{◌≡◌, ◌<◌, ◌≤◌, ◌+◌, ◌-◌, ◌*◌, [], ◌∷◌, length, IfOk, IfSome, OnOk, OnErr};
 ghost use Rattle.sno_pattern.specs.Looks.{AreTrue};
 ghost use Rattle.sno_match.specs.Point.{HasFirst, replaced, branched, below};
-ghost use Rattle.sno_match.specs.inner.Remaining.{IsStack, HasPoint};
+ghost use Rattle.sno_match.specs.inner.Remaining.{IsKnown, IsStack, HasPoint};
 ghost use Rattle.sno_match.specs.inner.Plan.{goals_in};
 ghost use Rattle.sno_match.specs.inner.State.{after_move, owed};
 ghost use Rattle.sno_match.specs.inner.Scopes.{HasCuts};
-ghost use Rattle.sno_match.specs.inner.Move.{Makes, CarriesOut, Costs, answered};
+ghost use Rattle.sno_match.specs.inner.Move.{Makes, CarriesOut, Costs, EnteredFails, answered};
 
 use crate::event::{Event, Pending};
-use crate::goal::{Goal, Top};
+use crate::goal::{Goal, Mark, Top};
 use crate::plan::{Front, Plan, plan_of};
 use crate::points::Points;
+use crate::starts::{MOST_DEPTH, steps_in_vain};
 use sno_pattern::{Looks, Patterns};
 use sno_value::PatId;
 use std::alloc::AllocError;
@@ -66,12 +67,56 @@ pub(crate) fn make_move<P: Points>(
             if *steps == limit {
                 return Ok(Some(Event::Limit));
             }
+            let alone = is_branch(plan) && points.depth() == 1;
+            let left = limit - *steps;
+            if let Some(vain) = lone_choice_in_vain(
+                alone, patterns, subject, goal, cursor, mark, left,
+            ) {
+                points.pop();
+                *steps += vain;
+                return Ok(None);
+            }
             let left = limit - *steps - 1;
             let told = carry_out(points, plan, cursor, left)?;
             *steps += 1;
             Ok(told)
         }
     }
+}
+
+/// How many steps a choice takes in vain that is entered at the only point, where each of its sides fails at once. Where
+/// there are more points it isn't asked, since the choices within a choice would be asked again and again.
+#[inline(always)]
+fn lone_choice_in_vain(
+    alone: bool,
+    patterns: &Patterns,
+    subject: &[u8],
+    goal: Goal,
+    cursor: usize,
+    mark: Mark,
+    left: u32,
+) -> Option<u32>
+    requires known { IsKnown patterns.now goal }
+    requires inside { cursor ≤ length subject.now }
+    ensures fails { IfSome result (λ steps. EnteredFails patterns.now subject.now goal mark steps cursor) }
+    ensures near { IfSome result (λ steps. steps < left) }
+{
+    if !alone {
+        return None;
+    }
+    let Goal::Match(id) = goal else {
+        return None;
+    };
+    let Mark::Enter = mark else {
+        return None;
+    };
+    let steps = steps_in_vain(patterns, id, subject, cursor, left, MOST_DEPTH)?;
+    Some(steps)
+}
+
+#[inline(always)]
+fn is_branch(plan: Plan) -> bool {
+    matches!(plan, Plan::Branch(_, _, _))
 }
 
 /// Carries out a plan that costs a step, behind which `left` are left, and gives the event that it tells.

@@ -109,6 +109,16 @@ impl Points for SharedGoals {
             return Ok(());
         };
         let behind = behind_first(&self.records, point.goals);
+        if front.is_empty() {
+            self.top = Some(Held {
+                goals: behind,
+                cursor,
+                mark: Mark::Enter,
+                floor: point.floor,
+                assigned: point.assigned,
+            });
+            return Ok(());
+        }
         let keep = larger(behind, point.floor);
         let goals = put_front(&mut self.records, keep, behind, front)?;
         self.top = Some(Held {

@@ -23,7 +23,7 @@ same_place p q from until place same first = record {
   found = λ high. sym (same place) ∙ first.found high;
 }
 
-true_or_false : true ≡ false → ⊥
+pub true_or_false : true ≡ false → ⊥
 true_or_false e = absurd (cc)
 
 pub below_or_not : (c place : ℕ) → (c < place) ⊎ (place ≤ c)
@@ -32,7 +32,7 @@ below_or_not zero (suc place) = inl (omega arith)
 below_or_not (suc c) zero = inr (omega arith)
 below_or_not (suc c) (suc place) = ⊎_elim (λ h. inl (omega (arith, h))) (λ h. inr (omega (arith, h))) (below_or_not c place)
 
-end_if-some : (b : Bool) (e : ℕ) → is_some (slice_get (end_if b e) 0) ≡ b
+pub end_if-some : (b : Bool) (e : ℕ) → is_some (slice_get (end_if b e) 0) ≡ b
 end_if-some true e = refl
 end_if-some false e = refl
 
@@ -113,7 +113,7 @@ module _ (byte : ℕ) (rest : List ℕ) where
   text_begins : (s : List ℕ) (c : ℕ) → byte_passes (λ b. b == byte) s c ≡ false → leaf_has_end (Text (byte ∷ rest)) s c ≡ false
   text_begins s c h = end_if-some (starts_with nat_eq (drop c s) (byte ∷ rest)) (c + length (byte ∷ rest)) ∙ starts s c c h
 
-first_byte : (text s : List ℕ) (c : ℕ) → (length text == 0) ≡ false → byte_passes (λ b. b == slice_index text 0) s c ≡ false
+pub first_byte : (text s : List ℕ) (c : ℕ) → (length text == 0) ≡ false → byte_passes (λ b. b == slice_index text 0) s c ≡ false
     → leaf_has_end (Text text) s c ≡ false
 first_byte [] s c some h = absurd (true_or_false (sym (eq-eqb 0 0 refl) ∙ some))
 first_byte (byte ∷ rest) s c some h = text_begins byte rest s c h
@@ -137,7 +137,7 @@ pub not_there : (text s : List ℕ) (c : ℕ) → starts_with nat_eq (take (leng
 not_there text s c h = end_if-some (starts_with nat_eq (drop c s) text) (c + length text) ∙ (rw (take_rest s c) at h)
 
 -- a run of bytes of a set begins where one of them stands
-span_begins : (set s : List ℕ) (c : ℕ) (low high : ℕ) → is_some (slice_get (end_after (is_in set) (slice_get s c) low) 0)
+pub span_begins : (set s : List ℕ) (c : ℕ) (low high : ℕ) → is_some (slice_get (end_after (is_in set) (slice_get s c) low) 0)
     ≡ is_some (slice_get (end_if (not (run_length set (drop c s) == 0)) high) 0)
 span_begins set [] zero low high = refl
 span_begins set [] (suc c) low high = refl

@@ -54,7 +54,7 @@ is_in-filter p c (suc n) b h k =
     later behind false e = e
 
 -- a number behind those that are counted is not among them
-behind-count : (p : ℕ → Bool) (c n b : ℕ) → c + n ≤ b → is_in (filter p (count_from c n)) b ≡ false
+pub behind-count : (p : ℕ → Bool) (c n b : ℕ) → c + n ≤ b → is_in (filter p (count_from c n)) b ≡ false
 behind-count p c zero b h = refl
 behind-count p c (suc n) b h = go (p c) (behind-count p (c + 1) n b (omega arith))
   where
@@ -100,7 +100,7 @@ empty-has_bit b h = rw (zero-word (b / 64), bit_at-zero (b % 64)) refl
 abbrev pub with_bit : List ℕ → ℕ → List ℕ
 with_bit words byte = slice_set words (byte / 64) (bit_or (slice_index words (byte / 64)) (1 * 2 ^ (byte % 64) % 18446744073709551616))
 
-has_bit-same : (words : List ℕ) (b : ℕ) → length words ≡ 4 → b < 256 → has_bit (with_bit words b) b ≡ true
+pub has_bit-same : (words : List ℕ) (b : ℕ) → length words ≡ 4 → b < 256 → has_bit (with_bit words b) b ≡ true
 has_bit-same words b four below =
     rw (get_or-set_same words (b / 64) (bit_or (slice_index words (b / 64)) (1 * 2 ^ (b % 64) % 18446744073709551616)) 0 (omega arith))
     (rw (bit_at_set_same w64 (slice_index words (b / 64)) (b % 64) (omega arith)) refl)
@@ -115,7 +115,7 @@ other_word : (words : List ℕ) (byte b : ℕ) → b / 64 ≢ byte / 64 → has_
 other_word words byte b apart =
     rw (get_or-set_other words (byte / 64) (b / 64) (bit_or (slice_index words (byte / 64)) (1 * 2 ^ (byte % 64) % 18446744073709551616)) 0 apart) refl
 
-has_bit-other : (words : List ℕ) (byte b : ℕ) → length words ≡ 4 → b < 256 → byte ≢ b → has_bit (with_bit words byte) b ≡ has_bit words b
+pub has_bit-other : (words : List ℕ) (byte b : ℕ) → length words ≡ 4 → b < 256 → byte ≢ b → has_bit (with_bit words byte) b ≡ has_bit words b
 has_bit-other words byte b four below apart =
     ⊎_elim (λ same. same_word words byte b (b / 64) (omega arith) (sym (eqb-true (b / 64) (byte / 64) same.0)) refl apart)
     (λ other. other_word words byte b other.1) (eqb_tells (b / 64) (byte / 64))

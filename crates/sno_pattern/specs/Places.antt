@@ -1,7 +1,8 @@
 -- The next place at which a pattern has an end.
-use Rattle.std.specs.Prelude.{ℕ, ◌≡◌, ◌<◌, ◌≤◌, Bool, true, false, List}
+use Rattle.std.specs.Prelude.{ℕ, ◌≡◌, ◌<◌, ◌≤◌, Bool, true, false, List, slice_get}
 use Rattle.std.specs.Option.{is_some}
-use Rattle.sno_pattern.specs.Pattern.{Pattern}
+use Rattle.sno_pattern.specs.Pattern.{Pattern, Any}
+use Rattle.sno_pattern.specs.Ends.{is_in, ends}
 use Rattle.sno_pattern.specs.Shape.{end_of}
 
 -- the first place from one up to another at which a test holds, or the other where it holds at none of them
@@ -14,3 +15,15 @@ pub record IsFirstPlace (test : ℕ → Bool) (from until place : ℕ) : Type 0 
 -- whether a primitive pattern has an end from a cursor
 abbrev pub has_end : Pattern → List ℕ → ℕ → Bool
 has_end pattern s c = is_some (end_of pattern s c 0)
+
+-- whether a byte of a set stands at a place
+abbrev pub stands_at : List ℕ → List ℕ → ℕ → Bool
+stands_at set s c = is_some (slice_get (ends (Any set) s c) 0)
+
+-- each byte of the one set is in the other
+pub record IsAmong (set other : List ℕ) : Type 0 where
+  pub among : (b : ℕ) → is_in other b ≡ false → is_in set b ≡ false
+
+-- a primitive pattern begins with a byte of the set: it has no end where none of them stands
+pub record BeginsAmong (pattern : Pattern) (set : List ℕ) : Type 0 where
+  pub fails : (s : List ℕ) (c : ℕ) → stands_at set s c ≡ false → has_end pattern s c ≡ false

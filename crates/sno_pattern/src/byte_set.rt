@@ -1,5 +1,5 @@
 //! Sets of bytes.
-ghost use Rattle.std.specs.Prelude.{◌≡◌, ℕ, Bool, not, position, IfSome};
+ghost use Rattle.std.specs.Prelude.{◌≡◌, ◌==◌, ℕ, Bool, false, not, ◌||◌, position, IfSome};
 ghost use Rattle.sno_pattern.specs.Ends.{is_in};
 ghost use Rattle.sno_pattern.specs.Sets.{set_of};
 ghost use Rattle.sno_pattern.specs.inner.Lanes.{passes};
@@ -15,7 +15,7 @@ pub(crate) const FEW: usize = 32;
 
 /// A set of bytes, as a mask of 256 bits. Contracts see its members in rising order.
 #[derive(Drop)]
-pub(crate) struct ByteSet {
+pub struct ByteSet {
     words: [u64; 4],
     /// The members where they are at most eight, filled up with one of them.
     eight: Option<[u8; 8]>,
@@ -44,6 +44,37 @@ impl ByteSet {
         }
         let eight = eight_of(bytes);
         ByteSet { words, eight }
+    }
+
+    /// No byte.
+    pub fn none() -> ByteSet
+        ensures { (b : ℕ) → is_in result b ≡ false }
+    {
+        ByteSet {
+            words: [0; 4],
+            eight: None,
+        }
+    }
+
+    /// The byte joins the set.
+    pub(crate) fn add(&mut self, byte: u8)
+        ensures { (b : ℕ) → is_in self.new b ≡ (is_in self.old b || (byte == b)) }
+    {
+        self.words[(byte / 64) as usize] |= 1 << (byte % 64);
+        self.eight = None;
+    }
+
+    /// The bytes of another set join this one.
+    pub(crate) fn add_all(&mut self, other: &ByteSet)
+        ensures { (b : ℕ) → is_in self.new b ≡ (is_in self.old b || is_in other.now b) }
+    {
+        self.words = [
+            self.words[0] | other.words[0],
+            self.words[1] | other.words[1],
+            self.words[2] | other.words[2],
+            self.words[3] | other.words[3],
+        ];
+        self.eight = None;
     }
 
     pub(crate) fn contains(&self, byte: u8) -> bool

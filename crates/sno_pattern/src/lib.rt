@@ -3,8 +3,8 @@
 //! `table` has the builders and the look-ups, and `kind` is what it stores of a node; `shape` shows the head of a
 //! pattern. `argument` is what a primitive takes: a count, a text or a set of bytes (`byte_set`). `ends` says where a
 //! primitive ends behind a cursor, by `counts`, `sets` and `balance` (with its `balance_table`), and `places` where
-//! the next end is. `looks` keeps what the looks through one subject have found out, and `lanes` looks at 32 bytes at
-//! a time.
+//! the next end is; `first_bytes` are the bytes with which it begins. `looks` keeps what the looks through one subject
+//! have found out, and `lanes` looks at 32 bytes at a time.
 #![tactic(auto)]
 
 mod argument;
@@ -13,6 +13,7 @@ mod balance_table;
 mod byte_set;
 mod counts;
 mod ends;
+mod first_bytes;
 mod kind;
 mod lanes;
 mod looks;
@@ -22,8 +23,10 @@ mod shape;
 mod table;
 
 pub use argument::Arg;
+pub use byte_set::ByteSet;
 pub use lanes::{first_in, first_not_in};
 pub use looks::Looks;
+pub use places::place_in_set;
 pub use shape::Shape;
 pub use sno_value::{ExprId, Name, PatId, Prim};
 pub use table::{BuildError, Patterns};

@@ -1,8 +1,8 @@
 //! The next place at which a primitive has an end.
 ghost use Rattle.std.specs.Prelude.{◌≡◌, ◌≤◌, ◌+◌, ◌==◌, ◌-◌, length, take, drop, position};
-ghost use Rattle.sno_pattern.specs.Pattern.{Text, Any, NotAny, Break};
+ghost use Rattle.sno_pattern.specs.Pattern.{Text, NotAny, Break};
 ghost use Rattle.sno_pattern.specs.inner.Kinds.{node_of};
-ghost use Rattle.sno_pattern.specs.Places.{IsFirstPlace};
+ghost use Rattle.sno_pattern.specs.Places.{IsFirstPlace, stands_at};
 ghost use Rattle.sno_pattern.specs.inner.Places.{leaf_has_end, node_has_end, byte_passes};
 
 use crate::byte_set::{ByteSet, FEW};
@@ -80,12 +80,12 @@ fn index_of(byte: u8, bytes: &[u8]) -> Option<usize>
     first_in(bytes, &[byte; 8])
 }
 
-/// The first place whose byte is in a set.
-fn place_in_set(set: &ByteSet, subject: &[u8], from: usize, until: usize) -> usize
+/// The first place, from `from` up to `until`, whose byte is in a set; `until` where there is none before that.
+pub fn place_in_set(set: &ByteSet, subject: &[u8], from: usize, until: usize) -> usize
     requires start { from ≤ length subject.now }
     requires range { from ≤ until }
     requires inside { until ≤ length subject.now + 1 }
-    ensures { IsFirstPlace (leaf_has_end (Any set.now) subject.now) from until result }
+    ensures { IsFirstPlace (stands_at set.now subject.now) from until result }
 {
     match set.first_in(bytes_between(subject, from, until)) {
         Some(before) => from + before,

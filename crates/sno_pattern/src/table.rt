@@ -1,6 +1,6 @@
 //! The table of patterns: its builders and look-ups.
 ghost use Rattle.std.specs.Prelude.{◌≡◌, ℕ, ◌+◌, ◌<◌, ◌≤◌, ◌↔◌, ◌⊎◌, [], ◌∷◌, ◌++◌, length, Some, None, IfOk, IfErr};
-ghost use Rattle.std.specs.Prelude.{IfSome, OnOk, OnErr, IsErrOf, IsTrue, Contains};
+ghost use Rattle.std.specs.Prelude.{IfSome, OnOk, OnErr, IsErrOf, IsTrue, Contains, false};
 ghost use Rattle.sno_pattern.specs.Pattern.{Text, Arb, Bal, Rem, Fail, Leaf, Fence, Cut, Abort, Succeed, Arbno, Alt};
 ghost use Rattle.sno_pattern.specs.Pattern.{Cat, Cond, Imm, Place, Defer};
 ghost use Rattle.sno_pattern.specs.Shape.{HasShape, IsPrimitive, end_of};
@@ -12,7 +12,7 @@ ghost use Rattle.sno_pattern.specs.Arguments.{IsArgOf, IsNullSet, IsBadCount, Is
 ghost use Rattle.sno_pattern.specs.Built.{Appends, Builds};
 ghost use Rattle.sno_pattern.specs.Quiet.{IsQuiet};
 ghost use Rattle.sno_pattern.specs.NextEnd.{ends_of, next_end};
-ghost use Rattle.sno_pattern.specs.Places.{IsFirstPlace, has_end};
+ghost use Rattle.sno_pattern.specs.Places.{IsFirstPlace, has_end, IsAmong, BeginsAmong};
 ghost use Rattle.sno_pattern.specs.Looks.{AreTrue};
 ghost use Rattle.sno_pattern.specs.inner.Looks.{IsBal, StopsOften};
 ghost use Rattle.sno_pattern.specs.inner.Kinds.{nodes_of, node_of, IsTable};
@@ -20,6 +20,7 @@ ghost use Rattle.sno_pattern.specs.inner.Kinds.{nodes_of, node_of, IsTable};
 use crate::argument::{Arg, among, counted};
 use crate::byte_set::ByteSet;
 use crate::ends::{end_behind_of_kind, end_of_kind};
+use crate::first_bytes::{add_first_bytes_of_kind, kind_fails_at};
 use crate::kind::{Entry, Kind, is_quiet_over, shape_of_kind};
 use crate::looks::{Looks, Run, is_far, last_with_end, slot_behind, slot_of_first};
 use crate::places::first_place_of_kind;
@@ -309,6 +310,26 @@ impl Patterns {
         ensures { IsFirstPlace (has_end (tree self.now id.0) subject.now) from until result }
     {
         first_place_of_kind(&self.entries[id.0 as usize].kind, subject, from, until)
+    }
+
+    /// Adds the bytes with which a primitive begins to a set: the first one of a text, and those of ANY and SPAN. It is
+    /// false for any other pattern, and for the null text.
+    pub fn add_first_bytes(&self, id: PatId, set: &mut ByteSet) -> bool
+        requires { id.0 < length self.now }
+        ensures grows { IsAmong set.old set.new }
+        ensures known { IsTrue result → BeginsAmong (tree self.now id.0) set.new }
+    {
+        add_first_bytes_of_kind(&self.entries[id.0 as usize].kind, set)
+    }
+
+    /// Whether a primitive whose first bytes are known has no end from a cursor. It looks at no more bytes than a text
+    /// has, and is false for any other pattern.
+    pub fn fails_at(&self, id: PatId, subject: &[u8], at: usize) -> bool
+        requires id { id.0 < length self.now }
+        requires at { at ≤ length subject.now }
+        ensures { IsTrue result → has_end (tree self.now id.0) subject.now at ≡ false }
+    {
+        kind_fails_at(&self.entries[id.0 as usize].kind, subject, at)
     }
 
     /// The first end of a primitive, as `end_at` gives it, by what was found out before where that says it. What is

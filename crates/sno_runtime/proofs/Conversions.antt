@@ -1,5 +1,5 @@
 -- What is asked of a value, and patterns that become values.
-use Rattle.std.proofs.Common.{Vec, Global, ◌≡◌, ℕ, ℤ, pos, true, false, List, refl, ap, ◌∙◌, Option, None, Some, Result, Ok, Err}
+use Rattle.std.proofs.Common.{◌≡◌, ℕ, ℤ, pos, true, false, List, refl, ap, ◌∙◌, Option, None, Some, Result, Ok, Err}
 use Rattle.sno_value.specs.declared.ids.PatId.{PatId}
 use Rattle.sno_value.specs.declared.value.Value.{Value as Stored}
 use Rattle.sno_value.specs.declared.value.Value.TheVariants as stored
@@ -195,6 +195,6 @@ target_joined join x target a b c body r h p m =
 
 -- a text that is there is no error 1
 pub text_refused : (act : Action Value) (v : Stored) (s : Runtime) (e : Exit) → has_text v ≡ true
-    → IsThere {X = Vec ℕ Global} (λ t. t.items) (text_of (shown s.nodes v)) (Err e) → Does {X = Stored} shown IsValueOf act s s (Err e)
+    → IsThere {X = List ℕ} (λ t. t) (text_of (shown s.nodes v)) (Err e) → Does {X = Stored} shown IsValueOf act s s (Err e)
 text_refused act v s e h there =
-    missing {X = Vec ℕ Global} (λ t. t.items) (text_of (shown s.nodes v)) act s e (λ none. absurd (text_there s.nodes v h none)) there
+    missing {X = List ℕ} (λ t. t) (text_of (shown s.nodes v)) act s e (λ none. absurd (text_there s.nodes v h none)) there

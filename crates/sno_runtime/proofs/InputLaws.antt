@@ -1,6 +1,6 @@
 -- A line of input that becomes a value.
 use Rattle.std.proofs.Common.{Vec, Global, ◌≡◌, ℕ, zero, suc, ◌+◌, ℤ, pos, negsuc, ◌==◌, ◌<◌, ◌≤◌, nat_lt, Bool, true, false, if◌then◌else◌, List, [], ◌∷◌}
-use Rattle.std.proofs.Common.{◌++◌, length, take, refl, ap, sym, ◌∙◌, subst, arith, append_assoc, Option, None, Some, Result, Ok, Err, OnOk, IsErrOf}
+use Rattle.std.proofs.Common.{◌⊎◌, inl, inr, ◌++◌, length, take, refl, ap, sym, ◌∙◌, subst, arith, append_assoc, Option, None, Some, Result, Ok, Err, OnOk, IsErrOf}
 use Rattle.std.specs.List.{list_all, range_with_len}
 use Rattle.std.proofs.lemmas.Bool.{le-ltb, lt-ltb}
 use Rattle.sno_value.specs.Strings.{trimmed}
@@ -10,6 +10,8 @@ use Rattle.sno_io.specs.Lines.{Input, next_line, first_line, GivesLine, ReadsLin
 use Rattle.sno_io.specs.declared.lines.LineError.{LineError}
 use Rattle.sno_io.specs.declared.lines.LineError.TheVariants as too
 use Rattle.sno_runtime.specs.declared.stops.Exit.{Exit}
+use Rattle.sno_runtime.specs.declared.stops.Exit.TheVariants.{Halt}
+use Rattle.sno_runtime.specs.declared.stops.Stop.TheVariants.{NoMemory}
 use Rattle.sno_runtime.specs.World.{World}
 use Rattle.sno_runtime.specs.Values.{Value, shown, IsValueOf}
 use Rattle.sno_runtime.specs.Action.{Action}
@@ -109,6 +111,30 @@ line_reads a reading f g outcome line going sound same fault = record {
   ready = line_ready (record a { reading = reading }) g a.keywords.trim outcome going sound same;
   cause = line_cause g a.keywords.trim outcome fault;
 }
+
+-- the value of a line may be refused memory
+
+reads_no_memory : (act : Action Value) (a b : Runtime) (f g : Feed) (r : Result Stored Exit) → Reads shown IsValueOf act a b f g r
+    → Reads shown IsValueOf act a b f g (Err (Halt NoMemory))
+reads_no_memory act a b f g r did = record {
+  given = did.given;
+  consumed = did.consumed;
+  ended = did.ended;
+  grows = did.grows;
+  meets = λ more none. tt;
+  answer = tt;
+  kept = did.kept;
+  calls = did.calls;
+  tells = did.tells;
+  ready = tt;
+  cause = tt;
+}
+
+pub reads_made : (act : Action Value) (a b : Runtime) (f g : Feed) (r made : Result Stored Exit) → (r ≡ Err (Halt NoMemory)) ⊎ (r ≡ made)
+    → Reads shown IsValueOf act a b f g made → Reads shown IsValueOf act a b f g r
+reads_made act a b f g r made (inl refused) did = subst (λ (r : Result Stored Exit). Reads shown IsValueOf act a b f g r) (sym refused)
+    (reads_no_memory act a b f g made did)
+reads_made act a b f g r made (inr same) did = subst (λ (r : Result Stored Exit). Reads shown IsValueOf act a b f g r) (sym same) did
 
 -- what a variable gives
 

@@ -11,7 +11,7 @@ use crate::convert::{as_pattern, has_text, is_patternable, number, text_of};
 use crate::errors::DATA_TYPE;
 use crate::runtime::Runtime;
 use crate::stops::{Exit, error};
-use sno_value::{Text, Value};
+use sno_value::Value;
 use std::alloc::Global;
 
 /// ARRAY(P,V): an array with the prototype P, each of whose elements is V.
@@ -22,7 +22,7 @@ pub fn array(runtime: &mut Runtime, prototype: Value, value: &Value) -> Result<V
         runtime.old runtime.new result }
 {
     let text = text_of(runtime.alloc(), prototype)?;
-    let id = runtime.new_array(&text, value)?;
+    let id = runtime.new_array(text.as_slice(), value)?;
     Ok(Value::Array(id))
 }
 
@@ -51,7 +51,7 @@ pub fn convert(runtime: &mut Runtime, value: Value, kind: Value) -> Result<Value
         runtime.old runtime.new result }
 {
     let text = text_of(runtime.alloc(), kind)?;
-    match conversion_named(&text) {
+    match conversion_named(text.as_slice()) {
         Some(conversion) => converted(runtime, conversion, value),
         None => Err(error(DATA_TYPE)),
     }
@@ -79,7 +79,7 @@ fn to_string(alloc: Global, value: Value) -> Result<Value, Exit>
         return Err(Exit::Failure);
     }
     let text = text_of(alloc, value)?;
-    Ok(Value::Str(Text::new(text)))
+    Ok(Value::Str(text))
 }
 
 fn to_integer(value: &Value) -> Result<Value, Exit>

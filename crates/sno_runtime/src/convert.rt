@@ -38,14 +38,15 @@ pub fn number_of(value: &Value) -> Result<i64, Exit>
 }
 
 /// The text of a string, or of an integer in decimal; else error 1.
-pub fn text_of(alloc: Global, value: Value) -> Result<Vec<u8>, Exit>
-    ensures text { (nodes : List Node) → IsThere (λ t. t.items) (text_of (shown nodes value)) result }
-    ensures short { (nodes : List Node) → IsValueOf nodes value → IfOk result (λ t. length t.items ≤ 1_000_000) }
+pub fn text_of(alloc: Global, value: Value) -> Result<Text, Exit>
+    ensures text { (nodes : List Node) → IsThere (λ t. t) (text_of (shown nodes value)) result }
+    ensures short { (nodes : List Node) → IsValueOf nodes value → IfOk result (λ t. length t ≤ 1_000_000) }
 {
     match value {
-        Value::Str(text) => Ok(text.into_vec()),
+        Value::Str(text) => Ok(text),
         Value::Int(number) => {
-            let text = int_text(alloc, number)?;
+            let digits = int_text(alloc, number)?;
+            let text = Text::new(alloc, digits)?;
             Ok(text)
         }
         _ => Err(error(DATA_TYPE)),
@@ -62,19 +63,12 @@ pub fn has_text(value: &Value) -> bool
     }
 }
 
-/// The null string.
-pub fn null(alloc: Global) -> Value
-    ensures { result ≡ Value.Str [] }
-{
-    Value::Str(Text::new(Vec::new(alloc)))
-}
-
 /// The null string where the condition holds, else failure.
-pub fn null_where(alloc: Global, holds: bool) -> Result<Value, Exit>
+pub fn null_where(holds: bool) -> Result<Value, Exit>
     ensures { (s : Runtime) → Does shown IsValueOf (null_where holds) s s result }
 {
     if holds {
-        Ok(null(alloc))
+        Ok(Value::null())
     } else {
         Err(Exit::Failure)
     }

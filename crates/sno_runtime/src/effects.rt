@@ -35,8 +35,8 @@ pub fn take_effect<W: Sink>(
 {
     match event {
         Event::Assign { target, start, end } => {
-            let part = subject[start..end].to_vec(runtime.alloc())?;
-            assign(runtime, target, Value::Str(Text::new(part)), writer)
+            let part = Text::from_slice(runtime.alloc(), &subject[start..end])?;
+            assign(runtime, target, Value::Str(part), writer)
         }
         Event::Cursor { target, at } => assign(runtime, target, Value::Int(at as i64), writer),
         _ => Ok(()),

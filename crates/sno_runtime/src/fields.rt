@@ -8,7 +8,6 @@ ghost use Rattle.sno_runtime.specs.Values.{shown, IsValueOf};
 ghost use Rattle.sno_runtime.specs.Runtime.{itself};
 ghost use Rattle.sno_runtime.specs.inner.Runtime.{Does, any};
 
-use crate::convert::null;
 use crate::errors::{DATA_TYPE, NO_VARIABLE};
 use crate::runtime::Runtime;
 use crate::stops::{Exit, error};
@@ -53,7 +52,7 @@ pub fn ask_field(runtime: &Runtime, function: &[u8]) -> Result<Value, Exit>
     if !is_field_named(runtime, function) {
         return Err(error(NO_VARIABLE));
     }
-    Ok(null(runtime.alloc()))
+    Ok(Value::null())
 }
 
 fn is_field_named(runtime: &Runtime, function: &[u8]) -> bool

@@ -15,7 +15,7 @@ ghost use Rattle.sno_runtime.specs.inner.Runtime.{Does};
 
 use crate::builtins::{Builtin, Plain};
 use crate::containers::{array, convert, prototype, table};
-use crate::convert::{as_pattern, null, number_of, text_of};
+use crate::convert::{as_pattern, number_of, text_of};
 use crate::errors::UNDEFINED_FUNCTION;
 use crate::numbers::{comparison, remainder};
 use crate::runtime::Runtime;
@@ -23,7 +23,7 @@ use crate::stops::{Exit, error};
 use crate::texts::{copies, is_after, replaced, size, trimmed};
 use crate::types::{datatype, define_type, differ, ident, integer};
 use sno_pattern::Arg;
-use sno_value::{PatId, Prim, Text, Value};
+use sno_value::{PatId, Prim, Value};
 use std::alloc::Global;
 
 /// What a function gives of its operands. Missing operands are null, and further ones are dropped.
@@ -39,50 +39,50 @@ pub fn called(
     match function {
         None => Err(error(UNDEFINED_FUNCTION)),
         Some(Builtin::Primitive(prim)) => {
-            let operand = argument(runtime.alloc(), operands, 0);
+            let operand = argument(operands, 0);
             primitive_value(runtime, prim, operand)
         }
         Some(Builtin::Arbno) => {
-            let operand = argument(runtime.alloc(), operands, 0);
+            let operand = argument(operands, 0);
             repetition(runtime, operand)
         }
         Some(Builtin::Cut) => {
-            let operand = argument(runtime.alloc(), operands, 0);
+            let operand = argument(operands, 0);
             cut(runtime, operand)
         }
         Some(Builtin::Convert) => {
-            let x = argument(runtime.alloc(), operands, 0);
-            let t = argument(runtime.alloc(), operands, 1);
+            let x = argument(operands, 0);
+            let t = argument(operands, 1);
             convert(runtime, x, t)
         }
         Some(Builtin::MakeArray) => {
-            let p = argument(runtime.alloc(), operands, 0);
-            let v = argument(runtime.alloc(), operands, 1);
+            let p = argument(operands, 0);
+            let v = argument(operands, 1);
             array(runtime, p, &v)
         }
         Some(Builtin::MakeTable) => table(runtime),
         Some(Builtin::Prototype) => {
-            let a = argument(runtime.alloc(), operands, 0);
+            let a = argument(operands, 0);
             prototype(runtime, &a)
         }
         Some(Builtin::Define) => {
-            let p = argument(runtime.alloc(), operands, 0);
-            let e = argument(runtime.alloc(), operands, 1);
+            let p = argument(operands, 0);
+            let e = argument(operands, 1);
             define(runtime, p, e)
         }
         Some(Builtin::Data) => {
-            let p = argument(runtime.alloc(), operands, 0);
+            let p = argument(operands, 0);
             define_type(runtime, p)
         }
         Some(Builtin::Datatype) => {
-            let x = argument(runtime.alloc(), operands, 0);
+            let x = argument(operands, 0);
             datatype(runtime, &x)
         }
         Some(Builtin::Plain(function)) => {
             let alloc = runtime.alloc();
-            let x = argument(alloc, operands, 0);
-            let y = argument(alloc, operands, 1);
-            let z = argument(alloc, operands, 2);
+            let x = argument(operands, 0);
+            let y = argument(operands, 1);
+            let z = argument(operands, 2);
             plain(alloc, function, x, y, z)
         }
     }
@@ -94,12 +94,12 @@ fn plain(alloc: Global, function: Plain, x: Value, y: Value, z: Value) -> Result
         → Does shown IsValueOf (plain function (shown s.nodes x) (shown s.nodes y) (shown s.nodes z)) s s result }
 {
     match function {
-        Plain::Compare(relation) => comparison(alloc, relation, &x, &y),
+        Plain::Compare(relation) => comparison(relation, &x, &y),
         Plain::Remdr => remainder(&x, &y),
-        Plain::Ident => ident(alloc, &x, &y),
-        Plain::Differ => differ(alloc, &x, &y),
+        Plain::Ident => ident(&x, &y),
+        Plain::Differ => differ(&x, &y),
         Plain::Lgt => is_after(alloc, x, y),
-        Plain::Integer => integer(alloc, &x),
+        Plain::Integer => integer(&x),
         Plain::Size => size(alloc, x),
         Plain::Trim => trimmed(alloc, x),
         Plain::Dupl => copies(alloc, x, &y),
@@ -108,7 +108,7 @@ fn plain(alloc: Global, function: Plain, x: Value, y: Value, z: Value) -> Result
 }
 
 /// The operand with a number, which is taken out; null where there is none.
-pub fn argument(alloc: Global, operands: &mut [Value], k: usize) -> Value
+pub fn argument(operands: &mut [Value], k: usize) -> Value
     ensures value { (nodes : List Node) → shown nodes result ≡ argument (map (shown nodes) operands.old) k }
     ensures rest { operands.new ≡ slice_set operands.old k (Value.Int (pos 0)) }
     ensures known { (nodes : List Node) → AllByRecursion (IsValueOf nodes) operands.old → IsValueOf nodes result }
@@ -116,7 +116,7 @@ pub fn argument(alloc: Global, operands: &mut [Value], k: usize) -> Value
     if k < operands.len() {
         std::mem::replace(&mut operands[k], Value::Int(0))
     } else {
-        Value::Str(Text::new(Vec::new(alloc)))
+        Value::null()
     }
 }
 
@@ -175,7 +175,7 @@ fn set_primitive(runtime: &mut Runtime, prim: Prim, operand: Value) -> Result<Pa
         runtime.old runtime.new result }
 {
     let set = text_of(runtime.alloc(), operand)?;
-    let id = runtime.prim(prim, Arg::Set(&set))?;
+    let id = runtime.prim(prim, Arg::Set(set.as_slice()))?;
     Ok(id)
 }
 
@@ -187,8 +187,8 @@ fn define(runtime: &mut Runtime, prototype: Value, entry: Value) -> Result<Value
 {
     let prototype = text_of(runtime.alloc(), prototype)?;
     let entry = text_of(runtime.alloc(), entry)?;
-    runtime.define(&prototype, &entry)?;
-    Ok(null(runtime.alloc()))
+    runtime.define(prototype.as_slice(), entry.as_slice())?;
+    Ok(Value::null())
 }
 
 /// ARBNO(P).

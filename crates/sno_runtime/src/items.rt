@@ -9,7 +9,7 @@ ghost use Rattle.sno_runtime.specs.inner.Converted.{IsThere};
 ghost use Rattle.sno_runtime.specs.Runtime.{itself};
 ghost use Rattle.sno_runtime.specs.inner.Runtime.{Does, any};
 
-use crate::convert::{null, number_of};
+use crate::convert::number_of;
 use crate::errors::{BAD_PROTOTYPE, DATA_TYPE};
 use crate::runtime::Runtime;
 use crate::stops::{Exit, Stop, error};
@@ -125,6 +125,6 @@ fn entry_read(runtime: &Runtime, table: ObjId, key: &Value) -> Result<Value, Exi
 {
     match runtime.find(table, key)? {
         Some(name) => runtime.stored(name),
-        None => Ok(null(runtime.alloc())),
+        None => Ok(Value::null()),
     }
 }

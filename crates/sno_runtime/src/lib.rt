@@ -29,7 +29,7 @@ mod types;
 mod unary_operators;
 
 pub use builtins::{Builtin, Plain, Relation, function_named};
-pub use convert::{as_pattern, null, number_of, text_of};
+pub use convert::{as_pattern, number_of, text_of};
 pub use effects::{assign, take_effect};
 pub use errors::{
     CALL_LEVEL, DATA_TYPE, FAILURE_IN_GOTO, MATCH_LIMIT, NO_KEYWORD, NO_VARIABLE, NULL_STRING,

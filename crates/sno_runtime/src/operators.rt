@@ -148,13 +148,13 @@ fn joined_texts(alloc: Global, x: Value, y: Value) -> Result<Value, Exit>
         → Does shown IsValueOf (joined (text_of (shown s.nodes x)) (text_of (shown s.nodes y)) (shown s.nodes x)
         (shown s.nodes y)) s s result }
 {
-    let mut first = text_of(alloc, x)?;
+    let first = text_of(alloc, x)?;
     let second = text_of(alloc, y)?;
-    if first.len() + second.len() > MOST_BYTES {
+    if first.as_slice().len() + second.as_slice().len() > MOST_BYTES {
         return Err(error(TOO_LONG));
     }
-    first.extend_from_slice(&second)?;
-    Ok(Value::Str(Text::new(first)))
+    let text = Text::joined(alloc, first.as_slice(), second.as_slice())?;
+    Ok(Value::Str(text))
 }
 
 /// A pattern of two. Both types are judged before a node is made.

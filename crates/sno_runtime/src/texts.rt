@@ -16,7 +16,7 @@ pub fn is_after(alloc: Global, x: Value, y: Value) -> Result<Value, Exit>
 {
     let first = text_of(alloc, x)?;
     let second = text_of(alloc, y)?;
-    null_where(alloc, lgt(&first, &second))
+    null_where(lgt(first.as_slice(), second.as_slice()))
 }
 
 /// SIZE: how many bytes the text has.
@@ -24,7 +24,7 @@ pub fn size(alloc: Global, x: Value) -> Result<Value, Exit>
     ensures { (s : Runtime) → Does shown IsValueOf (size (shown s.nodes x)) s s result }
 {
     let text = text_of(alloc, x)?;
-    Ok(Value::Int(text.len() as i64))
+    Ok(Value::Int(text.as_slice().len() as i64))
 }
 
 /// TRIM: the text without its trailing spaces.
@@ -32,8 +32,8 @@ pub fn trimmed(alloc: Global, x: Value) -> Result<Value, Exit>
     ensures { (s : Runtime) → IsValueOf s.nodes x → Does shown IsValueOf (trim (shown s.nodes x)) s s result }
 {
     let text = text_of(alloc, x)?;
-    let kept = trim(&text).to_vec(alloc)?;
-    Ok(Value::Str(Text::new(kept)))
+    let kept = text.part(alloc, 0, trim(text.as_slice()).len())?;
+    Ok(Value::Str(kept))
 }
 
 /// DUPL: copies of the text, one after another. A negative count fails, and more than 1,000,000 bytes are error 8.
@@ -42,8 +42,11 @@ pub fn copies(alloc: Global, x: Value, y: &Value) -> Result<Value, Exit>
 {
     let text = text_of(alloc, x)?;
     let count = number_of(y)?;
-    match dupl(alloc, &text, count) {
-        Ok(Some(copied)) => Ok(Value::Str(Text::new(copied))),
+    match dupl(alloc, text.as_slice(), count) {
+        Ok(Some(copied)) => {
+            let copied = Text::new(alloc, copied)?;
+            Ok(Value::Str(copied))
+        }
         Ok(None) => Err(Exit::Failure),
         Err(TextError::TooLong) => Err(error(TOO_LONG)),
         Err(TextError::NoMemory) => Err(Exit::Halt(Stop::NoMemory)),
@@ -59,8 +62,11 @@ pub fn replaced(alloc: Global, x: Value, y: Value, z: Value) -> Result<Value, Ex
     let text = text_of(alloc, x)?;
     let from = text_of(alloc, y)?;
     let to = text_of(alloc, z)?;
-    match replace(alloc, &text, &from, &to)? {
-        Some(bytes) => Ok(Value::Str(Text::new(bytes))),
+    match replace(alloc, text.as_slice(), from.as_slice(), to.as_slice())? {
+        Some(bytes) => {
+            let text = Text::new(alloc, bytes)?;
+            Ok(Value::Str(text))
+        }
         None => Err(Exit::Failure),
     }
 }

@@ -7,29 +7,28 @@ ghost use Rattle.sno_runtime.specs.Types.{data_called, type_made, datatype};
 ghost use Rattle.sno_runtime.specs.Runtime.{Runtime};
 ghost use Rattle.sno_runtime.specs.inner.Runtime.{Does};
 
-use crate::convert::{null, null_where, number, text_of};
+use crate::convert::{null_where, number, text_of};
 use crate::errors::{DATA_TYPE, UNDEFINED_FUNCTION};
 use crate::runtime::Runtime;
 use crate::stops::{Exit, error};
 use sno_value::{Text, Value};
-use std::alloc::Global;
 
 /// IDENT: null where both values are the same.
-pub fn ident(alloc: Global, x: &Value, y: &Value) -> Result<Value, Exit>
+pub fn ident(x: &Value, y: &Value) -> Result<Value, Exit>
     ensures { (s : Runtime) → Does shown IsValueOf (ident (shown s.nodes x.now) (shown s.nodes y.now)) s s result }
 {
     match same(x, y) {
-        Some(equal) => null_where(alloc, equal),
+        Some(equal) => null_where(equal),
         None => Err(error(DATA_TYPE)),
     }
 }
 
 /// DIFFER: null where the values aren't the same.
-pub fn differ(alloc: Global, x: &Value, y: &Value) -> Result<Value, Exit>
+pub fn differ(x: &Value, y: &Value) -> Result<Value, Exit>
     ensures { (s : Runtime) → Does shown IsValueOf (differ (shown s.nodes x.now) (shown s.nodes y.now)) s s result }
 {
     match same(x, y) {
-        Some(equal) => null_where(alloc, !equal),
+        Some(equal) => null_where(!equal),
         None => Err(error(DATA_TYPE)),
     }
 }
@@ -46,18 +45,18 @@ fn same(x: &Value, y: &Value) -> Option<bool>
 }
 
 /// INTEGER: null where the value is an integer, or a string that writes one.
-pub fn integer(alloc: Global, x: &Value) -> Result<Value, Exit>
+pub fn integer(x: &Value) -> Result<Value, Exit>
     ensures { (s : Runtime) → Does shown IsValueOf (integer (shown s.nodes x.now)) s s result }
 {
-    null_where(alloc, number(x).is_some())
+    null_where(number(x).is_some())
 }
 
 /// DATATYPE: the name of the value's type.
 pub fn datatype(runtime: &Runtime, x: &Value) -> Result<Value, Exit>
     ensures { Does shown IsValueOf (datatype (shown runtime.now.nodes x.now)) runtime.now runtime.now result }
 {
-    let name = runtime.type_name(x).to_vec(runtime.alloc())?;
-    Ok(Value::Str(Text::new(name)))
+    let name = Text::from_slice(runtime.alloc(), runtime.type_name(x))?;
+    Ok(Value::Str(name))
 }
 
 /// DATA(P), which is error 4 where DATA is no function.
@@ -77,6 +76,6 @@ fn type_made(runtime: &mut Runtime, prototype: Value) -> Result<Value, Exit>
     ensures { Does shown IsValueOf (type_made (shown runtime.old.nodes prototype)) runtime.old runtime.new result }
 {
     let prototype = text_of(runtime.alloc(), prototype)?;
-    runtime.define_data(&prototype)?;
-    Ok(null(runtime.alloc()))
+    runtime.define_data(prototype.as_slice())?;
+    Ok(Value::null())
 }

@@ -7,7 +7,7 @@ ghost use Rattle.sno_runtime.specs.Variables.{named_by};
 ghost use Rattle.sno_runtime.specs.Runtime.{Runtime, IsReady, itself};
 ghost use Rattle.sno_runtime.specs.inner.Runtime.{Does, Reads, any};
 
-use crate::convert::{null, number_of, text_of};
+use crate::convert::{number_of, text_of};
 use crate::errors::{DATA_TYPE, NO_VARIABLE};
 use crate::operators::computed;
 use crate::runtime::Runtime;
@@ -38,7 +38,7 @@ pub fn unary<R: Source>(
         }
         UnaryOperator::NameOf => name_of(runtime, &x),
         UnaryOperator::Cursor => cursor_pattern(runtime, &x),
-        UnaryOperator::Query => Ok(null(runtime.alloc())),
+        UnaryOperator::Query => Ok(Value::null()),
         UnaryOperator::Not => Err(Exit::Failure),
         UnaryOperator::Defer => Err(Exit::Failure),
     }
@@ -83,7 +83,7 @@ fn named_by(runtime: &mut Runtime, x: Value) -> Result<Name, Exit>
         return Ok(target);
     }
     let text = text_of(runtime.alloc(), x)?;
-    let target = runtime.variable(&text)?;
+    let target = runtime.variable(text.as_slice())?;
     Ok(target)
 }
 

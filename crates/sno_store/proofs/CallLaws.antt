@@ -1,22 +1,23 @@
 -- Calls: what is moved out of variables, what is seen of it, and what comes back.
-use Rattle.std.proofs.Common.{◌≡◌, ℕ, ◌<◌, ◌≤◌, eqb, Bool, true, false, ◌==◌, ◌⊎◌, inl, inr, Some, slice_get, List, [], ◌∷◌, ◌++◌, length, map, get_or, set}
+use Rattle.std.proofs.Common.{◌≡◌, ℕ, ◌+◌, ◌-◌, ◌<◌, ◌≤◌, eqb, Bool, true, false, ◌==◌, ◌⊎◌, inl, inr, Some, slice_get}
+use Rattle.std.proofs.Common.{List, [], ◌∷◌, ◌++◌, length, map, get_or, set}
+use Rattle.std.proofs.Common.{zero, suc, take, drop, None}
 use Rattle.std.proofs.Common.{refl, sym, ap, ◌∙◌, arith, if◌then◌else◌}
-use Rattle.std.specs.List.{list_any}
+use Rattle.std.specs.List.{list_any, sum}
 use Rattle.std.proofs.lemmas.Bool.{eqb-true, eqb-false, cases_lt, or_from, or_parts}
 use Rattle.std.proofs.lemmas.List.{length-set, get_or-set_same, get_or-set_other, get_or_past, set-set, set_comm, same_lists, map-append}
+use Rattle.std.proofs.lemmas.List.{length-append, length-drop, length-take-le, take_all, drop_all, drop_more, take-append-le, drop-append-le, take-append-drop}
+use Rattle.std.proofs.lemmas.List.{drop-set-lt, set_past, nil_from_length, same_from_push, append_assoc}
+use Rattle.std.proofs.lemmas.List.Sums.{sum_by-cons, sum_by_push}
 use Rattle.sno_value.specs.declared.ids.SymId.{SymId}
 use Rattle.sno_value.specs.declared.value.Value.{Value}
 use Rattle.sno_value.specs.declared.value.Value.TheVariants.{Str}
-use Rattle.sno_store.specs.Calls.{with_nulls, with_arguments, entered, restored}
+use Rattle.sno_store.specs.Calls.{with_nulls, with_arguments, entered, restored, function_value}
 use Rattle.sno_store.specs.Definitions.{Definition}
-use Rattle.sno_store.specs.inner.Seen.{moved, known, saved_seen}
+use Rattle.sno_store.specs.inner.Seen.{moved, known, numbered, saved_seen, calls_seen}
 
 abbrev pub numbers : List SymId → List ℕ
 numbers symbols = map (λ symbol. symbol.0) symbols
-
--- what was saved, as it is kept
-abbrev pub numbered : List (SymId × Value) → List (ℕ × Value)
-numbered ss = map (λ s. (s.0.0, s.1)) ss
 
 -- a variable is null, and what it had is known
 kept_value : {V : Type 0} (null : V) (values : List V) (s t : ℕ)
@@ -85,11 +86,53 @@ restored_begun [] s values w e = absurd (cc)
 restored_begun (t ∷ ts) s values w e =
     let same : s ≡ t = cc in ap (λ (x : SymId × Value). restored (numbered (t ∷ ts)) (set values x.0.0 w)) same ∙ restored_first t ts values w
 
+pub stands_at : {A : Type 0} (xs : List A) (k : ℕ) (x : A) → k < length xs → ((d : A) → x ≡ get_or xs k d) → Some x ≡ slice_get xs k
+stands_at [] k x within is = absurd (omega arith)
+stands_at (y ∷ ys) zero x within is = ap Some (is x)
+stands_at (y ∷ ys) (suc k) x within is = stands_at ys k x (omega arith) is
+
+head_behind : {A : Type 0} (xs : List A) (k : ℕ) → slice_get (drop k xs) 0 ≡ slice_get xs k
+head_behind [] zero = refl
+head_behind [] (suc k) = refl
+head_behind (x ∷ xs) zero = refl
+head_behind (x ∷ xs) (suc k) = head_behind xs k
+
+no_head : {A : Type 0} (xs : List A) → slice_get xs 0 ≡ None → xs ≡ []
+no_head [] none = refl
+no_head (x ∷ xs) none = absurd (cc)
+
+first_value : (saved : List (SymId × Value)) (s : SymId × Value) (values : List Value) → Some s ≡ slice_get saved 0 →
+    get_or values s.0.0 (Str []) ≡ function_value (Str []) (saved_seen saved) values
+first_value [] s values e = absurd (cc)
+first_value (t ∷ ts) s values e = let same : s ≡ t = cc in ap (λ (x : SymId × Value). get_or values x.0.0 (Str [])) same
+
+-- the value of the function of a call, whose values stand behind the first k
+pub begun_value : (ss : List (SymId × Value)) (k : ℕ) (s : SymId × Value) (values : List Value) → Some s ≡ slice_get ss k →
+    get_or values s.0.0 (Str []) ≡ function_value (Str []) (saved_seen (drop k ss)) values
+begun_value ss k s values e = first_value (drop k ss) s values (e ∙ sym (head_behind ss k))
+
+pub begun_values : (ss : List (SymId × Value)) (k : ℕ) (s : SymId × Value) (values : List Value) (w : Value) → Some s ≡ slice_get ss k →
+    restored (numbered (drop k ss)) (set values s.0.0 w) ≡ restored (saved_seen (drop k ss)) values
+begun_values ss k s values w e = restored_begun (drop k ss) s values w (e ∙ sym (head_behind ss k))
+
+pub not_begun : (ss : List (SymId × Value)) (k : ℕ) → slice_get ss k ≡ None → drop k ss ≡ []
+not_begun ss k none = no_head (drop k ss) (head_behind ss k ∙ none)
+
 -- the last value comes back first
 pub restored_last : (ss : List (SymId × Value)) (s : SymId × Value) (values : List Value) → restored (numbered (ss ++ s ∷ [])) values
     ≡ restored (numbered ss) (set values s.0.0 s.1)
 restored_last [] s values = refl
 restored_last (t ∷ ss) s values = ap (λ r. set r t.0.0 t.1) (restored_last ss s values)
+
+-- the last of the values behind the first k comes back
+pub restored_more : (before after : List (SymId × Value)) (s : SymId × Value) (k : ℕ) (values : List Value) → before ≡ after ++ s ∷ [] → k ≤ length after →
+    restored (numbered (drop k after)) (set values s.0.0 s.1) ≡ restored (numbered (drop k before)) values
+restored_more before after s k values is within =
+    sym (restored_last (drop k after) s values) ∙ ap (λ ss. restored (numbered ss) values) (sym (drop-append-le k after (s ∷ []) within))
+    ∙ ap (λ ss. restored (numbered (drop k ss)) values) (sym is)
+
+pub kept_more : {A : Type 0} (before after : List A) (x : A) (k : ℕ) → before ≡ after ++ x ∷ [] → k ≤ length after → take k after ≡ take k before
+kept_more before after x k is within = sym (take-append-le k after (x ∷ []) within) ∙ ap (take k) (sym is)
 
 -- two lists of values that differ at most where these are
 pub record Alike {V : Type 0} (fs : List ℕ) (xs ys : List V) : Type 0 where
@@ -157,19 +200,95 @@ given null fs ls arguments xs =
     arguments_alike null fs arguments (with_nulls null ls (with_nulls null fs xs)) (with_nulls null ls xs)
     (nulls_alike null fs ls (with_nulls null fs xs) xs (record { lengths = length-with_nulls null fs xs; others = untouched null fs xs }))
 
--- the values that a call saves, one list of symbols after another
-pub saved_all : (function : SymId) (formals locals : List SymId) (values : List Value) (a b c : List (SymId × Value)) (one two : List Value) →
-    a ≡ moved (function ∷ []) values → one ≡ with_nulls (Str []) (numbers (function ∷ [])) values →
+length-moved : (symbols : List SymId) (values : List Value) → length (moved symbols values) ≡ length symbols
+length-moved [] values = refl
+length-moved (symbol ∷ symbols) values = ap (λ n. suc n) (length-moved symbols (set values symbol.0 (Str [])))
+
+-- what a call saves behind what others have saved, one list of symbols after another
+saved_behind : (before : List (SymId × Value)) (function : SymId) (formals locals : List SymId) (values : List Value) (a b c : List (SymId × Value))
+    (one two : List Value) →
+    a ≡ before ++ moved (function ∷ []) values → one ≡ with_nulls (Str []) (numbers (function ∷ [])) values →
     b ≡ a ++ moved formals one → two ≡ with_nulls (Str []) (numbers formals) one →
     c ≡ b ++ moved locals two →
-    saved_seen c ≡ map (λ t. (t, get_or values t (Str []))) (function.0 ∷ (numbers formals ++ numbers locals))
-saved_all function formals locals values a b c one two ea e1 eb e2 ec =
-    let first : a ++ moved formals one ≡ moved (function ∷ formals) values =
-    (λ i. ea i ++ moved formals (e1 i)) in
-    let both : b ++ moved locals two ≡ moved ((function ∷ formals) ++ locals) values =
-    (λ i. (eb ∙ first) i ++ moved locals ((e2 ∙ ap (with_nulls (Str []) (numbers formals)) e1) i)) ∙ sym (moved-append (function ∷ formals) locals values) in
-    ap saved_seen (ec ∙ both) ∙ seen_moved ((function ∷ formals) ++ locals) values
-    ∙ ap (λ ts. map (λ t. (t, get_or values t (Str []))) (function.0 ∷ ts)) (map-append (λ (id : SymId). id.0) formals locals)
+    c ≡ before ++ moved ((function ∷ formals) ++ locals) values
+saved_behind before function formals locals values a b c one two ea e1 eb e2 ec =
+    let first : b ≡ before ++ moved (function ∷ formals) values =
+    eb ∙ (λ i. ea i ++ moved formals (e1 i)) ∙ append_assoc before (moved (function ∷ []) values) (moved formals (set values function.0 (Str []))) in
+    ec ∙ (λ i. first i ++ moved locals ((e2 ∙ ap (with_nulls (Str []) (numbers formals)) e1) i))
+    ∙ append_assoc before (moved (function ∷ formals) values) (moved locals (with_nulls (Str []) (numbers (function ∷ formals)) values))
+    ∙ ap (λ ms. before ++ ms) (sym (moved-append (function ∷ formals) locals values))
+
+-- calls stand one behind the other
+calls_push : (counts : List ℕ) (ss ms : List (SymId × Value)) (n : ℕ) → sum counts ≡ length ss → n ≡ length ms →
+    calls_seen (counts ++ n ∷ []) (ss ++ ms) ≡ calls_seen counts ss ++ saved_seen ms ∷ []
+calls_push [] ss ms n e m =
+    let none : ss ≡ [] = nil_from_length ss (sym e) in
+    ap (λ xs. saved_seen (take n (xs ++ ms)) ∷ []) none ∙ ap (λ xs. saved_seen xs ∷ []) (take_all n ms (omega arith))
+calls_push (c ∷ cs) ss ms n e m =
+    let whole = sum_by-cons (λ x. x) c cs in
+    let within : c ≤ length ss = omega (arith, whole, e) in
+    let rest : sum cs ≡ length (drop c ss) = omega (arith, length-drop c ss, whole, e) in
+    (λ i. saved_seen (take-append-le c ss ms within i) ∷ calls_seen (cs ++ n ∷ []) (drop-append-le c ss ms within i))
+    ∙ ap (λ rs. saved_seen (take c ss) ∷ rs) (calls_push cs (drop c ss) ms n rest m)
+
+pub length-calls : (counts : List ℕ) (ss : List (SymId × Value)) → length (calls_seen counts ss) ≡ length counts
+length-calls [] ss = refl
+length-calls (c ∷ cs) ss = ap (λ n. suc n) (length-calls cs (drop c ss))
+
+-- a call has begun
+pub opened : (counts : List ℕ) (before : List (SymId × Value)) (function : SymId) (formals locals : List SymId) (values : List Value)
+    (a b c : List (SymId × Value)) (one two : List Value) (n : ℕ) →
+    sum counts ≡ length before → n ≡ 1 + length formals + length locals →
+    a ≡ before ++ moved (function ∷ []) values → one ≡ with_nulls (Str []) (numbers (function ∷ [])) values →
+    b ≡ a ++ moved formals one → two ≡ with_nulls (Str []) (numbers formals) one →
+    c ≡ b ++ moved locals two →
+    (calls_seen (counts ++ n ∷ []) c ≡ calls_seen counts before
+    ++ map (λ t. (t, get_or values t (Str []))) (function.0 ∷ (numbers formals ++ numbers locals)) ∷ [])
+    × (sum (counts ++ n ∷ []) ≡ length c)
+opened counts before function formals locals values a b c one two n e m ea e1 eb e2 ec =
+    let symbols = (function ∷ formals) ++ locals in
+    let behind = saved_behind before function formals locals values a b c one two ea e1 eb e2 ec in
+    let long : n ≡ length (moved symbols values) = omega (arith, length-moved symbols values, length-append (function ∷ formals) locals, m) in (
+      ap (calls_seen (counts ++ n ∷ [])) behind ∙ calls_push counts before (moved symbols values) n e long
+          ∙ ap (λ call. calls_seen counts before ++ call ∷ []) (seen_moved symbols values
+          ∙ ap (λ ts. map (λ t. (t, get_or values t (Str []))) (function.0 ∷ ts)) (map-append (λ (id : SymId). id.0) formals locals)),
+      omega (arith, sum_by_push (λ x. x) counts n, ap length behind, length-append before (moved symbols values), long, e),
+    )
+
+-- the innermost call, and those around it
+pub record Innermost (counts : List ℕ) (n : ℕ) (ss : List (SymId × Value)) : Type 0 where
+  pub within : n ≤ length ss
+  pub calls : calls_seen (counts ++ n ∷ []) ss ≡ calls_seen counts (take (length ss - n) ss) ++ saved_seen (drop (length ss - n) ss) ∷ []
+  pub rest : sum counts ≡ length (take (length ss - n) ss)
+
+pub innermost : (counts : List ℕ) (n : ℕ) (ss : List (SymId × Value)) → sum (counts ++ n ∷ []) ≡ length ss → Innermost counts n ss
+innermost counts n ss e =
+    let held = length ss - n in
+    let whole = sum_by_push (λ x. x) counts n in
+    let rest : sum counts ≡ length (take held ss) = omega (arith, whole, e, length-take-le held ss (omega arith)) in
+    let last : n ≡ length (drop held ss) = omega (arith, whole, e, length-drop held ss) in
+    record {
+      within = omega (arith, whole, e);
+      calls = ap (calls_seen (counts ++ n ∷ [])) (sym (take-append-drop held ss)) ∙ calls_push counts (take held ss) (drop held ss) n rest last;
+      rest = rest;
+    }
+
+-- an argument is taken out of its place, and given to the next formal
+pub given_next : (f : ℕ) (fs : List ℕ) (arguments values : List Value) (i : ℕ) →
+    with_arguments (Str []) fs (drop (i + 1) (set arguments i (Str []))) (set values f (get_or arguments i (Str [])))
+    ≡ with_arguments (Str []) (f ∷ fs) (drop i arguments) values
+given_next f fs arguments values i = by (cases_lt i (length arguments))
+  where
+    by : (i < length arguments) ⊎ (length arguments ≤ i)
+        → with_arguments (Str []) fs (drop (i + 1) (set arguments i (Str []))) (set values f (get_or arguments i (Str [])))
+        ≡ with_arguments (Str []) (f ∷ fs) (drop i arguments) values
+    by (inl within) =
+        ap (λ rest. with_arguments (Str []) fs rest (set values f (get_or arguments i (Str [])))) (drop-set-lt (i + 1) arguments i (Str []) (omega arith))
+        ∙ ap (λ rest. with_arguments (Str []) (f ∷ fs) rest values) (sym (drop_more arguments i (Str []) within))
+    by (inr past) =
+        (λ k. with_arguments (Str []) fs (drop (i + 1) (set_past arguments i (Str []) past k)) (set values f (get_or_past arguments i (Str []) past k)))
+        ∙ ap (λ rest. with_arguments (Str []) fs rest (set values f (Str []))) (drop_all (i + 1) arguments (omega arith))
+        ∙ ap (λ rest. with_arguments (Str []) (f ∷ fs) rest values) (sym (drop_all i arguments past))
 
 length-with_arguments : {V : Type 0} (null : V) (fs : List ℕ) (arguments xs : List V) → length (with_arguments null fs arguments xs) ≡ length xs
 length-with_arguments null [] arguments xs = refl

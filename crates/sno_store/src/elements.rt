@@ -140,7 +140,7 @@ fn copies(alloc: Global, count: usize, value: &Value) -> Result<Vec<Value>, Allo
 {
     let mut values = Vec::with_capacity(alloc, count)?;
     'values: for _copied in 0..count {
-        values.push(value.copy(alloc)?)?;
+        values.push(value.copy()?)?;
     }
     Ok(values)
 }

@@ -9,7 +9,7 @@ ghost use Rattle.sno_store.specs.Tables.{entry_place, filled, rows};
 
 use crate::error::StoreError;
 use indexmap::IndexMap;
-use sno_value::{Text, Value};
+use sno_value::Value;
 use std::alloc::{AllocError, Global};
 use std::marker::Model;
 
@@ -107,8 +107,8 @@ impl Entries {
         let mut values = Vec::new(alloc);
         'entries: for (key, value) in self.map.iter() {
             if !is_null(value) {
-                values.push(key.copy(alloc)?)?;
-                values.push(value.copy(alloc)?)?;
+                values.push(key.copy()?)?;
+                values.push(value.copy()?)?;
             }
         }
         Ok(values)
@@ -124,7 +124,7 @@ fn put(map: &mut IndexMap<Value, Value>, place: usize, value: Value)
 }
 
 /// The entry with a key, which goes last with null where there is none.
-pub(crate) fn entry_in(alloc: Global, entries: &mut Entries, key: Value) -> Result<u32, StoreError>
+pub(crate) fn entry_in(entries: &mut Entries, key: Value) -> Result<u32, StoreError>
     requires { is_key key ≡ true }
     ensures { IsEntry key entries.old entries.new result }
 {
@@ -134,7 +134,7 @@ pub(crate) fn entry_in(alloc: Global, entries: &mut Entries, key: Value) -> Resu
     if entries.len() == MOST_ENTRIES {
         return Err(StoreError::Full);
     }
-    let place = entries.push(key, Value::Str(Text::new(Vec::new(alloc))))?;
+    let place = entries.push(key, Value::null())?;
     Ok(place)
 }
 

@@ -3,7 +3,6 @@ ghost use Rattle.std.specs.Prelude.{◌≡◌, [], option_copied, slice_get, sli
 ghost use Rattle.sno_value.specs.declared.value.Value.TheVariants.{Str};
 ghost use Rattle.sno_store.specs.Types.{field_values};
 
-use crate::values::null;
 use sno_value::Value;
 use std::alloc::{AllocError, Global};
 
@@ -47,7 +46,7 @@ pub(crate) fn field_values(
     'fields: for _field in 0..count {
         let value = match values.next() {
             Some(value) => value,
-            None => null(alloc),
+            None => Value::null(),
         };
         fields.push(value).unwrap();
     }

@@ -5,10 +5,10 @@
 //! has. `objects` finds an `object` by its number: an array (`elements`, made by a `prototype` of its `dimension`s), a
 //! table (`entries`) or an object of a type that the program makes (`instance`, of a `data_type`, made by a
 //! `type_prototype`). `functions` tells what a name is as a function, `definition` what such a function is (made by a
-//! `function_prototype`), and `call` begins and ends its calls.
+//! `function_prototype`), and `calls` begins and ends its calls.
 #![tactic(auto)]
 
-mod call;
+mod calls;
 mod data_type;
 mod definition;
 mod dimension;

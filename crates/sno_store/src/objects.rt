@@ -251,12 +251,11 @@ impl Objects {
         if place >= self.objects.len() {
             return Err(StoreError::WrongType);
         }
-        let alloc = self.alloc;
         let object = &mut self.objects[place];
         let Object::Table(entries) = object else {
             return Err(StoreError::WrongType)
         };
-        let entry = entry_in(alloc, entries, key)?;
+        let entry = entry_in(entries, key)?;
         Ok(Name::Entry(id, entry))
     }
 

@@ -19,7 +19,7 @@ ghost use Rattle.sno_store.specs.inner.Symbols.{IsDefinedByParts, IsTypedByParts
 ghost use Rattle.sno_store.specs.Tables.{new_table, find_entry, make_entry, table_to_array};
 ghost use Rattle.sno_store.specs.Types.{field_name, makes_type, new_data, object_type, type_name};
 
-use crate::call::Call;
+use crate::calls::Calls;
 use crate::data_type::DataType;
 use crate::definition::Definition;
 use crate::error::StoreError;
@@ -28,7 +28,6 @@ use crate::functions::Functions;
 use crate::objects::Objects;
 use crate::symbols::{MOST_SYMBOLS, Symbols};
 use crate::type_prototype::makes_type;
-use crate::values::null;
 use sno_pattern::{BuildError, Patterns};
 use sno_value::{Name, ObjId, PatId, SymId, Value};
 use std::alloc::{AllocError, Global};
@@ -55,8 +54,7 @@ pub struct Store {
     objects: Objects,
     types: Vec<DataType>,
     functions: Functions,
-    // the open calls, the innermost last
-    calls: Vec<Call>,
+    calls: Calls,
     // what is told of a name that the store doesn't know
     null: Value,
 }
@@ -75,11 +73,11 @@ impl Model for Store {
       objects = s.objects;
       types = s.types.items;
       functions = s.functions;
-      calls = s.calls.items;
+      calls = s.calls;
     } };
 
     ghost invariant = { λ s. (length s.values.items ≡ length s.symbols) × (s.null ≡ Str [])
-        × (length s.calls.items ≤ 200) × (length s.types.items ≤ 100_000) };
+        × (length s.calls ≤ 200) × (length s.types.items ≤ 100_000) };
 }
 
 impl Store {
@@ -99,8 +97,8 @@ impl Store {
             objects: Objects::new(alloc),
             types: Vec::new(alloc),
             functions: Functions::new(alloc),
-            calls: Vec::new(alloc),
-            null: null(alloc),
+            calls: Calls::new(alloc),
+            null: Value::null(),
         };
         store.begin_searches(patterns)?;
         store.begin_controls(patterns)?;
@@ -124,7 +122,7 @@ impl Store {
         if self.symbols.len() == MOST_SYMBOLS {
             return Err(StoreError::Full);
         }
-        let symbol = self.append(name, null(self.alloc))?;
+        let symbol = self.append(name, Value::null())?;
         Ok(symbol)
     }
 
@@ -383,21 +381,37 @@ impl Store {
         ensures { (d : Shown) → definition_at self.old.functions function.0 ≡ Some d
             → IsEntered function d arguments.items self.old self.new result }
     {
+        let mut arguments = arguments;
+        self.enter_with(function, &mut arguments)?;
+        Ok(())
+    }
+
+    /// The same as `enter`, but the list of the arguments stays the caller's: it is empty where the call is open, and
+    /// as it was where it is refused.
+    pub fn enter_with(
+        &mut self,
+        function: SymId,
+        arguments: &mut Vec<Value>,
+    ) -> Result<(), StoreError>
+        ensures entered { (d : Shown) → definition_at self.old.functions function.0 ≡ Some d
+            → IsEntered function d arguments.old.items self.old self.new result }
+        ensures taken { (d : Shown) → definition_at self.old.functions function.0 ≡ Some d
+            → OnOk result (arguments.new.items ≡ []) }
+        ensures kept { OnErr result (arguments.new.items ≡ arguments.old.items) }
+    {
         let Some(definition) = self.functions.definition(function) else {
-            return Ok(())
+            return Ok(());
         };
         if self.calls.len() == MOST_CALLS {
             return Err(StoreError::CallLevel);
         }
-        self.calls.reserve(1)?;
-        let call = Call::open(
+        self.calls.open(
             self.alloc,
             function,
             definition,
             arguments,
             &mut self.values,
         )?;
-        self.calls.push(call).unwrap();
         Ok(())
     }
 
@@ -408,10 +422,7 @@ impl Store {
             → (result ≡ function_value (Str []) call self.old.values)
             × (self.new ≡ record self.old { values = restored call self.old.values; calls = calls }) }
     {
-        match self.calls.pop() {
-            Some(call) => call.close(self.alloc, &mut self.values),
-            None => null(self.alloc),
-        }
+        self.calls.close(&mut self.values)
     }
 
     /// How many calls are open.
@@ -529,9 +540,8 @@ impl Store {
         requires { self.old ≡ with_controls }
         ensures { OnOk result (self.new ≡ new_store) }
     {
-        let alloc = self.alloc;
-        self.append(b"INPUT", null(alloc))?;
-        self.append(b"OUTPUT", null(alloc))?;
+        self.append(b"INPUT", Value::null())?;
+        self.append(b"OUTPUT", Value::null())?;
         Ok(())
     }
 

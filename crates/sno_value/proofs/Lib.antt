@@ -4,3 +4,4 @@ pub mod TrailingSpaces
 pub mod Copies
 pub mod Replacements
 pub mod Decimal
+pub mod Texts

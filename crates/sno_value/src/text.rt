@@ -1,22 +1,39 @@
 //! A string of bytes.
-ghost use Rattle.std.specs.Prelude.{◌≡◌, IfOk};
+ghost use Rattle.std.specs.Prelude.{◌≡◌, ◌+◌, ◌++◌, ◌≤◌, [], IfOk, length, slice_range};
 
 use std::alloc::{AllocError, Global};
 use std::hash::{Hash, Hasher};
 use std::marker::Model;
+use std::rc::Rc;
 
-/// A string of bytes, which contracts see as a list.
+/// The most bytes of a string that lies in its value: with their count they leave a value at 32 bytes.
+const MOST_HERE: usize = 22;
+
+/// A string of bytes, which contracts see as a list. A short one lies in the value itself and takes no memory; a longer
+/// one is a part of a block, which it shares with its copies and with other parts.
 #[derive(Debug, Drop)]
 pub struct Text {
-    bytes: Vec<u8>,
+    held: Held,
+}
+
+/// Where the bytes of a string are.
+#[derive(Debug, Drop)]
+pub(crate) enum Held {
+    /// Here, so many.
+    Here(u8, [u8; MOST_HERE]),
+    /// In a block, from one place up to another.
+    Shared(Rc<Vec<u8>>, u32, u32),
 }
 
 impl Model for Text {
     ghost use Rattle.std.specs.Prelude.{List, ℕ};
+    ghost use Rattle.sno_value.specs.inner.Text.{bytes_of, IsHeld};
 
     ghost Value = { List ℕ };
 
-    ghost view = { λ t. t.bytes.items };
+    ghost view = { λ t. bytes_of t.held };
+
+    ghost invariant = { λ t. IsHeld t.held };
 }
 
 impl PartialEq for Text {
@@ -54,32 +71,103 @@ impl Hash for Text {
 }
 
 impl Text {
-    /// The string of these bytes. It takes no memory.
-    pub fn new(bytes: Vec<u8>) -> Text
-        ensures { result ≡ bytes.items }
+    /// The null string. It takes no memory.
+    pub fn null() -> Text
+        ensures { result ≡ [] }
     {
-        Text { bytes }
+        Text {
+            held: Held::Here(0, [0; MOST_HERE]),
+        }
+    }
+
+    /// The string of these bytes. One of more than 4,294,967,295 bytes is want of memory.
+    pub fn new(alloc: Global, bytes: Vec<u8>) -> Result<Text, AllocError>
+        ensures { IfOk result (λ text. text ≡ bytes.items) }
+    {
+        if bytes.len() <= MOST_HERE {
+            return Ok(here(&bytes, &[]));
+        }
+        let Ok(end) = u32::try_from(bytes.len()) else {
+            return Err(AllocError);
+        };
+        let block = Rc::new(alloc, bytes)?;
+        Ok(Text {
+            held: Held::Shared(block, 0, end),
+        })
+    }
+
+    /// The string of these bytes, which are copied.
+    pub fn from_slice(alloc: Global, bytes: &[u8]) -> Result<Text, AllocError>
+        ensures { IfOk result (λ text. text ≡ bytes.now) }
+    {
+        Text::joined(alloc, bytes, &[])
+    }
+
+    /// The string of these bytes and then others.
+    pub fn joined(alloc: Global, first: &[u8], second: &[u8]) -> Result<Text, AllocError>
+        ensures { IfOk result (λ text. text ≡ first.now ++ second.now) }
+    {
+        let length = first.len().saturating_add(second.len());
+        if length <= MOST_HERE {
+            return Ok(here(first, second));
+        }
+        let mut bytes = Vec::with_capacity(alloc, length)?;
+        bytes.extend_from_slice(first)?;
+        bytes.extend_from_slice(second)?;
+        Text::new(alloc, bytes)
     }
 
     /// The bytes.
     pub fn as_slice(&self) -> &[u8]
         ensures { result.now ≡ self.now }
     {
-        self.bytes.as_slice()
+        match &self.held {
+            Held::Here(count, bytes) => &bytes[..*count as usize],
+            Held::Shared(block, start, end) => &block.as_slice()[*start as usize..*end as usize],
+        }
     }
 
-    /// The bytes, given back. It takes no memory.
-    pub fn into_vec(self) -> Vec<u8>
-        ensures { result.items ≡ self }
-    {
-        self.bytes
-    }
-
-    /// An equal string.
-    pub fn copy(&self, alloc: Global) -> Result<Text, AllocError>
+    /// An equal string. It takes no memory; it is refused where a block has as many owners as can be counted.
+    pub fn copy(&self) -> Result<Text, AllocError>
         ensures { IfOk result (λ text. text ≡ self.now) }
     {
-        let bytes = Vec::from_slice(alloc, self.as_slice())?;
-        Ok(Text { bytes })
+        let held = match &self.held {
+            Held::Here(count, bytes) => Held::Here(*count, *bytes),
+            Held::Shared(block, start, end) => Held::Shared(block.clone()?, *start, *end),
+        };
+        Ok(Text { held })
+    }
+
+    /// The bytes from `start` up to `end`. One of at least a quarter of its block shares it; what is shorter is copied,
+    /// so that no small string keeps a large block.
+    pub fn part(&self, alloc: Global, start: usize, end: usize) -> Result<Text, AllocError>
+        requires order { start ≤ end }
+        requires within { end ≤ length self.now }
+        ensures { IfOk result (λ text. text ≡ slice_range self.now start end) }
+    {
+        if let Held::Shared(block, first, _) = &self.held
+            && end - start > MOST_HERE
+            && end - start >= block.len() / 4
+        {
+            let first = *first as usize;
+            return Ok(Text {
+                held: Held::Shared(block.clone()?, (first + start) as u32, (first + end) as u32),
+            });
+        }
+        Text::from_slice(alloc, &self.as_slice()[start..end])
+    }
+}
+
+/// A short string of these bytes and then others.
+fn here(first: &[u8], second: &[u8]) -> Text
+    requires { length first.now + length second.now ≤ 22 }
+    ensures { result ≡ first.now ++ second.now }
+{
+    let length = first.len() + second.len();
+    let mut bytes = [0; MOST_HERE];
+    bytes[..first.len()].copy_from_slice(first);
+    bytes[first.len()..length].copy_from_slice(second);
+    Text {
+        held: Held::Here(length as u8, bytes),
     }
 }

@@ -1,9 +1,9 @@
 //! Values, and the names that can be assigned to.
-ghost use Rattle.std.specs.Prelude.{◌≡◌, ◌↔◌, ℕ, List, IsTrue, IfOk, OnErr};
+ghost use Rattle.std.specs.Prelude.{◌≡◌, [], ℕ, List, IfOk, OnErr};
 
 use crate::ids::{ExprId, ObjId, PatId, SymId};
 use crate::text::Text;
-use std::alloc::{AllocError, Global};
+use std::alloc::AllocError;
 
 /// What can be assigned to: a variable, an element of an array, an entry of a table, or a field of an object. Elements
 /// and entries are counted from 0, and so are fields, in the order in which the object's type names them.
@@ -30,13 +30,20 @@ pub enum Value {
 }
 
 impl Value {
-    /// An equal value. Only a string takes memory.
-    pub fn copy(&self, alloc: Global) -> Result<Value, AllocError>
+    /// The null string.
+    pub fn null() -> Value
+        ensures { result ≡ Value.Str [] }
+    {
+        Value::Str(Text::null())
+    }
+
+    /// An equal value. Only a string can be refused, where its bytes have as many owners as can be counted.
+    pub fn copy(&self) -> Result<Value, AllocError>
         ensures equal { IfOk result (λ value. value ≡ self.now) }
         ensures only_strings { OnErr result ((text : List ℕ) × (self.now ≡ Value.Str text)) }
     {
         Ok(match self {
-            Value::Str(text) => Value::Str(text.copy(alloc)?),
+            Value::Str(text) => Value::Str(text.copy()?),
             Value::Int(n) => Value::Int(*n),
             Value::Pat(pattern) => Value::Pat(*pattern),
             Value::Expr(expression) => Value::Expr(*expression),

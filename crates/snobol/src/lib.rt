@@ -35,6 +35,7 @@ mod quick;
 mod replacement;
 mod scope;
 mod statements;
+mod steps;
 mod targets;
 
 pub use enumeration::{WaysOutcome, ways};

@@ -1,4 +1,5 @@
 mod again;
+mod choices;
 mod drawing;
 mod driver;
 mod ends;

@@ -29,7 +29,7 @@ impl Row {
     /// The value.
     fn value(self, alloc: Global) -> Result<Value, AllocError> {
         Ok(match self {
-            Row::Str(text) => Value::Str(Text::new(Vec::from_slice(alloc, text.as_bytes())?)),
+            Row::Str(text) => Value::Str(Text::from_slice(alloc, text.as_bytes())?),
             Row::Int(number) => Value::Int(number),
             Row::Pattern(number) => Value::Pat(PatId(number)),
             Row::Expression(number) => Value::Expr(ExprId(number)),

@@ -1,8 +1,11 @@
 -- What a move of the matcher does to the searches still to come. These words are private to the matcher.
 use Rattle.std.specs.Prelude.{ℕ, ◌≡◌, ◌<◌, ◌≤◌, ◌+◌, ◌-◌, ◌*◌, List, [], ◌∷◌, Option, None, Some, length}
 use Rattle.sno_value.specs.declared.ids.PatId.{PatId}
-use Rattle.sno_pattern.specs.Table.{Node}
+use Rattle.sno_pattern.specs.Table.{Node, tree}
+use Rattle.sno_match.specs.declared.goal.Goal.{Goal}
 use Rattle.sno_match.specs.declared.goal.Goal.TheVariants.{Match, CloseCut}
+use Rattle.sno_match.specs.declared.goal.Mark.{Mark}
+use Rattle.sno_match.specs.declared.goal.Mark.TheVariants.{Enter}
 use Rattle.sno_match.specs.declared.event.Event.{Event as Told}
 use Rattle.sno_match.specs.declared.event.Event.TheVariants as V
 use Rattle.sno_match.specs.declared.event.Pending.{Pending}
@@ -16,6 +19,7 @@ use Rattle.sno_match.specs.Point.{Point, with_front, replaced, branched, closed,
 use Rattle.sno_match.specs.inner.State.{verdict_of, after_move, HasAsked}
 use Rattle.sno_match.specs.inner.Plan.{goals_in}
 use Rattle.sno_match.specs.inner.Remaining.{remaining, waiting}
+use Rattle.sno_match.specs.inner.Starts.{FailsAt}
 
 -- what a move adds to the events; a last event is a verdict, and stands behind them
 abbrev pub entries : Option Told → List Pending → ℕ → List (Event × ℕ)
@@ -51,6 +55,11 @@ pub record Makes (nodes : List Node) (s : List ℕ) (start limit : ℕ) (old : L
   pub pending : way ≡ way_after told way was
   pub leads : (answers : List Answer) → remaining nodes s start old answers (limit - steps0)
       ≡ emit (entries told way (limit - steps)) (standing (after_move told) nodes s start new answers (limit - steps))
+
+-- a pattern that is entered is searched in vain, in so many steps
+abbrev pub EnteredFails : List Node → List ℕ → Goal → Mark → ℕ → ℕ → Type 0
+EnteredFails nodes s (Match id) Enter price c = FailsAt (tree nodes id.0) s price c
+EnteredFails nodes s goal mark price c = ⊥
 
 -- the plan takes a step
 abbrev pub Costs : Plan → Type 0

@@ -1,6 +1,7 @@
 -- Starts that fail at once. These words are private to the matcher.
-use Rattle.std.specs.Prelude.{ℕ, ◌≡◌, ◌+◌, Bool, List, [], ◌∷◌, map}
+use Rattle.std.specs.Prelude.{ℕ, ◌≡◌, ◌+◌, Bool, false, List, [], ◌∷◌, map}
 use Rattle.sno_pattern.specs.Pattern.{Pattern}
+use Rattle.sno_pattern.specs.Places.{stands_at}
 use Rattle.sno_match.specs.declared.event.Pending.{Pending}
 use Rattle.sno_match.specs.Search.{Goal, Match, Exhausted, Answer, Search, Gives, further, search}
 use Rattle.sno_match.specs.inner.Running.{later_starts}
@@ -18,6 +19,10 @@ pub record FailsAt (p : Pattern) (s : List ℕ) (price c : ℕ) : Type 0 where
 -- where one is searched in vain from a cursor, so is the other, and that takes so many steps more
 pub record FailsWith (p first : Pattern) (more : ℕ) : Type 0 where
   pub vain : (s : List ℕ) (price c : ℕ) → FailsAt first s price c → FailsAt p s (price + more) c
+
+-- from each cursor at which none of these bytes stands the pattern is searched in vain, in so many steps
+pub record FailsOutside (p : Pattern) (set : List ℕ) (price : ℕ) : Type 0 where
+  pub outside : (s : List ℕ) (c : ℕ) → stands_at set s c ≡ false → FailsAt p s price c
 
 -- where the search from one start is exhausted, that from the
 -- other is exhausted so many steps later, and nothing is told

@@ -10,9 +10,8 @@ ghost use Rattle.sno_runtime.specs.inner.Calls.{definition_named, Enters, Leaves
 ghost use Rattle.sno_runtime.specs.Runtime.{itself};
 ghost use Rattle.sno_runtime.specs.inner.Runtime.{Does, any};
 
-use crate::convert::null;
 use crate::errors::UNDEFINED_FUNCTION;
-use crate::runtime::Runtime;
+use crate::runtime::{FOUND_ENTRIES, Runtime};
 use crate::stops::{Exit, error};
 use sno_store::Definition;
 use sno_value::{Name, SymId, Value};
@@ -39,6 +38,26 @@ impl Runtime {
         }
     }
 
+    /// The statement at which calls of a function began last, as far as that is kept; 0 where it isn't. It may be kept
+    /// for another function, or for what this one was before.
+    #[inline]
+    pub fn entry_kept(&self, function: SymId) -> u32 {
+        match self.entries.get(function.0 as usize % FOUND_ENTRIES) {
+            Some(number) => *number,
+            None => 0,
+        }
+    }
+
+    /// Keeps the statement at which calls of a function begin.
+    pub fn keep_entry(&mut self, function: SymId, number: u32)
+        ensures { self.new ≡ self.old }
+    {
+        let slot = function.0 as usize % FOUND_ENTRIES;
+        if slot < self.entries.len() {
+            self.entries[slot] = number;
+        }
+    }
+
     /// `&FNCLEVEL`: how many calls are open.
     pub fn level(&self) -> u32
         ensures { result ≡ length self.now.store.calls }
@@ -53,8 +72,9 @@ impl Runtime {
         self.keywords.statement()
     }
 
-    /// Begins a call of a function: the values of its variables are saved, and they are set for the call. A function
-    /// without a definition is error 4; beside 200 open calls it is error 10.
+    /// Begins a call of a function: the values of its variables are saved, and they are set for the call. The list of
+    /// the arguments is kept for the next evaluation. A function without a definition is error 4; beside 200 open calls
+    /// it is error 10.
     pub fn enter(&mut self, function: SymId, arguments: Vec<Value>) -> Result<(), Exit>
         requires { AllByRecursion (IsValueOf self.old.nodes) arguments.items }
         ensures { (d : Defined) → definition_at self.old.store.functions function.0 ≡ Some d
@@ -63,7 +83,9 @@ impl Runtime {
         if self.store.definition(function).is_none() {
             return Err(error(UNDEFINED_FUNCTION));
         }
-        self.store.enter(function, arguments)?;
+        let mut arguments = arguments;
+        self.store.enter_with(function, &mut arguments)?;
+        self.keep_values(arguments);
         Ok(())
     }
 
@@ -74,7 +96,7 @@ impl Runtime {
             ++ call ∷ [] → Leaves calls call statement self.old self.new result }
     {
         if self.store.level() == 0 {
-            return null(self.alloc);
+            return Value::null();
         }
         self.keywords.set_statement(statement);
         self.store.leave()

@@ -1,5 +1,5 @@
 //! Variables that are read: INPUT gives a line of the input.
-ghost use Rattle.std.specs.Prelude.{◌≡◌};
+ghost use Rattle.std.specs.Prelude.{◌≡◌, ◌⊎◌, Err};
 ghost use Rattle.sno_runtime.specs.Values.{shown, IsValueOf};
 ghost use Rattle.sno_runtime.specs.Runtime.{IsReady};
 ghost use Rattle.sno_runtime.specs.inner.Runtime.{value_of_line, Reads};
@@ -9,7 +9,8 @@ use crate::errors::TOO_LONG;
 use crate::runtime::{Runtime, is_input};
 use crate::stops::{Exit, Stop, error};
 use sno_io::{LineError, Source};
-use sno_value::{Name, Value, trim};
+use sno_value::{Name, Text, Value, trim};
+use std::alloc::Global;
 
 impl Runtime {
     /// The value of a variable. INPUT reads a line: it fails at the end of the input, and a line of more than 1,000,000
@@ -30,16 +31,23 @@ impl Runtime {
         ensures { Reads shown IsValueOf reads_line self.old self.new (R.feed reader.old) (R.feed reader.new) result }
     {
         let line = self.lines.next(reader);
-        value_of_line(self.keywords.trim(), line)
+        value_of_line(self.alloc, self.keywords.trim(), line)
     }
 }
 
 /// What the answer of the input is to a program.
-fn value_of_line(trims: i64, line: Result<Option<Vec<u8>>, LineError>) -> Result<Value, Exit>
-    ensures { result ≡ value_of_line trims line }
+fn value_of_line(
+    alloc: Global,
+    trims: i64,
+    line: Result<Option<Vec<u8>>, LineError>,
+) -> Result<Value, Exit>
+    ensures { (result ≡ Err (Exit.Halt Stop.NoMemory)) ⊎ (result ≡ value_of_line trims line) }
 {
     match line {
-        Ok(Some(line)) => Ok(Value::Str(sno_value::Text::new(line_kept(trims, line)))),
+        Ok(Some(line)) => {
+            let text = Text::new(alloc, line_kept(trims, line))?;
+            Ok(Value::Str(text))
+        }
         Ok(None) => Err(Exit::Failure),
         Err(LineError::TooLong) => Err(error(TOO_LONG)),
         Err(LineError::ReadFault) => Err(Exit::Halt(Stop::ReadFault)),

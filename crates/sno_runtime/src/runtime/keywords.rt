@@ -10,7 +10,7 @@ ghost use Rattle.sno_runtime.specs.declared.stops.Stop.{Stop};
 use crate::errors::{NO_KEYWORD, STATEMENT_LIMIT};
 use crate::runtime::Runtime;
 use crate::stops::{Exit, error};
-use sno_value::Value;
+use sno_value::{Text, Value};
 use std::alloc::{AllocError, Global};
 
 impl Runtime {
@@ -20,7 +20,8 @@ impl Runtime {
     {
         if name == b"ALPHABET".as_slice() {
             let bytes = alphabet(self.alloc)?;
-            return Ok(Value::Str(sno_value::Text::new(bytes)));
+            let text = Text::new(self.alloc, bytes)?;
+            return Ok(Value::Str(text));
         }
         match self.keywords.number(name, self.store.level()) {
             Some(number) => Ok(Value::Int(number)),

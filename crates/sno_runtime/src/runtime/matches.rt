@@ -17,14 +17,14 @@ const KEPT_BYTES: usize = 10_000;
 
 impl Runtime {
     /// A match of a pattern in a subject, as the keywords have it: a matcher that was kept begins again, where there is
-    /// one. The subject is the match's own from then on.
+    /// one. It copies the subject.
     pub fn begin_match(
         &mut self,
         pattern: PatId,
-        subject: Vec<u8>,
+        subject: &[u8],
     ) -> Result<Box<Matcher>, AllocError>
         requires { pattern.0 < length self.old.nodes }
-        ensures begun { IfOk result (λ matcher. matcher.value ≡ begins self.old.nodes pattern subject.items
+        ensures begun { IfOk result (λ matcher. matcher.value ≡ begins self.old.nodes pattern subject.now
             (is_anchored self.old.keywords.anchor) self.old.keywords.steps matcher.value.records) }
         ensures same { self.new ≡ self.old }
     {
@@ -40,14 +40,14 @@ impl Runtime {
     /// The same with a matcher of its own. It stands apart, so that a match that begins again needs no room for one.
     #[cold]
     #[inline(never)]
-    fn new_match(&self, pattern: PatId, subject: Vec<u8>) -> Result<Box<Matcher>, AllocError>
+    fn new_match(&self, pattern: PatId, subject: &[u8]) -> Result<Box<Matcher>, AllocError>
         requires { pattern.0 < length self.now.nodes }
-        ensures { IfOk result (λ matcher. matcher.value ≡ begins self.now.nodes pattern subject.items
+        ensures { IfOk result (λ matcher. matcher.value ≡ begins self.now.nodes pattern subject.now
             (is_anchored self.now.keywords.anchor) self.now.keywords.steps matcher.value.records) }
     {
         let anchored = self.anchored();
         let limit = self.steps();
-        let matcher = Matcher::over(
+        let matcher = Matcher::new(
             self.alloc,
             &self.patterns,
             pattern,

@@ -46,8 +46,8 @@ impl Runtime {
     pub fn prototype(&self, array: ObjId) -> Result<Value, Exit>
         ensures { Does shown IsValueOf (prototype (Array array.0)) self.now self.now result }
     {
-        let text = self.store.prototype(array)?.to_vec(self.alloc)?;
-        Ok(Value::Str(Text::new(text)))
+        let text = Text::from_slice(self.alloc, self.store.prototype(array)?)?;
+        Ok(Value::Str(text))
     }
 
     /// The entry of a table with this key, if there is one. It is error 1 where there is no such table, and where the

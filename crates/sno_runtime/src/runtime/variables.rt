@@ -12,7 +12,7 @@ use crate::errors::TOO_LONG;
 use crate::limits::MOST_BYTES;
 use crate::runtime::{FOUND_SYMBOLS, Runtime};
 use crate::stops::{Exit, error};
-use sno_value::{Name, SymId, Value};
+use sno_value::{Name, SymId, Text, Value};
 
 /// The number of INPUT among the symbols.
 const INPUT: u32 = 7;
@@ -35,6 +35,7 @@ impl Runtime {
 
     /// The same of a name that stands at this place of the program. It is found by its number where it was found there
     /// before, without looking for its text.
+    #[inline(always)]
     pub fn variable_at(&mut self, place: usize, name: &[u8]) -> Result<Name, Exit>
         ensures { Does itself any (variable_named name.now) self.old self.new result }
     {
@@ -42,6 +43,14 @@ impl Runtime {
         if let Some(id) = self.known(slot, name) {
             return Ok(Name::Var(id));
         }
+        self.variable_for(slot, name)
+    }
+
+    /// The same of a name that is looked for by its text, and kept for a slot.
+    #[inline(never)]
+    fn variable_for(&mut self, slot: usize, name: &[u8]) -> Result<Name, Exit>
+        ensures { Does itself any (variable_named name.now) self.old self.new result }
+    {
         let target = self.variable(name)?;
         if let Name::Var(id) = target {
             self.keep(slot, id);
@@ -106,8 +115,8 @@ impl Runtime {
     {
         match name {
             Name::Var(id) => {
-                let text = self.store.symbol_text(id).to_vec(self.alloc)?;
-                Ok(Value::Str(sno_value::Text::new(text)))
+                let text = Text::from_slice(self.alloc, self.store.symbol_text(id))?;
+                Ok(Value::Str(text))
             }
             other => Ok(Value::Name(other)),
         }
@@ -117,7 +126,7 @@ impl Runtime {
     pub fn stored(&self, name: Name) -> Result<Value, Exit>
         ensures { Does shown IsValueOf (holds name) self.now self.now result }
     {
-        let value = self.store.get(name).copy(self.alloc)?;
+        let value = self.store.get(name).copy()?;
         Ok(value)
     }
 

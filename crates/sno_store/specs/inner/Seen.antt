@@ -1,5 +1,6 @@
 -- What private calls say of objects, of calls and of prototypes. Private contracts alone cite it.
-use Rattle.std.specs.Prelude.{◌≡◌, ℕ, ◌+◌, max, ◌==◌, List, [], ◌∷◌, ◌++◌, length, map, slice_index_or, slice_set}
+use Rattle.std.specs.Prelude.{◌≡◌, ℕ, ◌+◌, max, ◌==◌, List, [], ◌∷◌, ◌++◌, length, map, take, drop}
+use Rattle.std.specs.Prelude.{slice_index_or, slice_set}
 use Rattle.std.specs.Prelude.{Option, None, Some, Result, Ok, Err, if◌then◌else◌}
 use Rattle.sno_value.specs.declared.ids.SymId.{SymId}
 use Rattle.sno_value.specs.declared.value.Value.{Value}
@@ -63,3 +64,12 @@ known symbol value ss = map (λ s. (s.0, if symbol == s.0 then value else s.1)) 
 abbrev pub saved_seen : List (SymId × Value) → List (ℕ × Value)
 saved_seen [] = []
 saved_seen (s ∷ ss) = (s.0.0, s.1) ∷ known s.0.0 s.1 (saved_seen ss)
+
+-- what was saved, as it is kept
+abbrev pub numbered : List (SymId × Value) → List (ℕ × Value)
+numbered ss = map (λ s. (s.0.0, s.1)) ss
+
+-- what each of the open calls has saved, by how many values each has saved
+abbrev pub calls_seen : List ℕ → List (SymId × Value) → List (List (ℕ × Value))
+calls_seen [] ss = []
+calls_seen (count ∷ counts) ss = saved_seen (take count ss) ∷ calls_seen counts (drop count ss)

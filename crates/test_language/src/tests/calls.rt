@@ -12,6 +12,9 @@ const CALLS: &str = r"
  DEFINE('F(A,A)') :(M)\nF F = A :(RETURN)\nM A = 'a'\n OUTPUT = F(1,2) A\nEND\n => 2a\n
  DEFINE('F(A)A') :(M)\nF F = '<' A '>' :(RETURN)\nM A = 'a'\n OUTPUT = F(1) A\nEND\n => <1>a\n
  DEFINE('F(A,B)') :(M)\nF F = '<' A '-' B '>' :(RETURN)\nM OUTPUT = F() F(1) F(1,2,3)\nEND\n => <-><1-><1-2>\n
+ DEFINE('F(A,B)') :(M)\nF F = '<' A '-' B '>' :(RETURN)\nM OUTPUT = 'x' F('y',F(1,F(2,3)) 'z') 'w'\nEND\n => x<y-<1-<2-3>>z>w\n
+ DEFINE('F(A)B,C')\n DEFINE('G()') :(M)\nF B = A\n F = G() A B :(RETURN)\nG A = 'x'\n G = '<' A B '>' :(RETURN)\nM A = 'a'\n B = 'b'\n OUTPUT = F(1) A B\nEND\n => <x1>x1ab\n
+ DEFINE('F(A)') :(M)\nF DEFINE('F(B)C')\n A = 'in'\n F = 'f' :(RETURN)\nM A = 'a'\n B = 'b'\n C = 'c'\n OUTPUT = F(1) A B C\nEND\n => fabc\n
  DEFINE('F(T)') :(M)\nF T<1> = 'x'\n G = 'kept' :(RETURN)\nM T = TABLE()\n F(T)\n OUTPUT = T<1> G\nEND\n => xkept\n
  DEFINE('F(N)') :(M)\nF F = LT(N,2) N :S(RETURN)\n F = F(N - 1) + F(N - 2) :(RETURN)\nM OUTPUT = F(10)\nEND\n => 55\n
  DEFINE('F()') :(M)\nF F = INPUT :S(RETURN)F(FRETURN)\nM OUTPUT = F() :S(M)\n OUTPUT = 'end'\nEND\n <- a\nb\n => a\nb\nend\n
@@ -28,6 +31,7 @@ fn calls(rt: HostRuntime) -> Result<(), Fail> {
 const DEFINITIONS: &str = r"
  DEFINE('SIZE(X)') :(M)\nSIZE SIZE = 'own' :(RETURN)\nM OUTPUT = SIZE('abc')\nEND\n => own\n
  DEFINE('F()','A')\n DEFINE('F()','B') :(M)\nA F = 1 :(RETURN)\nB F = 2 :(RETURN)\nM OUTPUT = F()\nEND\n => 2\n
+ DEFINE('F()','A') :(M)\nA F = 1 :(RETURN)\nB F = 2 :(RETURN)\nM OUTPUT = F() F()\n DEFINE('F()','B')\n OUTPUT = F() F()\nEND\n => 11\n22\n
  DEFINE('F()','A') :(M)\nA F = 1 :(RETURN)\nF F = 2 :(RETURN)\nM OUTPUT = F()\nEND\n => 1\n
  DEFINE('F()','') :(M)\nF F = 'null label' :(RETURN)\nM OUTPUT = F()\nEND\n => null label\n
  OUTPUT = F(DEFINE('F(X)')) :(END)\nF F = 'yes' :(RETURN)\nEND\n => yes\n

@@ -36,7 +36,7 @@ fn value_named(alloc: Global, word: &str) -> Value
         "0" => Value::Int(0),
         "1" => Value::Int(1),
         "*X" => Value::Expr(ExprId(0)),
-        _ => Value::Str(Text::new(Vec::new(alloc))),
+        _ => Value::null(),
     }
 }
 

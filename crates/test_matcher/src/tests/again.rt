@@ -44,7 +44,7 @@ fn told_behind<P: Points>(
     let s = search_of(after)?;
     let forms = forms_of(alloc, s.words)?;
     let (table, pattern) = table_of(alloc, &forms)?;
-    begin_search(alloc, &mut m, &table, pattern, s)?;
+    begin_search(&mut m, &table, pattern, s)?;
     let told = events_of(alloc, &mut m, &table, &answers, 100)?;
     let text = drawn_events(alloc, &told)?;
     Ok(text)
@@ -66,7 +66,6 @@ fn left_match<P: Points>(
 }
 
 fn begin_search<P: Points>(
-    alloc: Global,
     m: &mut Engine<P>,
     table: &Patterns,
     pattern: PatId,
@@ -76,8 +75,7 @@ fn begin_search<P: Points>(
     ensures table { OnOk result (m.new.nodes ≡ table.now) }
     ensures asked { OnOk result (m.new.waits ≡ false) }
 {
-    let subject = s.subject.to_vec(alloc)?;
-    begin_again(m, table, pattern, subject, s.anchored, s.limit)?;
+    begin_again(m, table, pattern, s.subject, s.anchored, s.limit)?;
     Ok(())
 }
 
@@ -121,13 +119,13 @@ fn compare<P: Points>(
         anchored: chance.below(2) == 0,
         limit: chance.below(90) as u32,
     };
-    begin_search(alloc, m, &table, pattern, s)?;
+    begin_search(m, &table, pattern, s)?;
     let told = events_of(alloc, m, &table, &answers, 100_000)?;
     let want = search_events(
         alloc, &forms, pattern, s.subject, s.anchored, s.limit, &answers,
     )?;
     check_same(rt, &told, &want);
-    begin_search(alloc, m, &table, pattern, s)?;
+    begin_search(m, &table, pattern, s)?;
     let _told = events_of(alloc, m, &table, &answers, chance.below(8))?;
     Ok(want.len())
 }

@@ -37,7 +37,7 @@ pub fn begin_again<P: Points>(
     m: &mut Engine<P>,
     table: &Patterns,
     pattern: PatId,
-    subject: Vec<u8>,
+    subject: &[u8],
     anchored: bool,
     limit: u32,
 ) -> Result<(), AllocError>

@@ -54,7 +54,7 @@ fn events_over<P: Points>(
 
 /// The events of the last form in the subject, with at most so many steps, which either stack tells.
 #[derive(Drop)]
-struct Matches;
+pub struct Matches;
 
 impl Question for Matches {
     fn answer(alloc: Global, text: &'static str) -> Result<String, Fail> {

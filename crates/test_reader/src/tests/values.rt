@@ -2,6 +2,8 @@
 ghost use Rattle.std.specs.Prelude.{◌≡◌, ◌↔◌, IsTrue};
 
 use sno_value::{ExprId, Name, ObjId, PatId, Prim, SymId, Text, Value};
+use std::alloc::{AllocError, Global};
+use std::mem::size_of;
 use std::test::Fail;
 
 // `==` tells just whether two values are equal.
@@ -13,8 +15,8 @@ fn is_equal(a: &Value, b: &Value) -> bool
 
 #[test]
 fn compares_values(rt: HostRuntime) -> Result<(), Fail> {
-    let one = Value::Str(Text::new(Vec::from_slice(rt.alloc(), b"1")?));
-    let null = Value::Str(Text::new(Vec::new(rt.alloc())));
+    let one = Value::Str(Text::from_slice(rt.alloc(), b"1")?);
+    let null = Value::null();
     let values = [
         one,
         null,
@@ -41,7 +43,7 @@ const NAMES: [Name; 3] = [
 #[test]
 fn copies_names(rt: HostRuntime) -> Result<(), Fail> {
     for name in &NAMES {
-        assert_eq!(rt; Value::Name(*name).copy(rt.alloc())?, Value::Name(*name));
+        assert_eq!(rt; Value::Name(*name).copy()?, Value::Name(*name));
     }
     Ok(())
 }
@@ -56,28 +58,87 @@ fn copies_numbers(rt: HostRuntime) -> Result<(), Fail> {
         Value::Table(ObjId(0)),
     ];
     for value in &values {
-        assert_eq!(rt; value.copy(rt.alloc())?, *value);
+        assert_eq!(rt; value.copy()?, *value);
     }
     Ok(())
 }
 
-const STRINGS: [&str; 3] = ["", "A", "two words"];
+/// Strings of 0, 1, 9, 21, 22, 23, 24 and 52 bytes: those of up to 22 lie in their value.
+const STRINGS: [&str; 8] = [
+    "",
+    "A",
+    "two words",
+    "abcdefghijklmnopqrstu",
+    "abcdefghijklmnopqrstuv",
+    "abcdefghijklmnopqrstuvw",
+    "abcdefghijklmnopqrstuvwx",
+    "abcdefghijklmnopqrstuvwxyzabcdefghijklmnopqrstuvwxyz",
+];
 
 #[test]
 fn copies_strings(rt: HostRuntime) -> Result<(), Fail> {
     for text in &STRINGS {
-        let string = Value::Str(Text::new(Vec::from_slice(rt.alloc(), text.as_bytes())?));
-        let Value::Str(copy) = string.copy(rt.alloc())? else {
+        let string = Value::Str(Text::from_slice(rt.alloc(), text.as_bytes())?);
+        let Value::Str(copy) = string.copy()? else {
             return Err(Fail::from("no string"));
         };
         assert!(rt; copy.as_slice() == text.as_bytes());
         assert!(rt; string == Value::Str(copy));
-        let Value::Str(text_again) = string else {
-            return Err(Fail::from("no string"));
-        };
-        assert!(rt; text_again.into_vec().as_slice() == text.as_bytes());
+        let bytes = Vec::from_slice(rt.alloc(), text.as_bytes())?;
+        assert!(rt; string == Value::Str(Text::new(rt.alloc(), bytes)?));
     }
     Ok(())
+}
+
+#[test]
+fn joins_strings(rt: HostRuntime) -> Result<(), Fail> {
+    for text in &STRINGS {
+        let bytes = text.as_bytes();
+        for at in 0..=bytes.len() {
+            let joined = Text::joined(rt.alloc(), &bytes[..at], &bytes[at..])?;
+            assert!(rt; joined.as_slice() == bytes, "{text} {at}");
+        }
+    }
+    Ok(())
+}
+
+#[test]
+fn takes_parts_of_strings(rt: HostRuntime) -> Result<(), Fail> {
+    for text in &STRINGS {
+        let bytes = text.as_bytes();
+        let whole = Text::from_slice(rt.alloc(), bytes)?;
+        for start in 0..=bytes.len() {
+            let rest = whole.part(rt.alloc(), start, bytes.len())?;
+            assert!(rt; rest.as_slice() == &bytes[start..], "{text} {start}");
+            let length = rest.as_slice().len();
+            let first = rest.part(rt.alloc(), 0, length / 2)?;
+            assert!(rt;
+                first.as_slice() == &rest.as_slice()[..length / 2],
+                "{text} {start}"
+            );
+        }
+    }
+    Ok(())
+}
+
+/// A part holds its bytes when the string that it was taken from is gone.
+#[test]
+fn keeps_parts_of_strings_that_are_gone(rt: HostRuntime) -> Result<(), Fail> {
+    let part = last_letters(rt.alloc())?;
+    assert!(rt; part.as_slice() == b"defghijklmnopqrstuvwxyz".as_slice());
+    Ok(())
+}
+
+fn last_letters(alloc: Global) -> Result<Text, AllocError> {
+    let letters = Text::from_slice(alloc, b"abcdefghijklmnopqrstuvwxyz")?;
+    let length = letters.as_slice().len();
+    letters.part(alloc, length.min(3), length)
+}
+
+/// A value takes four words, whatever it is.
+#[test]
+fn has_small_values(rt: HostRuntime) {
+    assert!(rt; size_of::<Value>() == 32);
 }
 
 const COUNTS: [Prim; 5] = [Prim::Len, Prim::Pos, Prim::Rpos, Prim::Tab, Prim::Rtab];

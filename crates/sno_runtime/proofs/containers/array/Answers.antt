@@ -1,4 +1,4 @@
-use Rattle.std.proofs.Common.{Vec, ℕ, Global}
+use Rattle.std.proofs.Common.{List, ℕ}
 use Rattle.std.proofs.lemmas.Result.{err_from_is_err_and}
 use Rattle.sno_runtime.proofs.Conversions.{missing}
 use Rattle.sno_runtime.proofs.FunctionLaws.{absent}
@@ -9,15 +9,15 @@ pub returns-in_err-text : goal.returns-in_err-text
 returns-in_err-text c =
     let p = err_from_is_err_and c.from_residual.result c.from_residual.ensures.1 in
     let runtime = c.args.runtime.now in
-    rw (p.1, p.2) (missing {X = Vec ℕ Global} (λ t. t.items) _ _ runtime _ (absent _ _) (c.in_err-text.ensures.text runtime.nodes))
+    rw (p.1, p.2) (missing {X = List ℕ} (λ t. t) _ _ runtime _ (absent _ _) (c.in_err-text.ensures.text runtime.nodes))
 
 pub new_array-requires-clause-prototype : goal.new_array-requires-clause-prototype
-new_array-requires-clause-prototype c = rw c.deref.ensures.value (c.in_ok-text.ensures.short c.args.runtime.now.nodes c.requires.prototype)
+new_array-requires-clause-prototype c = rw c.as_slice.ensures (c.in_ok-text.ensures.short c.args.runtime.now.nodes c.requires.prototype)
 
 pub returns-in_err-id : goal.returns-in_err-id
 returns-in_err-id c =
     let p = err_from_is_err_and c.from_residual-in_err-id.result c.from_residual-in_err-id.ensures.1 in
-    rw (p.1, p.2, c.in_ok-text.ensures.text c.args.runtime.now.nodes, ← c.deref.ensures.value) (array_refused _ _ _ _ c.in_err-id.ensures)
+    rw (p.1, p.2, c.in_ok-text.ensures.text c.args.runtime.now.nodes, ← c.as_slice.ensures) (array_refused _ _ _ _ c.in_err-id.ensures)
 
 pub returns : goal.returns
-returns c = rw (c.in_ok-text.ensures.text c.args.runtime.now.nodes, ← c.deref.ensures.value) (array_given _ _ _ _ c.in_ok-id.ensures)
+returns c = rw (c.in_ok-text.ensures.text c.args.runtime.now.nodes, ← c.as_slice.ensures) (array_given _ _ _ _ c.in_ok-id.ensures)

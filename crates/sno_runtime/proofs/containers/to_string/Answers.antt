@@ -13,6 +13,6 @@ returns-in_err-text c s k =
 
 pub returns : goal.returns
 returns c s k =
-    let bytes = c.in_ok-text.text.items in
-    rw (c.in_ok-text.ensures.text s.nodes, c.new.ensures)
+    let bytes = c.in_ok-text.text in
+    rw (c.in_ok-text.ensures.text s.nodes)
     (gives_does shown IsValueOf s (stored.Str bytes) (Str bytes) refl (c.in_ok-text.ensures.short s.nodes k))

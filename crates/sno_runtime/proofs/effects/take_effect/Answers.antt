@@ -8,7 +8,7 @@ use Rattle.sno_runtime.proofs.effects.take_effect.Goals as goal
 
 pub returns-in_ok-part-in-Assign-clause-does : goal.returns-in_ok-part-in-Assign-clause-does
 returns-in_ok-part-in-Assign-clause-does g c =
-    let is : c.new.result ≡ part_of c.args.subject.now c.in-Assign.start c.in-Assign.end = search rules in
+    let is : c.in_ok-part-in-Assign.part ≡ part_of c.args.subject.now c.in-Assign.start c.in-Assign.end = c.in_ok-part-in-Assign.ensures in
     rw (c.in-Assign.is, ← is) c.assign.ensures.does
 
 pub returns-in-Cursor-clause-does : goal.returns-in-Cursor-clause-does

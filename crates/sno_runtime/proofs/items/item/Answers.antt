@@ -3,7 +3,8 @@ use Rattle.std.proofs.lemmas.Result.{err_from_is_err_and}
 use Rattle.sno_runtime.specs.Values.{shown, IsValueOf}
 use Rattle.sno_runtime.proofs.Outcomes.{stops_does}
 use Rattle.sno_runtime.proofs.ItemLaws.{item_refused, item_there, no_item}
-use Rattle.sno_runtime.proofs.items.item.Goals.{in-Array+in_ok-name-in-Array, in-Table+in_ok-key-in-Table+in-Str-1, in-Table+in_ok-key-in-Table+in-Int-1}
+use Rattle.sno_runtime.proofs.items.item.Goals.{in-Array+in_ok-name-in-Array, in-Table+in_ok-key-in-Table+in-Str+in-Here-1}
+use Rattle.sno_runtime.proofs.items.item.Goals.{in-Table+in_ok-key-in-Table+in-Str+in-Shared-1, in-Table+in_ok-key-in-Table+in-Int-1}
 use Rattle.sno_runtime.proofs.items.item.Goals.{in_default}
 use Rattle.sno_runtime.proofs.items.item.Goals as goal
 
@@ -20,7 +21,8 @@ returns c =
     elim c.match-holder.branch [
       | in-Array+in_ok-name-in-Array w ↦ rw (w.result-is, w.in-Array.is)
           (item_there w.in-Array.array subscripts _ _ _ w.in_ok-name-in-Array.ensures w.stored.ensures)
-      | in-Table+in_ok-key-in-Table+in-Str-1 w ↦ rw (w.result-is, w.in-Table.is, w.in_ok-key-in-Table.ensures.one) w.entry_read.ensures
+      | in-Table+in_ok-key-in-Table+in-Str+in-Here-1 w ↦ rw (w.result-is, w.in-Table.is, w.in_ok-key-in-Table.ensures.one) w.entry_read.ensures
+      | in-Table+in_ok-key-in-Table+in-Str+in-Shared-1 w ↦ rw (w.result-is, w.in-Table.is, w.in_ok-key-in-Table.ensures.one) w.entry_read.ensures
       | in-Table+in_ok-key-in-Table+in-Int-1 w ↦ rw (w.result-is, w.in-Table.is, w.in_ok-key-in-Table.ensures.one) w.entry_read.ensures
       | in_default w ↦ rw (w.result-is, w.error.ensures, no_item nodes _ subscripts w.in_default.not-Array w.in_default.not-Table)
           (stops_does shown IsValueOf c.args.runtime.now 1)

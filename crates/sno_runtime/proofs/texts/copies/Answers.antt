@@ -1,4 +1,4 @@
-use Rattle.std.proofs.Common.{◌≡◌, Vec, ℕ, ℤ, Global, Some, Ok, refl, sym, rules}
+use Rattle.std.proofs.Common.{List, ◌≡◌, ℕ, ℤ, Some, Ok, refl, sym, rules}
 use Rattle.std.proofs.lemmas.Result.{err_from_is_err_and}
 use Rattle.sno_runtime.proofs.Conversions.{missing}
 use mir.Syntax.{w64}
@@ -13,7 +13,7 @@ use Rattle.sno_runtime.proofs.texts.copies.Goals as goal
 pub returns-in_err-text : goal.returns-in_err-text
 returns-in_err-text c s =
     let p = err_from_is_err_and c.from_residual.result c.from_residual.ensures.1 in
-    rw (p.1, p.2) (missing {X = Vec ℕ Global} (λ t. t.items) _ _ s _ (absent _ _) (c.in_err-text.ensures.text s.nodes))
+    rw (p.1, p.2) (missing {X = List ℕ} (λ t. t) _ _ s _ (absent _ _) (c.in_err-text.ensures.text s.nodes))
 
 pub returns-in_err-count : goal.returns-in_err-count
 returns-in_err-count c s =
@@ -23,6 +23,6 @@ returns-in_err-count c s =
 pub returns-in-Ok-Some : goal.returns-in-Ok-Some
 returns-in-Ok-Some c s =
     let fits : SFits w64 c.in_ok-count.count = search rules in
-    let made : Ok (Some c.in-Ok-Some.copied.items) ≡ duplicate c.in_ok-text.text.items c.in_ok-count.count = search rules in
-    rw (c.in_ok-text.ensures.text s.nodes, c.in_ok-count.ensures s.nodes, ← made, c.new.ensures)
+    let made : Ok (Some c.in-Ok-Some.copied.items) ≡ duplicate c.in_ok-text.text c.in_ok-count.count = search rules in
+    rw (c.in_ok-text.ensures.text s.nodes, c.in_ok-count.ensures s.nodes, ← made, c.in_ok-copied-in-Ok-Some.ensures)
     (gives_does shown IsValueOf s (stored.Str c.in-Ok-Some.copied.items) (Str c.in-Ok-Some.copied.items) refl (length-duplicate _ _ _ (sym made)))

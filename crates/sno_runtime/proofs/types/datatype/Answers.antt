@@ -4,5 +4,4 @@ use Rattle.sno_runtime.proofs.types.datatype.Goals as goal
 
 pub returns : goal.returns
 returns c =
-    let made : c.new.result ≡ c.type_name.result.now = search rules in
-    rw made (type_given c.args.runtime.now c.args.x.now c.type_name.result.now c.type_name.ensures.name c.type_name.ensures.short)
+    rw c.in_ok-name.ensures (type_given c.args.runtime.now c.args.x.now c.type_name.result.now c.type_name.ensures.name c.type_name.ensures.short)

@@ -1,4 +1,4 @@
-use Rattle.std.proofs.Common.{Vec, ℕ, Global}
+use Rattle.std.proofs.Common.{List, ℕ}
 use Rattle.std.proofs.lemmas.Result.{err_from_is_err_and}
 use Rattle.sno_runtime.specs.Runtime.{itself}
 use Rattle.sno_runtime.specs.inner.Runtime.{any}
@@ -10,5 +10,11 @@ pub returns-in_err-text : goal.returns-in_err-text
 returns-in_err-text c =
     let p = err_from_is_err_and c.from_residual.result c.from_residual.ensures.1 in
     let nodes = c.args.runtime.now.nodes in
-    rw (p.1, p.2, named_by_text nodes c.args.x c.in_default.not-Name) (missing_in {X = Vec ℕ Global} (λ t. t.items) itself any _ _ c.args.runtime.now _
+    rw (p.1, p.2, named_by_text nodes c.args.x c.in_default.not-Name) (missing_in {X = List ℕ} (λ t. t) itself any _ _ c.args.runtime.now _
     (unnamed _) (c.in_err-text.ensures.text nodes))
+
+pub returns-in_err-target : goal.returns-in_err-target
+returns-in_err-target c =
+    let p = err_from_is_err_and c.from_residual-in_err-target.result c.from_residual-in_err-target.ensures.1 in
+    let nodes = c.args.runtime.now.nodes in
+    rw (p.1, p.2, named_by_text nodes c.args.x c.in_default.not-Name, c.in_ok-text.ensures.text nodes, ← c.as_slice.ensures) c.in_err-target.ensures

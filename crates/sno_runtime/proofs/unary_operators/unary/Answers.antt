@@ -1,8 +1,10 @@
+use Rattle.std.proofs.Common.{[], refl, arith}
 use Rattle.std.proofs.lemmas.Result.{err_from_is_err_and}
-use Rattle.sno_runtime.specs.Values.{shown, IsValueOf}
+use Rattle.sno_value.specs.declared.value.Value.TheVariants as stored
+use Rattle.sno_runtime.specs.Values.{Str, shown, IsValueOf}
 use Rattle.sno_runtime.specs.Runtime.{itself}
 use Rattle.sno_runtime.specs.inner.Runtime.{any}
-use Rattle.sno_runtime.proofs.Outcomes.{then_err, fails_does}
+use Rattle.sno_runtime.proofs.Outcomes.{then_err, fails_does, gives_does}
 use Rattle.sno_runtime.proofs.Reading.{reads_nothing, ready_unread, then_reads}
 use Rattle.sno_runtime.proofs.unary_operators.unary.Goals as goal
 
@@ -31,6 +33,11 @@ returns-in-NameOf g c = rw c.in-NameOf.is (reads_nothing shown IsValueOf _ _ _ _
 
 pub returns-in-Cursor : goal.returns-in-Cursor
 returns-in-Cursor g c = rw c.in-Cursor.is (reads_nothing shown IsValueOf _ _ _ _ _ c.requires.ready c.cursor_pattern.ensures)
+
+pub returns-in-Query : goal.returns-in-Query
+returns-in-Query g c =
+    let given = gives_does shown IsValueOf c.args.runtime.now (stored.Str []) (Str []) refl (omega arith) in
+    rw (c.in-Query.is, c.null.ensures) (reads_nothing shown IsValueOf _ _ _ _ _ c.requires.ready given)
 
 pub returns-in-Not : goal.returns-in-Not
 returns-in-Not g c = rw c.in-Not.is (reads_nothing shown IsValueOf _ _ _ _ _ c.requires.ready (fails_does shown IsValueOf c.args.runtime.now))

@@ -1,9 +1,13 @@
-use Rattle.std.proofs.Common.{◌∙◌, ap, length, refl, codes, Ok, Err}
+use Rattle.std.proofs.Common.{◌≡◌, ◌∙◌, ap, length, refl, codes, Result, Ok, Err}
 use Rattle.sno_runtime.specs.declared.stops.Exit.TheVariants.{Halt}
+use Rattle.sno_runtime.specs.declared.stops.Stop.{Stop}
 use Rattle.sno_runtime.specs.declared.stops.Stop.TheVariants.{WriteFault}
 use Rattle.snobol.proofs.RunningLaws.{performs_runs}
 use Rattle.snobol.proofs.EnumerationLaws.{new_closed, new_runs, built_listed, failed_listed, stopped_listed, line_put, line_cut, listed_as, fault_told}
 use Rattle.snobol.proofs.enumeration.list.Goals as goal
+
+told_is_no_fault : ◌≡◌ {A = Result (Unit {0}) Stop} (Ok tt) (Err WriteFault) → ⊥
+told_is_no_fault e = cc e
 
 pub pattern_of-requires-clause-calls : goal.pattern_of-requires-clause-calls
 pattern_of-requires-clause-calls g c = record {
@@ -74,7 +78,7 @@ returns-in-Err-Failure-clause-listing g c =
     let did = c.pattern_of.ensures in
     let failed = rw (c.in-Err-Failure.is, c.in-Err-Failure.field-0-is, c.in-Ok-of.ensures, start, c.for_listing-keywords.ensures) at did in
     let put = c.in_default-put.ensures in
-    let line = performs_runs _ _ _ _ (g.W.Sink.drain c.pattern_of.new.writer) _ (Ok tt) failed.ready.reads refl put.sound (λ e. absurd (cc e))
+    let line = performs_runs _ _ _ _ (g.W.Sink.drain c.pattern_of.new.writer) _ (Ok tt) failed.ready.reads refl put.sound (λ e. absurd (told_is_no_fault e))
     (line_put (codes "exhausted\n") c.pattern_of.new.runtime _ _ put.bytes) in
     listed_as _ _ _ _ _ _ _ _ _ c.requires.subject refl (failed_listed c.args.program.now c.args.expression c.args.subject.now c.args.anchored c.args.limit
     _ _ _ _ _ _ _ failed line)

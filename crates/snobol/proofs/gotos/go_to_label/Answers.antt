@@ -1,4 +1,4 @@
-use Rattle.std.proofs.Common.{◌∙◌, ap}
+use Rattle.std.proofs.Common.{◌∙◌, ap, length}
 use Rattle.std.proofs.lemmas.Result.{err_from_is_err_and}
 use Rattle.snobol.specs.Meaning.{goto_of}
 use Rattle.snobol.proofs.GotoLaws.{textless, not_empty, goes_by_label}
@@ -13,6 +13,6 @@ returns-in_err-label-clause-does c =
 pub returns-clause-does : goal.returns-clause-does
 returns-clause-does c =
     let s = c.args.runtime.now in
-    let some = not_empty c.in_ok-label.label.items _ _ c.in_ok-label.label.ok.0 c.is_empty.ensures c.if-is_empty.false in
-    goes_by_label c.args.program.now c.args.value c.in_ok-label.label.items c.goto_of.result s _ (c.in_ok-label.ensures.text s.nodes) some
-    (c.goto_of.ensures ∙ ap (goto_of c.args.program.now) c.deref.ensures.value) c.go_to.ensures.does
+    let some = not_empty c.in_ok-label.label _ _ (ap length c.as_slice.ensures) c.is_empty.ensures c.if-is_empty.false in
+    goes_by_label c.args.program.now c.args.value c.in_ok-label.label c.goto_of.result s _ (c.in_ok-label.ensures.text s.nodes) some
+    (c.goto_of.ensures ∙ ap (goto_of c.args.program.now) c.as_slice-2.ensures) c.go_to.ensures.does

@@ -17,5 +17,5 @@ returns-in_err-result g c = λ f ready.
 
 pub returns : goal.returns
 returns g c = λ f ready.
-    let did = rw (c.in_ok-result.ensures, c.deref.ensures.value) at c.assign_text.ensures f ready in
+    let did = rw (c.in_ok-result.ensures, c.as_slice.ensures) at c.assign_text.ensures f ready in
     text_runs _ _ c.in_ok-new.new (c.in_ok-new.ensures.text c.args.runtime.now.nodes) did

@@ -65,7 +65,10 @@ returns-in_err-matcher g c =
 
 pub replace_first-done-requires-clause-subject : goal.replace_first-done-requires-clause-subject
 replace_first-done-requires-clause-subject g c =
-    rw (c.deref_mut.ensures.value, c.in_ok-matcher.ensures.subject) (c.in_ok-text.ensures.short c.read.new.self.nodes c.in_ok-value.ensures.answer)
+    rw (c.deref_mut.ensures.value, c.in_ok-matcher.ensures.subject, c.as_slice.ensures) (c.in_ok-text.ensures.short c.read.new.self.nodes c.in_ok-value.ensures.answer)
+
+pub replace_first-done-requires-clause-text : goal.replace_first-done-requires-clause-text
+replace_first-done-requires-clause-text g c = rw (c.deref_mut.ensures.value, c.in_ok-matcher.ensures.subject) c.as_slice.ensures
 
 pub replace_first-done-requires-clause-level : goal.replace_first-done-requires-clause-level
 replace_first-done-requires-clause-level g c =
@@ -82,7 +85,7 @@ returns g c =
     let named = c.in_ok-name.ensures in
     let read = read_runs named.ready c.in_ok-value.ensures in
     let begun = pattern_runs _ _ c.args.pattern (of_part _ _ (ap Some c.value_of.ensures) c.in_ok-value-2.ensures) c.in_ok-matcher.ensures.does in
-    let done = rw (c.deref_mut.ensures.value, c.in_ok-matcher.ensures.subject) at c.replace_first-done.ensures in
+    let done = rw (c.deref_mut.ensures.value, c.in_ok-matcher.ensures.subject, c.as_slice.ensures) at c.replace_first-done.ensures in
     rw c.keep_matcher.ensures
     (part_runs _ named (name_runs _ _ c.in_ok-target.target (c.in_ok-target.ensures c.evaluate_name.new.runtime.nodes)
     (part_runs _ read (text_runs _ _ c.in_ok-text.text (c.in_ok-text.ensures.text c.read.new.self.nodes) (part_runs _ begun done)))))

@@ -1,4 +1,4 @@
-use Rattle.std.proofs.Common.{ap, ◌∙◌, length, Err}
+use Rattle.std.proofs.Common.{ap, ◌∙◌, ◌≤◌, ℕ, List, length, subst, Err}
 use Rattle.std.proofs.lemmas.Result.{err_from_is_err_and}
 use Rattle.snobol.proofs.RunningLaws.{answered}
 use Rattle.snobol.proofs.StatementLaws.{of_part, part_runs, part_ended}
@@ -25,10 +25,10 @@ pub put_value-requires-clause-order : goal.put_value-requires-clause-order
 put_value-requires-clause-order g c = c.in_ok-span.ensures.does.answer.0
 
 pub put_value-requires-clause-within : goal.put_value-requires-clause-within
-put_value-requires-clause-within g c = rw (c.subject.ensures, c.in_ok-span.ensures.subject) c.in_ok-span.ensures.does.answer.1
+put_value-requires-clause-within g c = subst (λ (text : List ℕ). c.in_ok-span.span.1 ≤ length text) c.requires.text c.in_ok-span.ensures.does.answer.1
 
 pub put_value-requires-clause-short : goal.put_value-requires-clause-short
-put_value-requires-clause-short g c = rw (c.subject.ensures, c.in_ok-span.ensures.subject) c.requires.subject
+put_value-requires-clause-short g c = subst (λ (text : List ℕ). length text ≤ 1_000_000) c.requires.text c.requires.subject
 
 pub put_value-requires-clause-value : goal.put_value-requires-clause-value
 put_value-requires-clause-value g c = c.in_ok-value.ensures.answer
@@ -39,5 +39,5 @@ put_value-requires-clause-sound g c = c.in_ok-value.ensures.ready.writes
 pub returns : goal.returns
 returns g c =
     let object = of_part _ _ c.object_part.ensures c.in_ok-value.ensures in
-    let put = rw (c.subject.ensures ∙ c.in_ok-span.ensures.subject) at (c.put_value.ensures _ object.ready.reads) in
+    let put = rw (← c.requires.text) at (c.put_value.ensures _ object.ready.reads) in
     part_runs _ c.in_ok-span.ensures.does (part_runs _ object put)

@@ -1,7 +1,7 @@
-use Rattle.std.proofs.Common.{◌≡◌, ◌∙◌, ap, subst, length, arith}
+use Rattle.std.proofs.Common.{◌≡◌, ◌∙◌, ap, sym, subst, length, arith}
 use Rattle.sno_match.specs.Point.{rest_of, replaced}
 use Rattle.sno_match.specs.inner.Shared.{goals_of}
-use Rattle.sno_match.proofs.SharedLaws.{fits, replaced_points}
+use Rattle.sno_match.proofs.SharedLaws.{fits, replaced_points, first_dropped_holds, first_dropped_points}
 use Rattle.sno_match.proofs.shared.SharedGoalsPoints.replace.Goals as goal
 
 pub returns-clause-ok : goal.returns-clause-ok
@@ -15,4 +15,23 @@ returns-clause-ok c =
     c.args.cursor behind c.larger-keep.result c.in_ok-goals.goals
     (subst (λ rs. goals_of rs behind ≡ rest_of (goals_of rs point.goals)) c.deref.ensures.value c.behind_first-behind.ensures.value) larger.first
     (larger.least (length s.records.items) (omega (arith, c.behind_first-behind.ensures.smaller, within.0)) within.1) c.in_ok-goals.ensures.ok larger.second ∙
+    ap (λ v. replaced c.args.front.now c.args.cursor v.points) c.self.view_is
+
+pub invariant_of-self : goal.invariant_of-self
+invariant_of-self c =
+    let s = c.self.inside in
+    let point = c.in-Some.point in
+    let behind = c.behind_first-behind.result in
+    first_dropped_holds s.records.items s.pending.items s.top s.below.items point c.in-Some.is c.self.invariant c.args.cursor behind
+    (subst (λ rs. goals_of rs behind ≡ rest_of (goals_of rs point.goals)) c.deref.ensures.value c.behind_first-behind.ensures.value)
+    c.behind_first-behind.ensures.smaller
+
+pub returns-then-is_empty-clause-ok : goal.returns-then-is_empty-clause-ok
+returns-then-is_empty-clause-ok c =
+    let s = c.self.inside in
+    let point = c.in-Some.point in
+    let behind = c.behind_first-behind.result in
+    first_dropped_points s.records.items s.pending.items s.top s.below.items point c.in-Some.is c.self.invariant c.args.cursor behind
+    (subst (λ rs. goals_of rs behind ≡ rest_of (goals_of rs point.goals)) c.deref.ensures.value c.behind_first-behind.ensures.value)
+    c.behind_first-behind.ensures.smaller c.args.front.now (sym c.is_empty.ensures ∙ c.if-is_empty.true) ∙
     ap (λ v. replaced c.args.front.now c.args.cursor v.points) c.self.view_is

@@ -15,7 +15,6 @@ returns-in_err-prototype c =
 
 pub returns : goal.returns
 returns c =
-    let is : c.new.result ≡ c.in_ok-prototype.field-0.now = search rules in
-    rw (← c.self.view_is, is)
+    rw (← c.self.view_is, c.in_ok-text.ensures)
     (asked_text _ _ c.in_ok-prototype.field-0.now (prototype_of_map (shown c.self.inside.patterns) _ c.args.array ∙ c.in_ok-prototype.ensures)
     (prototype_known c.self.inside.patterns _ c.args.array _ c.in_ok-prototype.ensures c.self.invariant.objects))

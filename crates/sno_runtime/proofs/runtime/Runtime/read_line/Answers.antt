@@ -2,7 +2,7 @@ use Rattle.std.proofs.Common.{rules}
 use mir.Syntax.{w64}
 use mir.Val.{SFits}
 use Rattle.std.proofs.lemmas.Int.{to_z-of_z}
-use Rattle.sno_runtime.proofs.InputLaws.{line_reads}
+use Rattle.sno_runtime.proofs.InputLaws.{line_reads, reads_made}
 use Rattle.sno_runtime.proofs.runtime.Runtime.read_line.Goals as goal
 
 pub returns : goal.returns
@@ -12,4 +12,5 @@ returns g c =
     let is = rw c.trim.ensures at same in
     let next = c.next-line.ensures in
     let going = rw (← c.self.view_is) at c.requires.going in
-    rw (← c.self.view_is, is) (line_reads _ _ _ _ _ (next.line going) next.ok next.sound (next.same going) (λ fault. (next.fault going).0 fault))
+    rw (← c.self.view_is) (reads_made _ _ _ _ _ _ _ is
+    (line_reads _ _ _ _ _ (next.line going) next.ok next.sound (next.same going) (λ fault. (next.fault going).0 fault)))

@@ -1,0 +1,14 @@
+use Rattle.std.proofs.Common.{◌≡◌, [], drop}
+use Rattle.sno_value.specs.declared.value.Value.TheVariants.{Str}
+use Rattle.sno_store.specs.Calls.{with_arguments}
+use Rattle.sno_store.proofs.CallLaws.{numbers}
+use Rattle.sno_store.proofs.calls.give.Given as goal
+
+abbrev pub invariant-formals : goal.invariant-formals
+invariant-formals l =
+    record {
+      at : l.place ≡ l.formal-index;
+      given :
+          with_arguments (Str []) (numbers (drop l.formal-index l.formals)) (drop l.formal-index l.arguments.items) l.values.items
+          ≡ with_arguments (Str []) (numbers l.formals) l.initial.arguments.items l.initial.values.items;
+    }

@@ -1,0 +1,135 @@
+//! Choices whose first bytes are known: starts and cursors at which each of their sides fails are passed, with their
+//! steps.
+use super::driver::all_events;
+use super::forms::table_of;
+use super::generated::check_same;
+use super::matches::Matches;
+use super::notation::forms_of;
+use super::reference::search_events;
+use super::rows::check_rows;
+use sno_match::{CopiedGoals, SharedGoals};
+use std::alloc::Global;
+use std::process::Abort;
+use std::test::Fail;
+
+/// They are 'A' | 'B', whose search takes four steps in vain: the choice, 'A', going on to the other side, and 'B'.
+const TWO_LETTERS: &str = r"
+floating 1000 CCB: TEXT:A TEXT:B |:0,1 => way 2 3 at 14; exhausted at 19;
+floating 19 CCB: TEXT:A TEXT:B |:0,1 => way 2 3 at 14; exhausted at 19;
+floating 18 CCB: TEXT:A TEXT:B |:0,1 => way 2 3 at 14; limit at 18;
+floating 15 CCB: TEXT:A TEXT:B |:0,1 => way 2 3 at 14; limit at 15;
+floating 14 CCB: TEXT:A TEXT:B |:0,1 => way 2 3 at 14; limit at 14;
+floating 13 CCB: TEXT:A TEXT:B |:0,1 => limit at 13;
+floating 10 CCB: TEXT:A TEXT:B |:0,1 => limit at 10;
+floating 9 CCB: TEXT:A TEXT:B |:0,1 => limit at 9;
+floating 8 CCB: TEXT:A TEXT:B |:0,1 => limit at 8;
+floating 5 CCB: TEXT:A TEXT:B |:0,1 => limit at 5;
+floating 4 CCB: TEXT:A TEXT:B |:0,1 => limit at 4;
+anchored 1000 CCB: TEXT:A TEXT:B |:0,1 => exhausted at 4;
+anchored 4 CCB: TEXT:A TEXT:B |:0,1 => exhausted at 4;
+anchored 3 CCB: TEXT:A TEXT:B |:0,1 => limit at 3;
+floating 1000 : TEXT:A TEXT:B |:0,1 => exhausted at 4;
+floating 4 : TEXT:A TEXT:B |:0,1 => exhausted at 4;
+floating 3 : TEXT:A TEXT:B |:0,1 => limit at 3;
+";
+
+/// They are 'AB' | 'AC', also where both fail behind the first byte; 'ABC' | 'AC', where the subject ends inside a word; 'XY' | ANY('AB') | SPAN('BC');
+/// 'A' | ('B' | 'C'); ('A' | 'B') . X; ('A' | 'B') $ X; ('A' | 'B') 'C'; and 'A' | '', which begins with any byte.
+const CHOICES: &str = r"
+floating 1000 AC: TEXT:AB TEXT:AC |:0,1 => way 0 2 at 4; exhausted at 14;
+floating 1000 AAD: TEXT:AB TEXT:AC |:0,1 => exhausted at 19;
+floating 18 AAD: TEXT:AB TEXT:AC |:0,1 => limit at 18;
+floating 10 AAD: TEXT:AB TEXT:AC |:0,1 => limit at 10;
+floating 9 AAD: TEXT:AB TEXT:AC |:0,1 => limit at 9;
+floating 5 AAD: TEXT:AB TEXT:AC |:0,1 => limit at 5;
+floating 4 AAD: TEXT:AB TEXT:AC |:0,1 => limit at 4;
+floating 1000 CAB: TEXT:ABC TEXT:AC |:0,1 => exhausted at 19;
+floating 1000 DDCB: TEXT:XY ANY:AB |:0,1 SPAN:BC |:2,3 => way 2 4 at 23; way 3 4 at 29; way 3 4 at 31; exhausted at 39;
+floating 1000 DC: TEXT:A TEXT:B TEXT:C |:1,2 |:0,3 => way 1 2 at 15; exhausted at 23;
+floating 1000 CA: TEXT:A TEXT:B |:0,1 .:2,7 => way 1 2 at 10 with 7 1 2; exhausted at 18 with 7 1 2;
+floating 1000 CA: TEXT:A TEXT:B |:0,1 $:2,7 => assign 7 1 2 at 10; way 1 2 at 10; exhausted at 18;
+floating 1000 DBC: TEXT:A TEXT:B |:0,1 TEXT:C &:2,3 => way 1 3 at 12; exhausted at 24;
+floating 1000 B: TEXT:A TEXT: |:0,1 => way 0 0 at 4; way 1 1 at 9; exhausted at 9;
+";
+
+#[test]
+fn starts_of_choices_that_fail(rt: HostRuntime) -> Result<(), Fail> {
+    check_rows::<Matches, _>(&rt, TWO_LETTERS)?;
+    check_rows::<Matches, _>(&rt, CHOICES)
+}
+
+/// Choices whose first bytes are known, each with one in which an ANY has become a NOTANY, whose first bytes aren't. In
+/// a subject of the letters A to F both primitives have the same ends from each cursor, and either is one goal: so the
+/// search of both choices takes the same steps.
+const PAIRS: [(&str, &str); 5] = [
+    (
+        "TEXT:AB TEXT:AC |:0,1 ANY:BD |:2,3",
+        "TEXT:AB TEXT:AC |:0,1 NOTANY:ACEF |:2,3",
+    ),
+    (
+        "ANY:B SPAN:DE TEXT:A |:1,2 |:0,3 .:4,7",
+        "NOTANY:ACDEF SPAN:DE TEXT:A |:1,2 |:0,3 .:4,7",
+    ),
+    (
+        "ANY:A TEXT:BC |:0,1 SPAN:D TEXT:DE |:3,4 |:2,5 $:6,7 TEXT:C &:7,8",
+        "NOTANY:BCDEF TEXT:BC |:0,1 SPAN:D TEXT:DE |:3,4 |:2,5 $:6,7 TEXT:C &:7,8",
+    ),
+    (
+        "SPAN:F TEXT:AB TEXT:AC |:1,2 ANY:BD |:3,4 &:0,5",
+        "SPAN:F TEXT:AB TEXT:AC |:1,2 NOTANY:ACEF |:3,4 &:0,5",
+    ),
+    (
+        "ANY:B TEXT:AC &:0,1 TEXT:D |:2,3",
+        "NOTANY:ACDEF TEXT:AC &:0,1 TEXT:D |:2,3",
+    ),
+];
+
+const SUBJECTS: [&str; 8] = [
+    "",
+    "A",
+    "F",
+    "FFA",
+    "EAFAB",
+    "FEFEACFDDA",
+    "CCCCCCCB",
+    "FBACDEC",
+];
+
+/// More steps than each search takes.
+const MOST_STEPS: u32 = 160;
+
+/// Compares what the matcher over either stack tells of two patterns that take the same steps, and the plain search.
+fn compare(
+    rt: &impl Abort,
+    alloc: Global,
+    words: (&'static str, &'static str),
+    subject: &'static [u8],
+    anchored: bool,
+    limit: u32,
+) -> Result<(), Fail> {
+    let forms = forms_of(alloc, words.0)?;
+    let (table, pattern) = table_of(alloc, &forms)?;
+    let told = all_events::<SharedGoals>(alloc, &table, pattern, subject, anchored, limit, &[])?;
+    let copied = all_events::<CopiedGoals>(alloc, &table, pattern, subject, anchored, limit, &[])?;
+    let want = search_events(alloc, &forms, pattern, subject, anchored, limit, &[])?;
+    check_same(rt, &told, &want);
+    check_same(rt, &copied, &want);
+    let forms = forms_of(alloc, words.1)?;
+    let (table, pattern) = table_of(alloc, &forms)?;
+    let others = all_events::<SharedGoals>(alloc, &table, pattern, subject, anchored, limit, &[])?;
+    check_same(rt, &told, &others);
+    Ok(())
+}
+
+#[test]
+fn each_limit_of_a_choice(rt: HostRuntime) -> Result<(), Fail> {
+    for words in PAIRS {
+        for subject in SUBJECTS {
+            for limit in 0..=MOST_STEPS {
+                compare(&rt, rt.alloc(), words, subject.as_bytes(), false, limit)?;
+                compare(&rt, rt.alloc(), words, subject.as_bytes(), true, limit)?;
+            }
+        }
+    }
+    Ok(())
+}
