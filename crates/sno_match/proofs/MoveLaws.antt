@@ -19,7 +19,7 @@ use Rattle.sno_match.specs.inner.Remaining.{goals_of, remaining, resume, AllMark
 use Rattle.sno_match.specs.inner.Plan.{IsPlan, IsDue, IsCut, KeepsScopes, goals_in, point_at}
 use Rattle.sno_match.specs.inner.Scopes.{opens, RiseFrom, HasCuts}
 use Rattle.sno_match.specs.inner.State.{after_move, HasAsked}
-use Rattle.sno_match.specs.inner.Move.{Makes, Costs, CarriesOut, EnteredFails, entries, price, way_after, standing}
+use Rattle.sno_match.specs.inner.Move.{Makes, Costs, CarriesOut, EndsBy, EnteredFails, entries, price, way_after, standing}
 use Rattle.sno_match.specs.Top.{Finishes}
 use Rattle.sno_match.proofs.ReadingLaws.{resume-emit, resume-exhausted, emit-none}
 use Rattle.sno_match.proofs.CutLaws.{drop-marked}
@@ -53,6 +53,22 @@ costs_of (P.EnterCut body) k l = tt
 costs_of (P.CloseCut depth) k l = tt
 costs_of P.BackIntoFence k l = absurd (k refl)
 costs_of P.BackIntoCut k l = absurd (l refl)
+
+-- where no step is left the points stay, or the newest is dropped
+pub ends_keep : (Q : List Point → Type 0) (plan : Plan) (old : List Point) (told : Option Told) (new : List Point)
+    → EndsBy plan old told new → Q old → Q (below old) → Q new
+ends_keep Q (P.Replace front at) old told new e stays drops = subst Q (sym e.1) stays
+ends_keep Q (P.Branch front at next) old told new e stays drops = subst Q (sym e.1) stays
+ends_keep Q (P.Close a) old told new e stays drops = subst Q (sym e.1) stays
+ends_keep Q (P.Assign a) old told new e stays drops = subst Q (sym e.1) stays
+ends_keep Q (P.Cursor target) old told new e stays drops = subst Q (sym e.1) stays
+ends_keep Q (P.Ask prim expr) old told new e stays drops = subst Q (sym e.1) stays
+ends_keep Q P.Fail old told new e stays drops = subst Q (sym e.1) stays
+ends_keep Q P.Abort old told new e stays drops = subst Q (sym e.1) stays
+ends_keep Q (P.EnterCut body) old told new e stays drops = subst Q (sym e.1) stays
+ends_keep Q (P.CloseCut depth) old told new e stays drops = subst Q (sym e.1) stays
+ends_keep Q P.BackIntoFence old told new e stays drops = subst Q (sym e.1) stays
+ends_keep Q P.BackIntoCut old told new e stays drops = subst Q (sym e.1) drops
 
 AllKnown-append : (nodes : List Node) (xs ys : List Numbered) → AllKnown nodes xs → AllKnown nodes ys → AllKnown nodes (xs ++ ys)
 AllKnown-append nodes [] ys h k = k
@@ -330,6 +346,29 @@ module _ (nodes : List Node) (s : List ℕ) (old : List Point) (goal : Numbered)
               ap (λ (ps : List Point). remaining nodes s start ps answers (limit - steps)) (sym under)
               ∙ sym (emit-none (remaining nodes s start new answers (limit - steps)));
         }
+
+    -- what is done where no step is left
+    module _ (none : steps ≡ limit) (m : AllMarked (below old)) (told : Option Told) (new : List Point) where
+      done : (event : Option Told) (points : List Point) → told ≡ event → new ≡ points → Makes nodes s start limit old steps was event points steps was
+          → Makes nodes s start limit old steps was told new steps was
+      done event points e e' h =
+          subst (λ (t : Option Told). Makes nodes s start limit old steps was t new steps was) (sym e)
+          (subst (λ (ps : List Point). Makes nodes s start limit old steps was event ps steps was) (sym e') h)
+
+      pub spent_at : (plan : Plan) → IsPlan nodes s goal c mark plan → EndsBy plan old told new
+          → Makes nodes s start limit old steps was told new steps was
+      spent_at (P.Replace front at) p e = done (Some V.Limit) old e.0 e.1 (limit_at (P.Replace front at) none p tt)
+      spent_at (P.Branch front at next) p e = done (Some V.Limit) old e.0 e.1 (limit_at (P.Branch front at next) none p tt)
+      spent_at (P.Close a) p e = done (Some V.Limit) old e.0 e.1 (limit_at (P.Close a) none p tt)
+      spent_at (P.Assign a) p e = done (Some V.Limit) old e.0 e.1 (limit_at (P.Assign a) none p tt)
+      spent_at (P.Cursor target) p e = done (Some V.Limit) old e.0 e.1 (limit_at (P.Cursor target) none p tt)
+      spent_at (P.Ask prim expr) p e = done (Some V.Limit) old e.0 e.1 (limit_at (P.Ask prim expr) none p tt)
+      spent_at P.Fail p e = done (Some V.Limit) old e.0 e.1 (limit_at P.Fail none p tt)
+      spent_at P.Abort p e = done (Some V.Limit) old e.0 e.1 (limit_at P.Abort none p tt)
+      spent_at (P.EnterCut body) p e = done (Some V.Limit) old e.0 e.1 (limit_at (P.EnterCut body) none p tt)
+      spent_at (P.CloseCut depth) p e = done (Some V.Limit) old e.0 e.1 (limit_at (P.CloseCut depth) none p tt)
+      spent_at P.BackIntoFence p e = done (Some V.Aborted) old e.0 e.1 (fence_at (omega (arith, none)) p)
+      spent_at P.BackIntoCut p e = done None (below old) e.0 e.1 (dropped_at (omega (arith, none)) m p (below old) refl)
 
 -- no goal is left
 

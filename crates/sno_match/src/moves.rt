@@ -2,11 +2,11 @@
 ghost use Rattle.std.specs.Prelude.{◌≡◌, ◌<◌, ◌≤◌, ◌+◌, ◌-◌, ◌*◌, [], ◌∷◌, length, IfOk, IfSome, OnOk, OnErr};
 ghost use Rattle.sno_pattern.specs.Looks.{AreTrue};
 ghost use Rattle.sno_match.specs.Point.{HasFirst, replaced, branched, below};
-ghost use Rattle.sno_match.specs.inner.Remaining.{IsKnown, IsStack, HasPoint};
-ghost use Rattle.sno_match.specs.inner.Plan.{goals_in};
+ghost use Rattle.sno_match.specs.inner.Remaining.{IsKnown, IsStack, HasPoint, MarkFits};
+ghost use Rattle.sno_match.specs.inner.Plan.{goals_in, IsPlan};
 ghost use Rattle.sno_match.specs.inner.State.{after_move, owed};
 ghost use Rattle.sno_match.specs.inner.Scopes.{HasCuts};
-ghost use Rattle.sno_match.specs.inner.Move.{Makes, CarriesOut, Costs, EnteredFails, answered};
+ghost use Rattle.sno_match.specs.inner.Move.{Makes, CarriesOut, Costs, EndsBy, EnteredFails, answered};
 
 use crate::event::{Event, Pending};
 use crate::goal::{Goal, Mark, Top};
@@ -55,6 +55,10 @@ pub(crate) fn make_move<P: Points>(
             Ok(Some(Event::Way { start, end }))
         }
         Top::Open { goal, cursor, mark } => {
+            if *steps == limit {
+                let told = move_at_limit(points, looks, patterns, subject, goal, cursor, mark);
+                return Ok(told);
+            }
             let plan = plan_of(patterns, looks, subject, goal, cursor, mark);
             match plan {
                 Plan::BackIntoFence => return Ok(Some(Event::Aborted)),
@@ -63,9 +67,6 @@ pub(crate) fn make_move<P: Points>(
                     return Ok(None);
                 }
                 _ => {}
-            }
-            if *steps == limit {
-                return Ok(Some(Event::Limit));
             }
             let alone = is_branch(plan) && points.depth() == 1;
             let left = limit - *steps;
@@ -81,6 +82,38 @@ pub(crate) fn make_move<P: Points>(
             *steps += 1;
             Ok(told)
         }
+    }
+}
+
+/// The move at an open point where no step is left: backing into a FENCE or a FENCE(P) costs none, and any other is
+/// refused by `Limit`.
+#[cold]
+#[inline(never)]
+fn move_at_limit<P: Points>(
+    points: &mut P,
+    looks: &mut Looks,
+    patterns: &Patterns,
+    subject: &[u8],
+    goal: Goal,
+    cursor: usize,
+    mark: Mark,
+) -> Option<Event>
+    requires known { IsKnown patterns.now goal }
+    requires inside { cursor ≤ length subject.now }
+    requires next { MarkFits patterns.now subject.now mark (goal ∷ []) cursor }
+    requires looks { AreTrue patterns.now subject.now looks.old }
+    ensures looks { AreTrue patterns.now subject.now looks.new }
+    ensures ends { (plan : Plan) × IsPlan patterns.now subject.now goal cursor mark plan
+        × EndsBy plan (P.points points.old) result (P.points points.new) }
+    ensures records { P.records points.new + owed (after_move result) ≤ P.records points.old }
+{
+    match plan_of(patterns, looks, subject, goal, cursor, mark) {
+        Plan::BackIntoFence => Some(Event::Aborted),
+        Plan::BackIntoCut => {
+            points.pop();
+            None
+        }
+        _ => Some(Event::Limit),
     }
 }
 
@@ -120,6 +153,7 @@ fn is_branch(plan: Plan) -> bool {
 }
 
 /// Carries out a plan that costs a step, behind which `left` are left, and gives the event that it tells.
+#[inline(always)]
 fn carry_out<P: Points>(
     points: &mut P,
     plan: Plan,
@@ -212,6 +246,7 @@ fn enter_cut<P: Points>(
     Ok(())
 }
 
+#[inline(always)]
 fn replace_by<P: Points>(points: &mut P, front: Front, at: usize) -> Result<(), AllocError>
     requires { HasFirst (P.points points.old) }
     ensures ok { OnOk result (P.points points.new ≡ replaced (goals_in front) at (P.points points.old)) }
@@ -226,6 +261,7 @@ fn replace_by<P: Points>(points: &mut P, front: Front, at: usize) -> Result<(), 
     }
 }
 
+#[inline(always)]
 fn branch_by<P: Points>(
     points: &mut P,
     front: Front,

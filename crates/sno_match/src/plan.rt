@@ -51,6 +51,7 @@ pub(crate) enum Plan {
 }
 
 /// What is to be done at a point with this first goal, cursor and mark.
+#[inline(always)]
 pub(crate) fn plan_of(
     patterns: &Patterns,
     looks: &mut Looks,
@@ -79,6 +80,7 @@ pub(crate) fn plan_of(
     }
 }
 
+#[inline(always)]
 fn enter_goal(
     patterns: &Patterns,
     looks: &mut Looks,
@@ -116,6 +118,7 @@ fn enter_goal(
     }
 }
 
+#[inline(always)]
 fn enter_pattern(
     patterns: &Patterns,
     looks: &mut Looks,
@@ -159,6 +162,7 @@ fn enter_pattern(
     }
 }
 
+#[inline(always)]
 fn enter_primitive(
     patterns: &Patterns,
     looks: &mut Looks,
@@ -180,6 +184,7 @@ fn enter_primitive(
     take_end(patterns, looks, subject, id, cursor, end)
 }
 
+#[inline(always)]
 fn next_of_pattern(
     patterns: &Patterns,
     looks: &mut Looks,
@@ -214,6 +219,7 @@ fn next_of_pattern(
 }
 
 /// A primitive's point stays only where there is an end behind this one.
+#[inline(always)]
 fn take_end(
     patterns: &Patterns,
     looks: &mut Looks,

@@ -147,6 +147,14 @@ pub(crate) fn is_far(kind: &Kind) -> bool {
     matches!(kind, Kind::Span(_) | Kind::Break(_) | Kind::BreakX(_))
 }
 
+/// Whether the first end of a primitive is found at once, so that nothing is looked up or remembered for it.
+pub(crate) fn is_near(kind: &Kind) -> bool {
+    !matches!(
+        kind,
+        Kind::Bal | Kind::Span(_) | Kind::Break(_) | Kind::BreakX(_)
+    )
+}
+
 /// The last cursor of the run that begins at one with this first end.
 pub(crate) fn last_with_end(kind: &Kind, subject: &[u8], at: usize, end: Option<usize>) -> usize
     requires { end ≡ end_of_node (node_of kind.now) subject.now at 0 }

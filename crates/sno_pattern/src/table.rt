@@ -22,7 +22,7 @@ use crate::byte_set::ByteSet;
 use crate::ends::{end_behind_of_kind, end_of_kind};
 use crate::first_bytes::{add_first_bytes_of_kind, kind_fails_at};
 use crate::kind::{Entry, Kind, is_quiet_over, shape_of_kind};
-use crate::looks::{Looks, Run, is_far, last_with_end, slot_behind, slot_of_first};
+use crate::looks::{Looks, Run, is_far, is_near, last_with_end, slot_behind, slot_of_first};
 use crate::places::first_place_of_kind;
 use crate::shape::Shape;
 use sno_value::{ExprId, Name, PatId, Prim};
@@ -344,6 +344,10 @@ impl Patterns {
         ensures ahead { IfSome result (λ e. at ≤ e) }
         ensures inside { IfSome result (λ e. e ≤ length subject.now) }
     {
+        if is_near(&self.entries[id.0 as usize].kind) {
+            let end = self.end_at(id, subject, at, 0);
+            return end;
+        }
         let end = self.look_by(looks, slot_of_first(id), id, subject, at);
         end
     }

@@ -84,6 +84,12 @@ CarriesOut (P.CloseCut depth) c left old told new = (told ≡ None) × (new ≡ 
 CarriesOut P.BackIntoFence c left old told new = ⊥
 CarriesOut P.BackIntoCut c left old told new = ⊥
 
+-- what a plan comes to where no step is left
+abbrev pub EndsBy : Plan → List Point → Option Told → List Point → Type 0
+EndsBy P.BackIntoFence old told new = (told ≡ Some V.Aborted) × (new ≡ old)
+EndsBy P.BackIntoCut old told new = (told ≡ None) × (new ≡ below old)
+EndsBy plan old told new = (told ≡ Some V.Limit) × (new ≡ old)
+
 -- the stack once the deferred part at its top is answered
 abbrev pub answered : Option PatId → List Point → List Point
 answered None points = below points
