@@ -1,5 +1,5 @@
 -- The oldest points of a stack, which stay where a cut is closed.
-use Rattle.std.proofs.Common.{◌≡◌, ℕ, suc, ◌-◌, ◌≤◌, ◌<◌, List, [], ◌∷◌, ◌++◌, Option, Some, length, map, take, drop, slice_get, get_or, reverse, refl, ◌∙◌}
+use Rattle.std.proofs.Common.{◌≡◌, ℕ, suc, ◌-◌, ◌≤◌, ◌<◌, List, [], ◌∷◌, ◌++◌, Option, Some, None, length, map, take, drop, slice_get, get_or, reverse, refl, ◌∙◌}
 use Rattle.std.proofs.Common.{sym, ap, subst, arith, append_assoc, length-drop}
 use Rattle.std.proofs.Math.Seq.{drop-append_seam}
 use Rattle.std.proofs.lemmas.List.{reverse-append, length-reverse, take-append-drop, drop-map}
@@ -62,10 +62,10 @@ module _ (records : List GoalRecord) (pending : List Pending) (top : Option Held
   all : Fits (length records) (length pending) (point ∷ reverse below)
   all = fits records pending top below point is holds
 
-  pub cut_holds : Holds records pending (Some record { goals = goals; cursor = point.cursor; mark = Enter; floor = floor; assigned = point.assigned }) kept
+  pub cut_holds : Holds records pending (Some record { goals = goals; cursor = point.cursor; next = None; floor = floor; assigned = point.assigned }) kept
   cut_holds = record { falls = holds.falls; fits = (omega (arith, near, all.0), omega (arith, low, all.1), all.2, fit) }
 
-  pub cut_points : points_of records pending (Some record { goals = goals; cursor = point.cursor; mark = Enter; floor = floor; assigned = point.assigned }) kept
+  pub cut_points : points_of records pending (Some record { goals = goals; cursor = point.cursor; next = None; floor = floor; assigned = point.assigned }) kept
       ≡ cut_back depth (points_of records pending top below)
   cut_points =
       let size : length (map (point_of records pending) (reverse below)) - depth ≡ length below - depth =

@@ -7,12 +7,13 @@ use Rattle.std.specs.Option.{option_to_list, MatchOption}
 use Rattle.std.proofs.lemmas.Bool.{eq-eqb, ne_eqb}
 use Rattle.sno_match.specs.declared.event.Pending.{Pending}
 use Rattle.sno_match.specs.declared.goal.Goal.{Goal}
-use Rattle.sno_match.specs.declared.goal.Mark.TheVariants.{Enter, Next}
+use Rattle.sno_match.specs.declared.goal.Mark.{Mark}
+use Rattle.sno_match.specs.declared.goal.Mark.TheVariants.{Enter}
 use Rattle.sno_match.specs.declared.shared.GoalRecord.{GoalRecord}
 use Rattle.sno_match.specs.declared.shared.Held.{Held}
 use Rattle.sno_match.specs.Point.{Point, rest_of, with_front, replaced, branched, closed, below as points_below}
 use Rattle.sno_match.specs.Top.{first_point}
-use Rattle.sno_match.specs.inner.Shared.{goals_at, goals_of, Falls, Fits, Holds, Extends, point_of, points_of, held_of}
+use Rattle.sno_match.specs.inner.Shared.{goals_at, goals_of, Falls, Fits, Holds, Extends, marked, point_of, points_of, held_of}
 
 false_or_true : false ≡ true → ⊥
 false_or_true e = absurd (cc)
@@ -116,9 +117,9 @@ same_points records others pending entries count assigned [] goals waits fits = 
 same_points records others pending entries count assigned (held ∷ under) goals waits fits =
     let rest = same_points records others pending entries held.floor held.assigned under (λ n h. goals n (omega (arith, h, fits.1)))
     (λ n h. waits n (omega (arith, h, fits.2))) fits.3 in
-    ap (λ (gs : List Goal). let p : Point = record { goals = gs; cursor = held.cursor; pending = take held.assigned pending; mark = held.mark } in
+    ap (λ (gs : List Goal). let p : Point = record { goals = gs; cursor = held.cursor; pending = take held.assigned pending; mark = marked held.next } in
     p ∷ map (point_of records pending) under) (goals held.goals fits.0) ∙
-    ap (λ (ps : List Pending). let p : Point = record { goals = goals_of others held.goals; cursor = held.cursor; pending = ps; mark = held.mark } in
+    ap (λ (ps : List Pending). let p : Point = record { goals = goals_of others held.goals; cursor = held.cursor; pending = ps; mark = marked held.next } in
     p ∷ map (point_of records pending) under) (waits held.assigned fits.2) ∙
     ap (λ ps. point_of others entries held ∷ ps) rest
 
@@ -157,14 +158,16 @@ module _ (records : List GoalRecord) (goals : ℕ) (d : GoalRecord) (some : 0 < 
   pub first_smaller : (get_or records (goals - 1) d).behind ≤ goals
   first_smaller = omega (arith, first_is.smaller)
 
-pub top_is : (records : List GoalRecord) (pending : List Pending) (top : Option Held) (below : List Held) (point : Held) (goals : List Goal) → top ≡ Some point
-    → goals_of records point.goals ≡ goals →
-    points_of records pending top below ≡ record { goals = goals; cursor = point.cursor; pending = take point.assigned pending; mark = point.mark }
+pub top_is : (records : List GoalRecord) (pending : List Pending) (top : Option Held) (below : List Held) (point : Held) (goals : List Goal) (mark : Mark) → top ≡ Some point
+    → goals_of records point.goals ≡ goals → mark ≡ marked point.next →
+    points_of records pending top below ≡ record { goals = goals; cursor = point.cursor; pending = take point.assigned pending; mark = mark }
     ∷ map (point_of records pending) (reverse below)
-top_is records pending top below point goals e f =
+top_is records pending top below point goals mark e f h =
     ap (λ t. points_of records pending t below) e ∙
-    ap (λ (gs : List Goal). let p : Point = record { goals = gs; cursor = point.cursor; pending = take point.assigned pending; mark = point.mark } in
-    p ∷ map (point_of records pending) (reverse below)) f
+    ap (λ (gs : List Goal). let p : Point = record { goals = gs; cursor = point.cursor; pending = take point.assigned pending; mark = marked point.next } in
+    p ∷ map (point_of records pending) (reverse below)) f ∙
+    ap (λ (m : Mark). let p : Point = record { goals = goals; cursor = point.cursor; pending = take point.assigned pending; mark = m } in
+    p ∷ map (point_of records pending) (reverse below)) (sym h)
 
 -- points within the records that were kept
 same_under : (records new : List GoalRecord) (pending : List Pending) (keep assigned : ℕ) (points : List Held) → Fits keep assigned points
@@ -195,11 +198,11 @@ module _ (records : List GoalRecord) (pending : List Pending) (top : Option Held
     list = puts.list ∙ ap (λ gs. front ++ gs) (cut records keep behind near inside ∙ rest)
 
     pub replaced_holds : point.floor ≤ keep
-        → Holds new pending (Some record { goals = goals; cursor = cursor; mark = Enter; floor = point.floor; assigned = point.assigned }) below
+        → Holds new pending (Some record { goals = goals; cursor = cursor; next = None; floor = point.floor; assigned = point.assigned }) below
     replaced_holds floor = record { falls = puts.falls; fits = (puts.inside, omega (arith, size, floor), fits.2, fits.3) }
 
     pub replaced_points : point.floor ≤ keep
-        → points_of new pending (Some record { goals = goals; cursor = cursor; mark = Enter; floor = point.floor; assigned = point.assigned }) below
+        → points_of new pending (Some record { goals = goals; cursor = cursor; next = None; floor = point.floor; assigned = point.assigned }) below
         ≡ replaced front cursor (points_of records pending top below)
     replaced_points floor =
         ap (λ (gs : List Goal). let p : Point = record { goals = gs; cursor = cursor; pending = take point.assigned pending; mark = Enter } in
@@ -213,39 +216,39 @@ module _ (records : List GoalRecord) (pending : List Pending) (top : Option Held
         (grows : under ≡ room ++ record {
           goals = point.goals;
           cursor = point.cursor;
-          mark = Next next;
+          next = Some next;
           floor = point.floor;
           assigned = point.assigned;
         } ∷ []) where
       turned : reverse under ≡ record {
         goals = point.goals;
         cursor = point.cursor;
-        mark = Next next;
+        next = Some next;
         floor = point.floor;
         assigned = point.assigned;
       } ∷ reverse below
       turned = ap reverse (grows
-          ∙ ap (λ bs. bs ++ record { goals = point.goals; cursor = point.cursor; mark = Next next; floor = point.floor; assigned = point.assigned } ∷ []) same)
-          ∙ reverse-append below (record { goals = point.goals; cursor = point.cursor; mark = Next next; floor = point.floor; assigned = point.assigned } ∷ [])
+          ∙ ap (λ bs. bs ++ record { goals = point.goals; cursor = point.cursor; next = Some next; floor = point.floor; assigned = point.assigned } ∷ []) same)
+          ∙ reverse-append below (record { goals = point.goals; cursor = point.cursor; next = Some next; floor = point.floor; assigned = point.assigned } ∷ [])
 
       fits_stays : Fits keep point.assigned
-          (record { goals = point.goals; cursor = point.cursor; mark = Next next; floor = point.floor; assigned = point.assigned } ∷ reverse below)
+          (record { goals = point.goals; cursor = point.cursor; next = Some next; floor = point.floor; assigned = point.assigned } ∷ reverse below)
       fits_stays = (held, floor, omega arith, fits.3)
 
-      pub branched_holds : Holds new pending (Some record { goals = goals; cursor = cursor; mark = Enter; floor = keep; assigned = point.assigned }) under
+      pub branched_holds : Holds new pending (Some record { goals = goals; cursor = cursor; next = None; floor = keep; assigned = point.assigned }) under
       branched_holds = record {
         falls = puts.falls;
         fits = (puts.inside, omega (arith, size), fits.2, subst (Fits keep point.assigned) (sym turned) fits_stays);
       }
 
-      pub branched_points : points_of new pending (Some record { goals = goals; cursor = cursor; mark = Enter; floor = keep; assigned = point.assigned }) under
+      pub branched_points : points_of new pending (Some record { goals = goals; cursor = cursor; next = None; floor = keep; assigned = point.assigned }) under
           ≡ branched front cursor next (points_of records pending top below)
       branched_points =
           ap (λ (gs : List Goal). let p : Point = record { goals = gs; cursor = cursor; pending = take point.assigned pending; mark = Enter } in
           p ∷ map (point_of new pending) (reverse under)) list ∙
           ap (λ ps. with_front front cursor (point_of records pending point) ∷ ps)
           (ap (map (point_of new pending)) turned ∙ same_under records new pending keep point.assigned
-          (record { goals = point.goals; cursor = point.cursor; mark = Next next; floor = point.floor; assigned = point.assigned } ∷ reverse below)
+          (record { goals = point.goals; cursor = point.cursor; next = Some next; floor = point.floor; assigned = point.assigned } ∷ reverse below)
           fits_stays inside puts.kept) ∙
           ap (branched front cursor next) (sym stacked)
 
@@ -255,12 +258,12 @@ module _ (records : List GoalRecord) (pending : List Pending) (top : Option Held
     none_put = subst (λ rs. Extends rs behind [] records behind) (sym (take_all (length records) records (omega arith)))
         (extends_none records behind (omega (arith, near, fits.0)) holds.falls)
 
-    pub first_dropped_holds : Holds records pending (Some record { goals = behind; cursor = cursor; mark = Enter; floor = point.floor; assigned = point.assigned })
+    pub first_dropped_holds : Holds records pending (Some record { goals = behind; cursor = cursor; next = None; floor = point.floor; assigned = point.assigned })
         below
     first_dropped_holds = replaced_holds records [] cursor behind (length records) behind rest (omega (arith, near, fits.0)) (omega arith) none_put fits.1
 
     pub first_dropped_points : (front : List Goal) → (length front == 0) ≡ true →
-        points_of records pending (Some record { goals = behind; cursor = cursor; mark = Enter; floor = point.floor; assigned = point.assigned }) below
+        points_of records pending (Some record { goals = behind; cursor = cursor; next = None; floor = point.floor; assigned = point.assigned }) below
         ≡ replaced front cursor (points_of records pending top below)
     first_dropped_points [] h = replaced_points records [] cursor behind (length records) behind rest (omega (arith, near, fits.0)) (omega arith) none_put fits.1
     first_dropped_points (goal ∷ front) h = absurd (false_or_true (sym (ne_eqb (suc (length front)) 0 (λ e. omega arith)) ∙ h))
@@ -268,7 +271,7 @@ module _ (records : List GoalRecord) (pending : List Pending) (top : Option Held
   -- an entry behind the point's own
   module _ (entries : List Pending) (assignment : Pending) (behind : ℕ) (rest : goals_of records behind ≡ rest_of (goals_of records point.goals))
       (near : behind ≤ point.goals)
-      (puts : entries ≡ take point.assigned pending ++ assignment ∷ []) where
+      (puts : entries ≡ take point.assigned pending ++ assignment ∷ []) (assigned : ℕ) (more : assigned ≡ point.assigned + 1) where
     own : length (take point.assigned pending) ≡ point.assigned
     own = length-take-le point.assigned pending fits.2
 
@@ -276,26 +279,26 @@ module _ (records : List GoalRecord) (pending : List Pending) (top : Option Held
     entries_size = ap length puts ∙ omega (arith, own, length-append (take point.assigned pending) (assignment ∷ []))
 
     pub closed_holds : Holds records entries
-        (Some record { goals = behind; cursor = point.cursor; mark = Enter; floor = point.floor; assigned = point.assigned + 1 }) below
+        (Some record { goals = behind; cursor = point.cursor; next = None; floor = point.floor; assigned = assigned }) below
     closed_holds = record {
       falls = holds.falls;
       fits = (
         omega (arith, near, fits.0),
         fits.1,
-        omega (arith, entries_size),
-        fits_wider point.floor point.assigned point.floor (point.assigned + 1)
+        omega (arith, entries_size, more),
+        fits_wider point.floor point.assigned point.floor assigned
             (reverse below) (omega arith) (omega arith) fits.3,
       );
     }
 
-    all_own : take (point.assigned + 1) entries ≡ take point.assigned pending ++ assignment ∷ []
-    all_own = take_all (point.assigned + 1) entries (omega (arith, entries_size)) ∙ puts
+    all_own : take assigned entries ≡ take point.assigned pending ++ assignment ∷ []
+    all_own = take_all assigned entries (omega (arith, entries_size, more)) ∙ puts
 
     pub closed_points : points_of records entries
-        (Some record { goals = behind; cursor = point.cursor; mark = Enter; floor = point.floor; assigned = point.assigned + 1 }) below
+        (Some record { goals = behind; cursor = point.cursor; next = None; floor = point.floor; assigned = assigned }) below
         ≡ closed assignment (points_of records pending top below)
     closed_points =
-        ap (λ (gs : List Goal). let p : Point = record { goals = gs; cursor = point.cursor; pending = take (point.assigned + 1) entries; mark = Enter } in
+        ap (λ (gs : List Goal). let p : Point = record { goals = gs; cursor = point.cursor; pending = take assigned entries; mark = Enter } in
         p ∷ map (point_of records entries) (reverse below)) rest ∙
         ap (λ (ps : List Pending). let p : Point = record {
           goals = rest_of (goals_of records point.goals);
@@ -345,8 +348,8 @@ module _ (records : List GoalRecord) (pending : List Pending) (top : Option Held
 
 pub begun_points : (records new : List GoalRecord) (pending : List Pending) (below : List Held) (goal : Goal) (cursor goals : ℕ) → below ≡ []
     → Extends (take 0 records) 0 (goal ∷ []) new goals →
-    points_of new pending (Some record { goals = goals; cursor = cursor; mark = Enter; floor = 0; assigned = 0 }) below ≡ first_point goal cursor ∷ []
+    points_of new pending (Some record { goals = goals; cursor = cursor; next = None; floor = 0; assigned = 0 }) below ≡ first_point goal cursor ∷ []
 begun_points records new pending below goal cursor goals none puts =
-    ap (λ bs. points_of new pending (Some record { goals = goals; cursor = cursor; mark = Enter; floor = 0; assigned = 0 }) bs) none ∙
+    ap (λ bs. points_of new pending (Some record { goals = goals; cursor = cursor; next = None; floor = 0; assigned = 0 }) bs) none ∙
     ap (λ (gs : List Goal). let p : Point = record { goals = gs; cursor = cursor; pending = []; mark = Enter } in p ∷ [])
     (puts.list ∙ ap (λ gs. goal ∷ gs) (no_goals (reverse (take 0 records))))

@@ -18,6 +18,9 @@ use sno_value::PatId;
 use std::alloc::{AllocError, Global};
 use std::marker::Model;
 
+/// How many bytes a subject has at most: a cursor is kept in 32 bits.
+const MOST_BYTES: usize = 4_294_967_295;
+
 /// What the next call may be.
 #[derive(Clone, Copy, Drop)]
 pub(crate) enum State {
@@ -52,6 +55,7 @@ pub struct Engine<P: Points> {
 }
 
 impl<P: Points> Model for Engine<P> {
+    ghost use Rattle.std.specs.Prelude.{length, ◌≤◌};
     ghost use Rattle.sno_match.specs.Matching.{Matching};
     ghost use Rattle.sno_match.specs.inner.Running.{IsMatch, seen};
     ghost use Rattle.sno_pattern.specs.Looks.{AreTrue};
@@ -64,12 +68,12 @@ impl<P: Points> Model for Engine<P> {
     ghost invariant = { λ m. IsMatch
         (seen m.lent.value m.pattern m.subject.items m.anchored m.limit m.answers.items m.told m.steps m.state
         m.way.items (P.points m.points) (P.records m.points)) m.start (P.points m.points) m.state
-        × AreTrue m.lent.value m.subject.items m.looks };
+        × AreTrue m.lent.value m.subject.items m.looks × (length m.subject.items ≤ 4294967295) };
 }
 
 impl<P: Points> Engine<P> {
     /// A match of a pattern in a subject: from every start in rising order or, where it is anchored, from 0 alone; with
-    /// at most `limit` steps. It copies the subject.
+    /// at most `limit` steps. It copies the subject. One of more than 4,294,967,295 bytes is want of memory.
     pub fn new(
         alloc: Global,
         patterns: &Patterns,
@@ -87,7 +91,8 @@ impl<P: Points> Engine<P> {
         Ok(made)
     }
 
-    /// A match as `new` gives it, of a subject that is the match's own from then on. It takes no memory for that.
+    /// A match as `new` gives it, of a subject that is the match's own from then on. It takes no memory for that. A
+    /// longer subject than `new` takes is want of memory here too.
     pub fn over(
         alloc: Global,
         patterns: &Patterns,
@@ -100,6 +105,9 @@ impl<P: Points> Engine<P> {
         ensures begins { IfOk result (λ m. m ≡ begins patterns.now pattern subject.items anchored limit m.records) }
         ensures counts { IfOk result (λ m. IsCounted m) }
     {
+        if subject.len() > MOST_BYTES {
+            return Err(AllocError);
+        }
         let mut points = P::empty(alloc);
         points.begin(Goal::Match(pattern), 0)?;
         let looks = Looks::new(alloc);
@@ -121,7 +129,8 @@ impl<P: Points> Engine<P> {
     }
 
     /// Begins a match as `new` does, with the lists of the one before: they keep their room, and of what they held
-    /// nothing is left. Where memory is refused the match before goes on.
+    /// nothing is left. Where memory is refused the match before goes on, and a longer subject than `new` takes is want
+    /// of memory.
     pub fn begin_again(
         &mut self,
         patterns: &Patterns,
@@ -137,6 +146,9 @@ impl<P: Points> Engine<P> {
         ensures counts { IsCounted self.new }
     {
         let more = subject.len().saturating_sub(self.subject.len());
+        if subject.len() > MOST_BYTES {
+            return Err(AllocError);
+        }
         self.subject.reserve(more)?;
         self.points.begin(Goal::Match(pattern), 0)?;
         self.lent = Snapshot::of(patterns);

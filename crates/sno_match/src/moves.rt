@@ -34,6 +34,7 @@ pub(crate) fn make_move<P: Points>(
     requires some { HasPoint (P.points points.old) }
     requires steps { steps.old ≤ limit }
     requires looks { AreTrue patterns.now subject.now looks.old }
+    requires small { length subject.now ≤ 4294967295 }
     ensures looks { AreTrue patterns.now subject.now looks.new }
     ensures stack { IsStack patterns.now subject.now (P.points points.new) }
     ensures cuts { HasCuts patterns.now (limit - steps.new) (P.points points.new) }
@@ -102,6 +103,7 @@ fn move_at_limit<P: Points>(
     requires inside { cursor ≤ length subject.now }
     requires next { MarkFits patterns.now subject.now mark (goal ∷ []) cursor }
     requires looks { AreTrue patterns.now subject.now looks.old }
+    requires small { length subject.now ≤ 4294967295 }
     ensures looks { AreTrue patterns.now subject.now looks.new }
     ensures ends { (plan : Plan) × IsPlan patterns.now subject.now goal cursor mark plan
         × EndsBy plan (P.points points.old) result (P.points points.new) }
@@ -240,7 +242,9 @@ fn enter_cut<P: Points>(
     ensures err { OnErr result ((P.points points.new ≡ P.points points.old)
         × (P.records points.new ≡ P.records points.old)) }
 {
-    let depth = points.depth() - 1;
+    let Ok(depth) = u32::try_from(points.depth() - 1) else {
+        return Err(AllocError);
+    };
     let close = Goal::CloseCut { left, depth };
     points.branch(&[Goal::Match(body), close], cursor, left as usize)?;
     Ok(())

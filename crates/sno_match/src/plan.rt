@@ -62,6 +62,7 @@ pub(crate) fn plan_of(
 ) -> Plan
     requires known { IsKnown patterns.now goal }
     requires inside { cursor ≤ length subject.now }
+    requires small { length subject.now ≤ 4294967295 }
     requires next { MarkFits patterns.now subject.now mark (goal ∷ []) cursor }
     requires looks { AreTrue patterns.now subject.now looks.old }
     ensures looks { AreTrue patterns.now subject.now looks.new }
@@ -90,6 +91,7 @@ fn enter_goal(
 ) -> Plan
     requires known { IsKnown patterns.now goal }
     requires inside { cursor ≤ length subject.now }
+    requires small { length subject.now ≤ 4294967295 }
     requires looks { AreTrue patterns.now subject.now looks.old }
     ensures looks { AreTrue patterns.now subject.now looks.new }
     ensures plan { IsPlan patterns.now subject.now goal cursor Mark.Enter result }
@@ -99,17 +101,17 @@ fn enter_goal(
         Goal::Match(id) => enter_pattern(patterns, looks, subject, id, cursor),
         Goal::CloseCond { target, start } => Plan::Close(Pending {
             target,
-            start,
+            start: start as usize,
             end: cursor,
         }),
         Goal::CloseImm { target, start } => Plan::Assign(Pending {
             target,
-            start,
+            start: start as usize,
             end: cursor,
         }),
-        Goal::CloseCut { left: _left, depth } => Plan::CloseCut(depth),
+        Goal::CloseCut { left: _left, depth } => Plan::CloseCut(depth as usize),
         Goal::CloseRepeat { arbno, start } => {
-            if cursor == start {
+            if cursor == start as usize {
                 Plan::Fail
             } else {
                 Plan::Replace(Front::One(Goal::Match(arbno)), cursor)
@@ -128,6 +130,7 @@ fn enter_pattern(
 ) -> Plan
     requires known { id.0 < length patterns.now }
     requires inside { cursor ≤ length subject.now }
+    requires small { length subject.now ≤ 4294967295 }
     requires looks { AreTrue patterns.now subject.now looks.old }
     ensures looks { AreTrue patterns.now subject.now looks.new }
     ensures plan { IsPlan patterns.now subject.now (Goal.Match id) cursor Mark.Enter result }
@@ -141,14 +144,14 @@ fn enter_pattern(
         Shape::Cond(p, target) => {
             let close = Goal::CloseCond {
                 target,
-                start: cursor,
+                start: cursor as u32,
             };
             Plan::Replace(Front::Two(Goal::Match(p), close), cursor)
         }
         Shape::Imm(p, target) => {
             let close = Goal::CloseImm {
                 target,
-                start: cursor,
+                start: cursor as u32,
             };
             Plan::Replace(Front::Two(Goal::Match(p), close), cursor)
         }
@@ -195,6 +198,7 @@ fn next_of_pattern(
 ) -> Plan
     requires known { id.0 < length patterns.now }
     requires inside { cursor ≤ length subject.now }
+    requires small { length subject.now ≤ 4294967295 }
     requires next { HasNext (tree patterns.now id.0) subject.now cursor at }
     requires looks { AreTrue patterns.now subject.now looks.old }
     ensures looks { AreTrue patterns.now subject.now looks.new }
@@ -207,7 +211,7 @@ fn next_of_pattern(
         Shape::Arbno(p) => {
             let close = Goal::CloseRepeat {
                 arbno: id,
-                start: cursor,
+                start: cursor as u32,
             };
             Plan::Replace(Front::Two(Goal::Match(p), close), cursor)
         }

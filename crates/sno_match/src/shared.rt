@@ -2,7 +2,7 @@
 ghost use Rattle.std.specs.Prelude.{◌≡◌, ℕ, ◌+◌, ◌≤◌, [], ◌∷◌, ◌++◌, length, reverse, take, vec_len, vec_capacity};
 ghost use Rattle.std.specs.Prelude.{IfOk, IfNone, IfSome, OnOk, OnErr};
 ghost use Rattle.sno_match.specs.Point.{rest_of};
-ghost use Rattle.sno_match.specs.inner.Shared.{Falls, Fits, Extends, goals_of};
+ghost use Rattle.sno_match.specs.inner.Shared.{Falls, Fits, Extends, goals_of, marked};
 
 use crate::event::Pending;
 use crate::goal::{Goal, Mark, Top};
@@ -15,22 +15,22 @@ use std::marker::Model;
 struct GoalRecord {
     goal: Goal,
     /// The number of the record behind, which is a smaller one, or 0 where no goal is left.
-    behind: usize,
+    behind: u32,
 }
 
-/// A resumption point. Its lists are numbers.
+/// A resumption point. Its lists are numbers, and all its numbers have 32 bits, since a match may hold many points.
 #[derive(Clone, Copy, Drop)]
 struct Held {
     /// The number of its first goal's record, or 0 where no goal is left.
-    goals: usize,
+    goals: u32,
     /// Where the first goal begins.
-    cursor: usize,
-    /// Whether the first goal is to be entered, or where its next alternative goes on.
-    mark: Mark,
+    cursor: u32,
+    /// Where the next alternative of the first goal goes on, if it was entered.
+    next: Option<u32>,
     /// The points below it need no record past this number.
-    floor: usize,
+    floor: u32,
     /// How many entries of the pending list are its own: the first ones.
-    assigned: usize,
+    assigned: u32,
 }
 
 /// A stack of points: the newest, and those below it with the newest of them last. Record k has the number k + 1.
@@ -93,13 +93,13 @@ impl Points for SharedGoals {
         };
         match first_of(&self.records, point.goals) {
             None => Top::Complete {
-                cursor: point.cursor,
-                mark: point.mark,
+                cursor: point.cursor as usize,
+                mark: mark_of(point.next),
             },
             Some(goal) => Top::Open {
                 goal,
-                cursor: point.cursor,
-                mark: point.mark,
+                cursor: point.cursor as usize,
+                mark: mark_of(point.next),
             },
         }
     }
@@ -108,12 +108,13 @@ impl Points for SharedGoals {
         let Some(point) = self.top else {
             return Ok(());
         };
+        let cursor = in_32_bits(cursor)?;
         let behind = behind_first(&self.records, point.goals);
         if front.is_empty() {
             self.top = Some(Held {
                 goals: behind,
                 cursor,
-                mark: Mark::Enter,
+                next: None,
                 floor: point.floor,
                 assigned: point.assigned,
             });
@@ -124,7 +125,7 @@ impl Points for SharedGoals {
         self.top = Some(Held {
             goals,
             cursor,
-            mark: Mark::Enter,
+            next: None,
             floor: point.floor,
             assigned: point.assigned,
         });
@@ -135,6 +136,8 @@ impl Points for SharedGoals {
         let Some(point) = self.top else {
             return Ok(());
         };
+        let cursor = in_32_bits(cursor)?;
+        let next = in_32_bits(next)?;
         self.below.reserve(1)?;
         let behind = behind_first(&self.records, point.goals);
         let keep = larger(point.goals, point.floor);
@@ -142,14 +145,14 @@ impl Points for SharedGoals {
         self.below.push_reserved(Held {
             goals: point.goals,
             cursor: point.cursor,
-            mark: Mark::Next(next),
+            next: Some(next),
             floor: point.floor,
             assigned: point.assigned,
         });
         self.top = Some(Held {
             goals,
             cursor,
-            mark: Mark::Enter,
+            next: None,
             floor: keep,
             assigned: point.assigned,
         });
@@ -160,13 +163,14 @@ impl Points for SharedGoals {
         let Some(point) = self.top else {
             return Ok(());
         };
-        put_pending(&mut self.pending, point.assigned, assignment)?;
+        let assigned = in_32_bits(point.assigned as usize + 1)?;
+        put_pending(&mut self.pending, point.assigned as usize, assignment)?;
         self.top = Some(Held {
             goals: behind_first(&self.records, point.goals),
             cursor: point.cursor,
-            mark: Mark::Enter,
+            next: None,
             floor: point.floor,
-            assigned: point.assigned + 1,
+            assigned,
         });
         Ok(())
     }
@@ -178,7 +182,7 @@ impl Points for SharedGoals {
             self.top = Some(Held {
                 goals,
                 cursor: point.cursor,
-                mark: Mark::Enter,
+                next: None,
                 floor,
                 assigned: point.assigned,
             });
@@ -188,25 +192,26 @@ impl Points for SharedGoals {
     fn pop(&mut self) {
         if let Some(point) = self.top {
             self.top = self.below.pop();
-            self.records.truncate(point.floor);
+            self.records.truncate(point.floor as usize);
         }
     }
 
     fn finish(&mut self, way: &mut Vec<Pending>) -> Result<(), AllocError> {
         if let Some(point) = self.top {
-            copy_out(way, &self.pending[..point.assigned])?;
+            copy_out(way, &self.pending[..point.assigned as usize])?;
             self.pop();
         }
         Ok(())
     }
 
     fn begin(&mut self, goal: Goal, cursor: usize) -> Result<(), AllocError> {
+        let cursor = in_32_bits(cursor)?;
         let goals = put_front(&mut self.records, 0, 0, &[goal])?;
         self.below.clear();
         self.top = Some(Held {
             goals,
             cursor,
-            mark: Mark::Enter,
+            next: None,
             floor: 0,
             assigned: 0,
         });
@@ -214,19 +219,41 @@ impl Points for SharedGoals {
     }
 }
 
+/// What is due at a point.
+fn mark_of(next: Option<u32>) -> Mark
+    ensures { result ≡ marked next }
+{
+    match next {
+        None => Mark::Enter,
+        Some(at) => Mark::Next(at as usize),
+    }
+}
+
+/// The same number in 32 bits. A greater one is refused as memory is: what it counts doesn't fit.
+fn in_32_bits(n: usize) -> Result<u32, AllocError>
+    ensures { IfOk result (λ same. same ≡ n) }
+{
+    let Ok(same) = u32::try_from(n) else {
+        return Err(AllocError);
+    };
+    Ok(same)
+}
+
 /// Cuts the records back to the first `keep`, and puts these goals in front of a list of those.
 fn put_front(
     records: &mut Vec<GoalRecord>,
-    keep: usize,
-    behind: usize,
+    keep: u32,
+    behind: u32,
     front: &[Goal],
-) -> Result<usize, AllocError>
+) -> Result<u32, AllocError>
     requires falls { Falls (reverse records.old.items) }
     requires keep { keep ≤ length records.old.items }
     requires behind { behind ≤ keep }
     ensures ok { IfOk result (λ goals. Extends (take keep records.old.items) behind front.now records.new.items goals) }
     ensures err { OnErr result (records.new.items ≡ records.old.items) }
 {
+    let keep = keep as usize;
+    in_32_bits(keep + front.len())?;
     records.reserve((keep + front.len()).saturating_sub(records.len()))?;
     records.truncate(keep);
     let goals = link(records, behind, front);
@@ -234,7 +261,8 @@ fn put_front(
 }
 
 /// Puts these goals in front of a list: the number of the new one.
-fn link(records: &mut Vec<GoalRecord>, behind: usize, front: &[Goal]) -> usize
+fn link(records: &mut Vec<GoalRecord>, behind: u32, front: &[Goal]) -> u32
+    requires few { length records.old.items + length front.now ≤ 4294967295 }
     requires room { vec_len records.old + length front.now ≤ vec_capacity records.old }
     requires falls { Falls (reverse records.old.items) }
     requires behind { behind ≤ length records.old.items }
@@ -246,13 +274,13 @@ fn link(records: &mut Vec<GoalRecord>, behind: usize, front: &[Goal]) -> usize
             goal: *goal,
             behind: goals,
         });
-        goals = records.len();
+        goals = records.len() as u32;
     }
     goals
 }
 
 /// The first goal of a list.
-fn first_of(records: &[GoalRecord], goals: usize) -> Option<Goal>
+fn first_of(records: &[GoalRecord], goals: u32) -> Option<Goal>
     requires falls { Falls (reverse records.now) }
     requires inside { goals ≤ length records.now }
     ensures none { IfNone result (goals_of records.now goals ≡ []) }
@@ -261,11 +289,11 @@ fn first_of(records: &[GoalRecord], goals: usize) -> Option<Goal>
     if goals == 0 {
         return None;
     }
-    Some(records[goals - 1].goal)
+    Some(records[goals as usize - 1].goal)
 }
 
 /// The list behind the first goal of a list.
-fn behind_first(records: &[GoalRecord], goals: usize) -> usize
+fn behind_first(records: &[GoalRecord], goals: u32) -> u32
     requires falls { Falls (reverse records.now) }
     requires inside { goals ≤ length records.now }
     ensures value { goals_of records.now result ≡ rest_of (goals_of records.now goals) }
@@ -274,12 +302,12 @@ fn behind_first(records: &[GoalRecord], goals: usize) -> usize
     if goals == 0 {
         return 0;
     }
-    records[goals - 1].behind
+    records[goals as usize - 1].behind
 }
 
 /// Only the oldest points stay, so many. They and a newest point that needed none past `floor` need none past the
 /// number that is given.
-fn drop_newer(below: &mut Vec<Held>, count: usize, floor: usize) -> usize
+fn drop_newer(below: &mut Vec<Held>, count: usize, floor: u32) -> u32
     ensures points { below.new.items ≡ take count below.old.items }
     ensures floor { (assigned : ℕ) → Fits floor assigned (reverse below.old.items) → (result ≤ floor)
         × Fits result assigned (reverse below.new.items) }
@@ -292,7 +320,7 @@ fn drop_newer(below: &mut Vec<Held>, count: usize, floor: usize) -> usize
     least
 }
 
-fn larger(first: usize, second: usize) -> usize
+fn larger(first: u32, second: u32) -> u32
     ensures first { first ≤ result }
     ensures second { second ≤ result }
     ensures least { (n : ℕ) → first ≤ n → second ≤ n → result ≤ n }

@@ -3,6 +3,8 @@ use Rattle.std.specs.Prelude.{ℕ, ◌≡◌, ◌≤◌, ◌+◌, eqb, if◌then
 use Rattle.std.specs.Prelude.{length, reverse, take}
 use Rattle.sno_match.specs.declared.event.Pending.{Pending}
 use Rattle.sno_match.specs.declared.goal.Goal.{Goal}
+use Rattle.sno_match.specs.declared.goal.Mark.{Mark}
+use Rattle.sno_match.specs.declared.goal.Mark.TheVariants.{Enter, Next}
 use Rattle.sno_match.specs.declared.shared.GoalRecord.{GoalRecord}
 use Rattle.sno_match.specs.declared.shared.Held.{Held}
 use Rattle.sno_match.specs.Point.{Point}
@@ -21,13 +23,18 @@ abbrev pub Falls : List GoalRecord → Type 0
 Falls [] = Unit {0}
 Falls (newest ∷ older) = (newest.behind ≤ length older) × Falls older
 
+-- a point's first goal is to be entered, or its next alternative goes on from there
+abbrev pub marked : Option ℕ → Mark
+marked None = Enter
+marked (Some at) = Next at
+
 abbrev pub point_of : List GoalRecord → List Pending → Held → Point
 point_of records pending held =
     record {
       goals = goals_of records held.goals;
       cursor = held.cursor;
       pending = take held.assigned pending;
-      mark = held.mark;
+      mark = marked held.next;
     }
 
 -- the newest first

@@ -25,6 +25,7 @@ invariant_of-self-in-Some g c =
           (g.P.Points.records c.make_move.new.points) (rw c.in-Some.is at l) c.state_behind-self-inside.result c.state_behind-self-inside.ensures).0,
       same_looks c.self.inside.lent.value c.args.patterns.now c.self.inside.subject.items c.deref.result.now c.make_move.new.looks
           (ap (λ (x : Matching). x.nodes) c.self.view_is ∙ c.requires.table) c.deref.ensures.value c.in_ok-told-2.ensures.looks,
+      c.self.invariant.2,
     )
 
 pub returns-in-Some-clause-ok : goal.returns-in-Some-clause-ok
@@ -74,6 +75,7 @@ invariant_of-self-in_default g c =
           (g.P.Points.records c.make_move.new.points) (rw c.in_default.is at l) (c.in_ok-told-2.ensures.ok.falls c.in_default.is)).0,
       same_looks c.self.inside.lent.value c.args.patterns.now c.self.inside.subject.items c.deref.result.now c.make_move.new.looks
           (ap (λ (x : Matching). x.nodes) c.self.view_is ∙ c.requires.table) c.deref.ensures.value c.in_ok-told-2.ensures.looks,
+      c.self.invariant.2,
     )
 
 pub returns-in_default-clause-ok : goal.returns-in_default-clause-ok

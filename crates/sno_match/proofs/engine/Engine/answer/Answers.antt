@@ -14,6 +14,7 @@ invariant_of-self g c =
       lent_looks c.args.self.now c.self.inside.lent.value c.of-self-inside.result.value c.args.patterns.now
           c.self.inside.subject.items c.self.inside.looks (ap (λ (x : Matching). x.nodes) c.self.view_is) c.of-self-inside.ensures
           c.requires.table c.self.invariant.1,
+      c.self.invariant.2,
     )
 
 pub returns-in_err-push-clause-told : goal.returns-in_err-push-clause-told
@@ -44,6 +45,7 @@ invariant_of-self-in-Err g c =
       lent_looks c.args.self.now c.self.inside.lent.value c.of-self-inside.result.value
           c.args.patterns.now c.self.inside.subject.items c.self.inside.looks (ap (λ (x : Matching). x.nodes) c.self.view_is) c.of-self-inside.ensures
           c.requires.table c.self.invariant.1,
+      c.self.invariant.2,
     )
 
 pub returns-in-Err-clause-told : goal.returns-in-Err-clause-told
@@ -78,6 +80,7 @@ invariant_of-self-2 g c =
       lent_looks c.args.self.now c.self.inside.lent.value c.of-self-inside.result.value c.args.patterns.now
           c.self.inside.subject.items c.self.inside.looks (ap (λ (x : Matching). x.nodes) c.self.view_is) c.of-self-inside.ensures
           c.requires.table c.self.invariant.1,
+      c.self.invariant.2,
     )
 
 pub returns-clause-told : goal.returns-clause-told

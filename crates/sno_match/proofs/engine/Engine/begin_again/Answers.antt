@@ -1,10 +1,14 @@
-use Rattle.std.proofs.Common.{refl}
+use Rattle.std.proofs.Common.{refl, ap, subst, length, arith}
+use Rattle.sno_match.specs.Matching.{IsCounted}
 use Rattle.sno_match.proofs.CountLaws.{match_counted}
 use Rattle.sno_match.proofs.SessionLaws as laws
 use Rattle.sno_match.proofs.engine.Engine.begin_again.Goals as goal
 
 pub invariant_of-self : goal.invariant_of-self
 invariant_of-self g c = rw c.reserve.ensures.items c.self.invariant
+
+pub returns-then-subject-gt-MOST_BYTES-clause-counts : goal.returns-then-subject-gt-MOST_BYTES-clause-counts
+returns-then-subject-gt-MOST_BYTES-clause-counts g c = subst IsCounted c.self.view_is (match_counted _ _ _ _ c.self.invariant.0 refl)
 
 pub returns-in_err-reserve-clause-counts : goal.returns-in_err-reserve-clause-counts
 returns-in_err-reserve-clause-counts g c =
@@ -26,4 +30,5 @@ invariant_of-self-2 g c = (
       (laws.new_match c.args.patterns.now c.args.pattern c.args.subject.now c.args.anchored c.args.limit (g.P.Points.points c.begin.new.self)
       (g.P.Points.records c.begin.new.self) c.requires c.in_ok-begin.ensures.ok c.in_ok-begin.ensures.records),
   c.clear.ensures c.of-self-inside.result.value c.put_in_place.new.list.items,
+  omega (arith, ap length c.put_in_place.ensures),
 )

@@ -16,6 +16,7 @@ invariant_of-self g c = (
       c.of-self-inside.result.value c.args.patterns.now c.of-self-inside.ensures c.requires.table,
   lent_looks c.args.self.now c.self.inside.lent.value c.of-self-inside.result.value c.args.patterns.now c.self.inside.subject.items c.self.inside.looks
       (ap (λ (x : Matching). x.nodes) c.self.view_is) c.of-self-inside.ensures c.requires.table c.self.invariant.1,
+  c.self.invariant.2,
 )
 
 pub invariant_of-self-2 : goal.invariant_of-self-2
@@ -26,6 +27,7 @@ invariant_of-self-2 g c = (
       c.of-self-inside.result.value c.args.patterns.now c.of-self-inside.ensures c.requires.table,
   lent_looks c.args.self.now c.self.inside.lent.value c.of-self-inside.result.value c.args.patterns.now c.self.inside.subject.items c.self.inside.looks
       (ap (λ (x : Matching). x.nodes) c.self.view_is) c.of-self-inside.ensures c.requires.table c.self.invariant.1,
+  c.self.invariant.2,
 )
 
 pub returns-in-Ended-clause-same : goal.returns-in-Ended-clause-same

@@ -1,3 +1,4 @@
+use Rattle.std.proofs.Common.{arith}
 use Rattle.sno_match.proofs.SessionLaws as laws
 use Rattle.sno_match.proofs.engine.Engine.over.Goals as goal
 
@@ -7,4 +8,5 @@ invariant_of-result g c = (
       (laws.new_match c.args.patterns.now c.args.pattern c.args.subject.items c.args.anchored c.args.limit (g.P.Points.points c.begin.new.self)
       (g.P.Points.records c.begin.new.self) c.requires c.in_ok-begin.ensures.ok c.in_ok-begin.ensures.records),
   c.new-looks.ensures c.of.result.value c.args.subject.items,
+  omega arith,
 )

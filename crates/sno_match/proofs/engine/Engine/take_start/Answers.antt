@@ -39,6 +39,7 @@ invariant_of-self g c =
           (g.P.Points.points c.self.inside.points) c.self.inside.way.items (g.P.Points.records c.self.inside.points) l (S.Ended V.Exhausted) refl).0,
       same_looks c.self.inside.lent.value c.args.patterns.now c.self.inside.subject.items c.deref.result.now c.pass_failing_starts-passed.new.looks
           (ap (λ (x : Matching). x.nodes) c.self.view_is ∙ c.requires.table) c.deref.ensures.value c.pass_failing_starts-passed.ensures.looks,
+      c.self.invariant.2,
     )
 
 pub returns-then-self-clause-ok : goal.returns-then-self-clause-ok
@@ -104,6 +105,7 @@ invariant_of-self-then-steps-self g c =
           (g.P.Points.points c.self.inside.points) c.self.inside.way.items (g.P.Points.records c.self.inside.points) l (S.Ended V.Limit) refl).0,
       same_looks c.self.inside.lent.value c.args.patterns.now c.self.inside.subject.items c.deref.result.now c.pass_failing_starts-passed.new.looks
           (ap (λ (x : Matching). x.nodes) c.self.view_is ∙ c.requires.table) c.deref.ensures.value c.pass_failing_starts-passed.ensures.looks,
+      c.self.invariant.2,
     )
 
 pub returns-then-steps-self-clause-ok : goal.returns-then-steps-self-clause-ok
@@ -176,6 +178,7 @@ invariant_of-self-2 g c =
           (g.P.Points.points c.begin.new.self) c.self.inside.way.items (g.P.Points.records c.begin.new.self) l (omega (arith, size_new, empty, due))).0,
       same_looks c.self.inside.lent.value c.args.patterns.now c.self.inside.subject.items c.deref.result.now c.pass_failing_starts-passed.new.looks
           (ap (λ (x : Matching). x.nodes) c.self.view_is ∙ c.requires.table) c.deref.ensures.value c.pass_failing_starts-passed.ensures.looks,
+      c.self.invariant.2,
     )
 
 pub returns-clause-ok : goal.returns-clause-ok

@@ -12,7 +12,7 @@ invariant_of-self-2 c =
     closed_holds s.records.items s.pending.items s.top s.below.items point c.in-Some.is c.self.invariant
     c.put_pending.new.pending.items c.args.assignment behind
     (subst (λ rs. goals_of rs behind ≡ rest_of (goals_of rs point.goals)) c.deref.ensures.value c.behind_first.ensures.value) c.behind_first.ensures.smaller
-    c.in_ok-put_pending.ensures.ok
+    c.in_ok-put_pending.ensures.ok c.in_ok-assigned.assigned c.in_ok-assigned.ensures
 
 pub returns-clause-ok : goal.returns-clause-ok
 returns-clause-ok c =
@@ -22,5 +22,5 @@ returns-clause-ok c =
     closed_points s.records.items s.pending.items s.top s.below.items point c.in-Some.is c.self.invariant
     c.put_pending.new.pending.items c.args.assignment behind
     (subst (λ rs. goals_of rs behind ≡ rest_of (goals_of rs point.goals)) c.deref.ensures.value c.behind_first.ensures.value) c.behind_first.ensures.smaller
-    c.in_ok-put_pending.ensures.ok ∙
+    c.in_ok-put_pending.ensures.ok c.in_ok-assigned.assigned c.in_ok-assigned.ensures ∙
     ap (λ v. closed c.args.assignment v.points) c.self.view_is

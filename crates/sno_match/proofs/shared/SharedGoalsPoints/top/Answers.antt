@@ -9,8 +9,8 @@ returns-in-None c =
     let s = c.self.inside in (
       take c.in-Some.point.assigned s.pending.items,
       map (point_of s.records.items s.pending.items) (reverse s.below.items),
-      ap (λ v. v.points) (sym c.self.view_is) ∙ top_is s.records.items s.pending.items s.top s.below.items c.in-Some.point [] c.in-Some.is
-          (ap (λ rs. goals_of rs c.in-Some.point.goals) (sym c.deref.ensures.value) ∙ c.in-None.ensures.none),
+      ap (λ v. v.points) (sym c.self.view_is) ∙ top_is s.records.items s.pending.items s.top s.below.items c.in-Some.point [] c.mark_of.result c.in-Some.is
+          (ap (λ rs. goals_of rs c.in-Some.point.goals) (sym c.deref.ensures.value) ∙ c.in-None.ensures.none) c.mark_of.ensures,
     )
 
 pub returns-in-Some-first_of : goal.returns-in-Some-first_of
@@ -21,6 +21,7 @@ returns-in-Some-first_of c =
       take c.in-Some.point.assigned s.pending.items,
       map (point_of s.records.items s.pending.items) (reverse s.below.items),
       ap (λ v. v.points) (sym c.self.view_is) ∙
-          top_is s.records.items s.pending.items s.top s.below.items c.in-Some.point (c.in-Some-first_of.goal ∷ rest) c.in-Some.is
-          (ap (λ rs. goals_of rs c.in-Some.point.goals) (sym c.deref.ensures.value) ∙ c.in-Some-first_of.ensures.some),
+          top_is s.records.items s.pending.items s.top s.below.items c.in-Some.point (c.in-Some-first_of.goal ∷ rest)
+          c.mark_of-in-Some-first_of.result c.in-Some.is
+          (ap (λ rs. goals_of rs c.in-Some.point.goals) (sym c.deref.ensures.value) ∙ c.in-Some-first_of.ensures.some) c.mark_of-in-Some-first_of.ensures,
     )
