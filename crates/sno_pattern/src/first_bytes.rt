@@ -35,8 +35,8 @@ pub(crate) fn add_first_bytes_of_kind(kind: &Kind, set: &mut ByteSet) -> bool
     }
 }
 
-/// Whether a node whose first bytes are known has no end from a cursor, which takes a look at no more bytes than its text
-/// has. It is false for any other node.
+/// Whether a node whose first bytes are known has no end from a cursor, which takes a look at no more bytes than its
+/// text has. It is false for any other node.
 pub(crate) fn kind_fails_at(kind: &Kind, subject: &[u8], at: usize) -> bool
     requires { at ≤ length subject.now }
     ensures { IsTrue result → node_has_end (node_of kind.now) subject.now at ≡ false }

@@ -6,7 +6,8 @@ pub returns-else-is_empty-clause-known : goal.returns-else-is_empty-clause-known
 returns-else-is_empty-clause-known c =
     let some : (length c.in-Text.text.items == 0) ≡ false =
     ap (λ (n : ℕ). n == 0) (sym c.in-Text.text.ok.0) ∙ sym c.is_empty.ensures ∙ c.if-is_empty.false in
-    λ _ s place none. rw c.in-Text.is (text_among c.in-Text.text.items c.args.set.now c.add.new.self s place c.index.result.now some c.index.ensures c.add.ensures none)
+    λ _ s place none. rw c.in-Text.is
+    (text_among c.in-Text.text.items c.args.set.now c.add.new.self s place c.index.result.now some c.index.ensures c.add.ensures none)
 
 pub returns-in-Span-clause-known : goal.returns-in-Span-clause-known
 returns-in-Span-clause-known c =
