@@ -125,5 +125,3 @@ module _ (nodes : List Node) (s : List ℕ) (goal : Numbered) (goals : List Numb
     carried_cuts P.Abort told new p q co = subst (HasCuts nodes left) (sym co.1) (cuts-later nodes left (suc left) (top ∷ rest) (omega arith) k)
     carried_cuts (P.EnterCut body) told new p q co = subst (HasCuts nodes left) (sym co.1) (enters body p.3)
     carried_cuts (P.CloseCut depth) told new p q co = subst (HasCuts nodes left) (sym co.1) (ends p.2.0 depth p.2.1)
-    carried_cuts P.BackIntoFence told new p q co = elim co [ ]
-    carried_cuts P.BackIntoCut told new p q co = elim co [ ]

@@ -1,6 +1,6 @@
 -- The oldest points of a stack, which stay where a cut is closed.
-use Rattle.std.proofs.Common.{◌≡◌, ℕ, suc, ◌-◌, ◌≤◌, ◌<◌, List, [], ◌∷◌, ◌++◌, Option, Some, None, length, map, take, drop, slice_get, get_or, reverse, refl, ◌∙◌}
-use Rattle.std.proofs.Common.{sym, ap, subst, arith, append_assoc, length-drop}
+use Rattle.std.proofs.Common.{◌≡◌, ℕ, suc, ◌-◌, ◌≤◌, ◌<◌, List, [], ◌∷◌, ◌++◌, Option, Some, None, length, map, take, drop, slice_get, get_or}
+use Rattle.std.proofs.Common.{reverse, refl, ◌∙◌, sym, ap, subst, arith, append_assoc, length-drop}
 use Rattle.std.proofs.Math.Seq.{drop-append_seam}
 use Rattle.std.proofs.lemmas.List.{reverse-append, length-reverse, take-append-drop, drop-map}
 use Rattle.sno_match.specs.declared.event.Pending.{Pending}

@@ -1,6 +1,8 @@
 pub mod Walks
 mod Rows
 mod CutRows
+pub mod DueLaws
+pub mod StepLaws
 pub mod SearchLaws
 pub mod ReadingLaws
 pub mod PlanLaws

@@ -16,59 +16,14 @@ use Rattle.sno_match.specs.declared.plan.Plan.TheVariants as P
 use Rattle.sno_match.specs.Search.{Exhausted, Limit, Way, Answer, Gives, emit}
 use Rattle.sno_match.specs.Point.{Point, with_front, replaced, branched, closed, cut_back, below}
 use Rattle.sno_match.specs.inner.Remaining.{goals_of, remaining, resume, AllMarked, AllKnown, AllFit, Fits, MarkFits, HasNext, IsStack}
-use Rattle.sno_match.specs.inner.Plan.{IsPlan, IsDue, IsCut, KeepsScopes, goals_in, point_at}
+use Rattle.sno_match.specs.inner.Plan.{IsPlan, IsDue, IsCut, BacksIntoFence, BacksIntoCut, KeepsScopes, goals_in, point_at}
 use Rattle.sno_match.specs.inner.Scopes.{opens, RiseFrom, HasCuts}
 use Rattle.sno_match.specs.inner.State.{after_move, HasAsked}
-use Rattle.sno_match.specs.inner.Move.{Makes, Costs, CarriesOut, EndsBy, EnteredFails, entries, price, way_after, standing}
+use Rattle.sno_match.specs.inner.Move.{Makes, CarriesOut, EnteredFails, entries, price, way_after, standing}
 use Rattle.sno_match.specs.Top.{Finishes}
 use Rattle.sno_match.proofs.ReadingLaws.{resume-emit, resume-exhausted, emit-none}
 use Rattle.sno_match.proofs.CutLaws.{drop-marked}
 use Rattle.sno_match.proofs.CutMoves.{closes-behind, cuts-below, carried_cuts}
-
-pub plan_due : (nodes : List Node) (s : List ℕ) (goal : Numbered) (c : ℕ) (mark : Mark) (plan : Plan) → IsPlan nodes s goal c mark plan → Costs plan
-    → IsDue nodes s goal c mark
-plan_due nodes s goal c mark (P.Replace front at) p h = p.1
-plan_due nodes s goal c mark (P.Branch front at next) p h = p.1
-plan_due nodes s goal c mark (P.Close a) p h = p.1
-plan_due nodes s goal c mark (P.Assign a) p h = p.1
-plan_due nodes s goal c mark (P.Cursor target) p h = p.1
-plan_due nodes s goal c mark (P.Ask prim expr) p h = p.1
-plan_due nodes s goal c mark P.Fail p h = p.1
-plan_due nodes s goal c mark P.Abort p h = p.1
-plan_due nodes s goal c mark (P.EnterCut body) p h = p.1
-plan_due nodes s goal c mark (P.CloseCut depth) p h = p.1
-plan_due nodes s goal c mark P.BackIntoFence p h = elim h [ ]
-plan_due nodes s goal c mark P.BackIntoCut p h = elim h [ ]
-
-pub costs_of : (plan : Plan) → (plan ≡ P.BackIntoFence → ⊥) → (plan ≡ P.BackIntoCut → ⊥) → Costs plan
-costs_of (P.Replace front at) k l = tt
-costs_of (P.Branch front at next) k l = tt
-costs_of (P.Close a) k l = tt
-costs_of (P.Assign a) k l = tt
-costs_of (P.Cursor target) k l = tt
-costs_of (P.Ask prim expr) k l = tt
-costs_of P.Fail k l = tt
-costs_of P.Abort k l = tt
-costs_of (P.EnterCut body) k l = tt
-costs_of (P.CloseCut depth) k l = tt
-costs_of P.BackIntoFence k l = absurd (k refl)
-costs_of P.BackIntoCut k l = absurd (l refl)
-
--- where no step is left the points stay, or the newest is dropped
-pub ends_keep : (Q : List Point → Type 0) (plan : Plan) (old : List Point) (told : Option Told) (new : List Point)
-    → EndsBy plan old told new → Q old → Q (below old) → Q new
-ends_keep Q (P.Replace front at) old told new e stays drops = subst Q (sym e.1) stays
-ends_keep Q (P.Branch front at next) old told new e stays drops = subst Q (sym e.1) stays
-ends_keep Q (P.Close a) old told new e stays drops = subst Q (sym e.1) stays
-ends_keep Q (P.Assign a) old told new e stays drops = subst Q (sym e.1) stays
-ends_keep Q (P.Cursor target) old told new e stays drops = subst Q (sym e.1) stays
-ends_keep Q (P.Ask prim expr) old told new e stays drops = subst Q (sym e.1) stays
-ends_keep Q P.Fail old told new e stays drops = subst Q (sym e.1) stays
-ends_keep Q P.Abort old told new e stays drops = subst Q (sym e.1) stays
-ends_keep Q (P.EnterCut body) old told new e stays drops = subst Q (sym e.1) stays
-ends_keep Q (P.CloseCut depth) old told new e stays drops = subst Q (sym e.1) stays
-ends_keep Q P.BackIntoFence old told new e stays drops = subst Q (sym e.1) stays
-ends_keep Q P.BackIntoCut old told new e stays drops = subst Q (sym e.1) drops
 
 AllKnown-append : (nodes : List Node) (xs ys : List Numbered) → AllKnown nodes xs → AllKnown nodes ys → AllKnown nodes (xs ++ ys)
 AllKnown-append nodes [] ys h k = k
@@ -165,8 +120,6 @@ module _ (nodes : List Node) (s : List ℕ) (goal : Numbered) (goals : List Numb
         (one_step None new made co.1 tt (λ e. cc) (omega arith) refl (omega (arith, length-drop (length rest - depth) rest))
         (λ answers. p.0 start left_behind goals pending rest answers (sym cuts.scoped.0) rising
         ∙ sym (emit-none (remaining nodes s start made answers left_behind))))
-    carried marked cuts P.BackIntoFence told new p q co = elim co [ ]
-    carried marked cuts P.BackIntoCut told new p q co = elim co [ ]
 
   -- the point without its first goal, and with others in its place
   with_front-fits : (front : List Numbered) (at : ℕ) → Fits nodes s top → AllKnown nodes front → at ≤ length s → Fits nodes s (with_front front at top)
@@ -219,15 +172,14 @@ module _ (nodes : List Node) (s : List ℕ) (goal : Numbered) (goals : List Numb
         fit = (record { known = st.fit.0.known.1; inside = st.fit.0.inside; next = tt }, drop-fit nodes s (length rest - depth) rest st.fit.1);
         marked = drop-marked s 0 nodes (length rest - depth) rest st.marked;
       })
-  kept left P.BackIntoFence told new st p co = elim co [ ]
-  kept left P.BackIntoCut told new st p co = elim co [ ]
 
 -- a pattern that is entered in vain leads to the points below
 vain_goes : (nodes : List Node) (s : List ℕ) (start : ℕ) (goal : Numbered) (goals : List Numbered) (c : ℕ) (pending : List Pending) (mark : Mark)
     (rest : List Point) (cost : ℕ) → AllMarked rest → EnteredFails nodes s goal mark cost c → (answers : List Answer) (due left : ℕ) → due ≡ left + cost →
     remaining nodes s start (point_at goal goals c pending mark ∷ rest) answers due ≡ remaining nodes s start rest answers left
 vain_goes nodes s start (N.Match id) goals c pending Enter rest cost marked fails answers due left e =
-    ap (resume nodes s start rest) (fails.fails start (goals_of nodes goals) pending answers due left e) ∙ resume-exhausted nodes s start rest answers left marked
+    ap (resume nodes s start rest) (fails.fails start (goals_of nodes goals) pending answers due left e)
+    ∙ resume-exhausted nodes s start rest answers left marked
 vain_goes nodes s start (N.Match id) goals c pending (Next at) rest cost marked fails answers due left e = elim fails [ ]
 vain_goes nodes s start (N.CloseCond target from) goals c pending mark rest cost marked fails answers due left e = elim fails [ ]
 vain_goes nodes s start (N.CloseImm target from) goals c pending mark rest cost marked fails answers due left e = elim fails [ ]
@@ -271,9 +223,9 @@ module _ (nodes : List Node) (s : List ℕ) (old : List Point) (goal : Numbered)
           (subst (λ n. HasCuts nodes n (point_at goal goals c pending mark ∷ rest)) one_less cuts_here) plan told new p q carries
 
     -- a step is due and none is left
-    pub limit_at : (plan : Plan) → steps ≡ limit → IsPlan nodes s goal c mark plan → Costs plan
+    pub limit_at : steps ≡ limit → IsDue nodes s goal c mark
         → Makes nodes s start limit old steps was (Some V.Limit) old steps was
-    limit_at plan none p h =
+    limit_at none due =
         let zero_left : limit - steps ≡ 0 = omega (arith, none) in
         record {
           steps_in = omega (arith, none);
@@ -285,12 +237,12 @@ module _ (nodes : List Node) (s : List ℕ) (old : List Point) (goal : Numbered)
           pending = refl;
           leads = λ answers.
               ap (λ (k : ℕ). remaining nodes s start old answers k) zero_left ∙
-              ap (λ (ps : List Point). remaining nodes s start ps answers 0) is ∙ plan_due nodes s goal c mark plan p h start goals pending rest answers ∙
+              ap (λ (ps : List Point). remaining nodes s start ps answers 0) is ∙ due start goals pending rest answers ∙
               ap (λ (k : ℕ). Gives [] answers k Limit) (sym zero_left);
         }
 
     -- FENCE is backed into
-    pub fence_at : steps ≤ limit → IsPlan nodes s goal c mark P.BackIntoFence → Makes nodes s start limit old steps was (Some V.Aborted) old steps was
+    pub fence_at : steps ≤ limit → BacksIntoFence nodes s goal c mark → Makes nodes s start limit old steps was (Some V.Aborted) old steps was
     fence_at within p = record {
       steps_in = within;
       paid = omega arith;
@@ -320,13 +272,14 @@ module _ (nodes : List Node) (s : List ℕ) (old : List Point) (goal : Numbered)
           pending = refl;
           leads = λ answers.
               ap (λ (ps : List Point). remaining nodes s start ps answers (limit - steps)) is ∙
-              vain_goes nodes s start goal goals c pending mark rest cost marked fails answers (limit - steps) (limit - (steps + cost)) (omega (arith, within)) ∙
+              vain_goes nodes s start goal goals c pending mark rest cost marked fails answers (limit - steps) (limit - (steps + cost))
+              (omega (arith, within)) ∙
               ap (λ (ps : List Point). remaining nodes s start ps answers (limit - (steps + cost))) (sym under)
               ∙ sym (emit-none (remaining nodes s start new answers (limit - (steps + cost))));
         }
 
     -- FENCE(P) is backed into
-    pub dropped_at : steps ≤ limit → AllMarked (below old) → IsPlan nodes s goal c mark P.BackIntoCut → (new : List Point) → new ≡ below old
+    pub dropped_at : steps ≤ limit → AllMarked (below old) → BacksIntoCut nodes s goal c mark → (new : List Point) → new ≡ below old
         → Makes nodes s start limit old steps was None new steps was
     dropped_at within m p new e =
         let under : new ≡ rest = e ∙ ap below is in
@@ -346,29 +299,6 @@ module _ (nodes : List Node) (s : List ℕ) (old : List Point) (goal : Numbered)
               ap (λ (ps : List Point). remaining nodes s start ps answers (limit - steps)) (sym under)
               ∙ sym (emit-none (remaining nodes s start new answers (limit - steps)));
         }
-
-    -- what is done where no step is left
-    module _ (none : steps ≡ limit) (m : AllMarked (below old)) (told : Option Told) (new : List Point) where
-      done : (event : Option Told) (points : List Point) → told ≡ event → new ≡ points → Makes nodes s start limit old steps was event points steps was
-          → Makes nodes s start limit old steps was told new steps was
-      done event points e e' h =
-          subst (λ (t : Option Told). Makes nodes s start limit old steps was t new steps was) (sym e)
-          (subst (λ (ps : List Point). Makes nodes s start limit old steps was event ps steps was) (sym e') h)
-
-      pub spent_at : (plan : Plan) → IsPlan nodes s goal c mark plan → EndsBy plan old told new
-          → Makes nodes s start limit old steps was told new steps was
-      spent_at (P.Replace front at) p e = done (Some V.Limit) old e.0 e.1 (limit_at (P.Replace front at) none p tt)
-      spent_at (P.Branch front at next) p e = done (Some V.Limit) old e.0 e.1 (limit_at (P.Branch front at next) none p tt)
-      spent_at (P.Close a) p e = done (Some V.Limit) old e.0 e.1 (limit_at (P.Close a) none p tt)
-      spent_at (P.Assign a) p e = done (Some V.Limit) old e.0 e.1 (limit_at (P.Assign a) none p tt)
-      spent_at (P.Cursor target) p e = done (Some V.Limit) old e.0 e.1 (limit_at (P.Cursor target) none p tt)
-      spent_at (P.Ask prim expr) p e = done (Some V.Limit) old e.0 e.1 (limit_at (P.Ask prim expr) none p tt)
-      spent_at P.Fail p e = done (Some V.Limit) old e.0 e.1 (limit_at P.Fail none p tt)
-      spent_at P.Abort p e = done (Some V.Limit) old e.0 e.1 (limit_at P.Abort none p tt)
-      spent_at (P.EnterCut body) p e = done (Some V.Limit) old e.0 e.1 (limit_at (P.EnterCut body) none p tt)
-      spent_at (P.CloseCut depth) p e = done (Some V.Limit) old e.0 e.1 (limit_at (P.CloseCut depth) none p tt)
-      spent_at P.BackIntoFence p e = done (Some V.Aborted) old e.0 e.1 (fence_at (omega (arith, none)) p)
-      spent_at P.BackIntoCut p e = done None (below old) e.0 e.1 (dropped_at (omega (arith, none)) m p (below old) refl)
 
 -- no goal is left
 

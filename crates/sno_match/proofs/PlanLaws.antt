@@ -126,7 +126,7 @@ module _ (nodes : List Node) (s : List ℕ) where
       from_here : (f : ℕ → Search) (outcome : SearchResult) → further outcome (map f (ends_from e (ends a s c))) ≡ further outcome (map f (drop i (ends a s c)))
       from_here f outcome = sym (more_ends i e (is_end i (Some e) h) f outcome)
 
-      leaf_due : IsDue nodes s (N.Match id) c (Next e)
+      pub leaf_due : IsDue nodes s (N.Match id) c (Next e)
       leaf_due start rest pending below answers =
           let f = from_end_of rest pending start in
           next_of start rest c pending below answers 0 id (Leaf a) e t 0 ∙

@@ -1,6 +1,6 @@
 -- Lists of goals as records: what stays where records are added or cut back.
-use Rattle.std.proofs.Common.{◌≡◌, ◌==◌, ℕ, suc, ◌+◌, ◌-◌, ◌≤◌, ◌<◌, Bool, true, false, if◌then◌else◌, eqb, List, [], ◌∷◌, ◌++◌, Option, Some, None, length, map, reverse}
-use Rattle.std.proofs.Common.{take, drop, refl, ◌∙◌, sym, ap, subst, arith, append_assoc, append-nil, length-append, get_or}
+use Rattle.std.proofs.Common.{◌≡◌, ◌==◌, ℕ, suc, ◌+◌, ◌-◌, ◌≤◌, ◌<◌, Bool, true, false, if◌then◌else◌, eqb, List, [], ◌∷◌, ◌++◌, Option, Some, None}
+use Rattle.std.proofs.Common.{length, map, reverse, take, drop, refl, ◌∙◌, sym, ap, subst, arith, append_assoc, append-nil, length-append, get_or}
 use Rattle.std.proofs.lemmas.List.{reverse-append, length-reverse, take-append-drop, length-take-le, take-append-le, take-take, take_all, drop_more}
 use Rattle.std.proofs.lemmas.List.{nil_from_length}
 use Rattle.std.specs.Option.{option_to_list, MatchOption}
@@ -158,7 +158,8 @@ module _ (records : List GoalRecord) (goals : ℕ) (d : GoalRecord) (some : 0 < 
   pub first_smaller : (get_or records (goals - 1) d).behind ≤ goals
   first_smaller = omega (arith, first_is.smaller)
 
-pub top_is : (records : List GoalRecord) (pending : List Pending) (top : Option Held) (below : List Held) (point : Held) (goals : List Goal) (mark : Mark) → top ≡ Some point
+pub top_is : (records : List GoalRecord) (pending : List Pending) (top : Option Held) (below : List Held) (point : Held) (goals : List Goal) (mark : Mark)
+    → top ≡ Some point
     → goals_of records point.goals ≡ goals → mark ≡ marked point.next →
     points_of records pending top below ≡ record { goals = goals; cursor = point.cursor; pending = take point.assigned pending; mark = mark }
     ∷ map (point_of records pending) (reverse below)
@@ -258,14 +259,15 @@ module _ (records : List GoalRecord) (pending : List Pending) (top : Option Held
     none_put = subst (λ rs. Extends rs behind [] records behind) (sym (take_all (length records) records (omega arith)))
         (extends_none records behind (omega (arith, near, fits.0)) holds.falls)
 
-    pub first_dropped_holds : Holds records pending (Some record { goals = behind; cursor = cursor; next = None; floor = point.floor; assigned = point.assigned })
-        below
+    pub first_dropped_holds : Holds records pending
+        (Some record { goals = behind; cursor = cursor; next = None; floor = point.floor; assigned = point.assigned }) below
     first_dropped_holds = replaced_holds records [] cursor behind (length records) behind rest (omega (arith, near, fits.0)) (omega arith) none_put fits.1
 
     pub first_dropped_points : (front : List Goal) → (length front == 0) ≡ true →
         points_of records pending (Some record { goals = behind; cursor = cursor; next = None; floor = point.floor; assigned = point.assigned }) below
         ≡ replaced front cursor (points_of records pending top below)
-    first_dropped_points [] h = replaced_points records [] cursor behind (length records) behind rest (omega (arith, near, fits.0)) (omega arith) none_put fits.1
+    first_dropped_points [] h = replaced_points records [] cursor behind (length records) behind rest (omega (arith, near, fits.0)) (omega arith)
+        none_put fits.1
     first_dropped_points (goal ∷ front) h = absurd (false_or_true (sym (ne_eqb (suc (length front)) 0 (λ e. omega arith)) ∙ h))
 
   -- an entry behind the point's own

@@ -2,9 +2,10 @@
 //!
 //! A pattern's number is the first goal (`goal`), and is matched from a start. The stack of resumption points
 //! (`points`) has what is still to be tried, the newest first: in `shared`, which is in use, the points share their
-//! lists of goals; in `copied`, which stands beside it, each has its own. `plan` says, without taking memory, what is
-//! to be done at the newest point; `moves` carries it out by one operation of the stack and counts the step; `engine`
-//! is the loop over moves and starts, up to the next event (`event`). `laws` has what is true of every match.
+//! lists of goals; in `copied`, which stands beside it, each has its own. `steps` finds what the step of the newest
+//! point's first goal comes to, which is a `plan` and is carried out at once, by one operation of the stack; `moves`
+//! counts the step; `engine` is the loop over moves and starts, up to the next event (`event`). `laws` has what is true
+//! of every match.
 #![tactic(auto)]
 
 mod copied;
@@ -18,6 +19,7 @@ mod points;
 mod shared;
 mod snapshot;
 mod starts;
+mod steps;
 
 pub use copied::CopiedGoals;
 pub use engine::Engine;

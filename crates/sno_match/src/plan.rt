@@ -1,16 +1,15 @@
-//! What is to be done at the newest resumption point.
-ghost use Rattle.std.specs.Prelude.{ℕ, ◌≡◌, ◌+◌, ◌<◌, ◌≤◌, [], ◌∷◌, length, Contains, Some};
-ghost use Rattle.sno_pattern.specs.Table.{tree};
-ghost use Rattle.sno_pattern.specs.Shape.{IsPrimitive, end_of};
-ghost use Rattle.sno_pattern.specs.NextEnd.{ends_of};
-ghost use Rattle.sno_pattern.specs.Looks.{AreTrue};
-ghost use Rattle.sno_match.specs.inner.Remaining.{IsKnown, MarkFits, HasNext};
-ghost use Rattle.sno_match.specs.inner.Plan.{IsPlan, KeepsScopes, end_plan};
+//! What the step of a goal comes to, and how that is carried out.
+ghost use Rattle.std.specs.Prelude.{◌≡◌, ◌≤◌, ◌+◌, [], ◌∷◌, length, None, OnOk, OnErr};
+ghost use Rattle.sno_match.specs.Point.{HasFirst, replaced, branched, below};
+ghost use Rattle.sno_match.specs.inner.Plan.{goals_in};
+ghost use Rattle.sno_match.specs.inner.State.{after_move, owed};
+ghost use Rattle.sno_match.specs.inner.Move.{CarriesOut};
 
-use crate::event::Pending;
-use crate::goal::{Goal, Mark};
-use sno_pattern::{Looks, Patterns, Shape};
+use crate::event::{Event, Pending};
+use crate::goal::Goal;
+use crate::points::Points;
 use sno_value::{ExprId, Name, PatId, Prim};
+use std::alloc::AllocError;
 
 /// At most two goals.
 #[derive(Clone, Copy, Drop)]
@@ -20,7 +19,7 @@ pub(crate) enum Front {
     Two(Goal, Goal),
 }
 
-/// What is to be done at a point. All is one step but `BackIntoFence` and `BackIntoCut`, which cost nothing.
+/// What the step of a goal comes to.
 #[derive(Clone, Copy, Drop)]
 pub(crate) enum Plan {
     /// The first goal gives way to these, from this cursor.
@@ -40,208 +39,103 @@ pub(crate) enum Plan {
     Fail,
     /// ABORT was entered.
     Abort,
-    /// FENCE was backed into.
-    BackIntoFence,
     /// FENCE(P) was entered: the point stays, and above it stand P and the close.
     EnterCut(PatId),
     /// The close of FENCE(P) was entered: the goal is done, and of the points below only this many, the oldest, stay.
     CloseCut(usize),
-    /// FENCE(P) was backed into, since P has no way: the point is dropped.
-    BackIntoCut,
 }
 
-/// What is to be done at a point with this first goal, cursor and mark.
+/// Carries out a plan, behind whose step `left` are left, and puts the event that it tells into `told`.
 #[inline(always)]
-pub(crate) fn plan_of(
-    patterns: &Patterns,
-    looks: &mut Looks,
-    subject: &[u8],
-    goal: Goal,
+pub(crate) fn carry_out<P: Points>(
+    points: &mut P,
+    told: &mut Option<Event>,
+    plan: Plan,
     cursor: usize,
-    mark: Mark,
-) -> Plan
-    requires known { IsKnown patterns.now goal }
-    requires inside { cursor ≤ length subject.now }
-    requires small { length subject.now ≤ 4294967295 }
-    requires next { MarkFits patterns.now subject.now mark (goal ∷ []) cursor }
-    requires looks { AreTrue patterns.now subject.now looks.old }
-    ensures looks { AreTrue patterns.now subject.now looks.new }
-    ensures plan { IsPlan patterns.now subject.now goal cursor mark result }
-    ensures scopes { KeepsScopes patterns.now goal result }
+    left: u32,
+) -> Result<(), AllocError>
+    requires first { HasFirst (P.points points.old) }
+    requires silent { told.old ≡ None }
+    ensures ok { OnOk result (CarriesOut plan cursor left (P.points points.old) told.new (P.points points.new)) }
+    ensures records { OnOk result (P.records points.new + owed (after_move told.new) ≤ P.records points.old + 2) }
+    ensures err { OnErr result ((P.points points.new ≡ P.points points.old)
+        × (P.records points.new ≡ P.records points.old)) }
 {
-    match mark {
-        Mark::Enter => enter_goal(patterns, looks, subject, goal, cursor),
-        Mark::Next(at) => match goal {
-            Goal::Match(id) => next_of_pattern(patterns, looks, subject, id, cursor, at),
-            Goal::CloseCond { .. } => unreachable!(),
-            Goal::CloseImm { .. } => unreachable!(),
-            Goal::CloseRepeat { .. } => unreachable!(),
-            Goal::CloseCut { .. } => unreachable!(),
-        },
-    }
-}
-
-#[inline(always)]
-fn enter_goal(
-    patterns: &Patterns,
-    looks: &mut Looks,
-    subject: &[u8],
-    goal: Goal,
-    cursor: usize,
-) -> Plan
-    requires known { IsKnown patterns.now goal }
-    requires inside { cursor ≤ length subject.now }
-    requires small { length subject.now ≤ 4294967295 }
-    requires looks { AreTrue patterns.now subject.now looks.old }
-    ensures looks { AreTrue patterns.now subject.now looks.new }
-    ensures plan { IsPlan patterns.now subject.now goal cursor Mark.Enter result }
-    ensures scopes { KeepsScopes patterns.now goal result }
-{
-    match goal {
-        Goal::Match(id) => enter_pattern(patterns, looks, subject, id, cursor),
-        Goal::CloseCond { target, start } => Plan::Close(Pending {
-            target,
-            start: start as usize,
-            end: cursor,
-        }),
-        Goal::CloseImm { target, start } => Plan::Assign(Pending {
-            target,
-            start: start as usize,
-            end: cursor,
-        }),
-        Goal::CloseCut { left: _left, depth } => Plan::CloseCut(depth as usize),
-        Goal::CloseRepeat { arbno, start } => {
-            if cursor == start as usize {
-                Plan::Fail
-            } else {
-                Plan::Replace(Front::One(Goal::Match(arbno)), cursor)
-            }
+    match plan {
+        Plan::Replace(front, at) => replace_by(points, front, at)?,
+        Plan::Branch(front, at, next) => branch_by(points, front, at, next)?,
+        Plan::Close(assignment) => points.close(assignment)?,
+        Plan::Assign(Pending { target, start, end }) => {
+            points.replace(&[], cursor)?;
+            *told = Some(Event::Assign { target, start, end });
         }
+        Plan::Cursor(target) => {
+            points.replace(&[], cursor)?;
+            *told = Some(Event::Cursor { target, at: cursor });
+        }
+        Plan::Ask(prim, expr) => *told = Some(Event::Value { prim, expr }),
+        Plan::Fail => points.pop(),
+        Plan::Abort => *told = Some(Event::Aborted),
+        Plan::EnterCut(body) => enter_cut(points, body, cursor, left)?,
+        Plan::CloseCut(depth) => points.cut(depth),
     }
+    Ok(())
 }
 
-#[inline(always)]
-fn enter_pattern(
-    patterns: &Patterns,
-    looks: &mut Looks,
-    subject: &[u8],
-    id: PatId,
+/// FENCE(P) is entered, which leaves so many steps: its point stays under the body and the close.
+fn enter_cut<P: Points>(
+    points: &mut P,
+    body: PatId,
     cursor: usize,
-) -> Plan
-    requires known { id.0 < length patterns.now }
-    requires inside { cursor ≤ length subject.now }
-    requires small { length subject.now ≤ 4294967295 }
-    requires looks { AreTrue patterns.now subject.now looks.old }
-    ensures looks { AreTrue patterns.now subject.now looks.new }
-    ensures plan { IsPlan patterns.now subject.now (Goal.Match id) cursor Mark.Enter result }
-    ensures scopes { KeepsScopes patterns.now (Goal.Match id) result }
+    left: u32,
+) -> Result<(), AllocError>
+    requires { HasFirst (P.points points.old) }
+    ensures ok { OnOk result
+        (P.points points.new ≡ branched (Goal.Match body ∷ Goal.CloseCut left (length (below (P.points points.old)))
+        ∷ []) cursor left (P.points points.old)) }
+    ensures records { P.records points.new ≤ P.records points.old + 2 }
+    ensures err { OnErr result ((P.points points.new ≡ P.points points.old)
+        × (P.records points.new ≡ P.records points.old)) }
 {
-    match patterns.shape(id) {
-        Shape::Primitive => enter_primitive(patterns, looks, subject, id, cursor),
-        Shape::Cat(p, q) => Plan::Replace(Front::Two(Goal::Match(p), Goal::Match(q)), cursor),
-        Shape::Alt(p, _q) => Plan::Branch(Front::One(Goal::Match(p)), cursor, cursor),
-        Shape::Arbno(_p) => Plan::Branch(Front::Nothing, cursor, cursor),
-        Shape::Cond(p, target) => {
-            let close = Goal::CloseCond {
-                target,
-                start: cursor as u32,
-            };
-            Plan::Replace(Front::Two(Goal::Match(p), close), cursor)
-        }
-        Shape::Imm(p, target) => {
-            let close = Goal::CloseImm {
-                target,
-                start: cursor as u32,
-            };
-            Plan::Replace(Front::Two(Goal::Match(p), close), cursor)
-        }
-        Shape::Cursor(target) => Plan::Cursor(target),
-        Shape::Fence => Plan::Branch(Front::Nothing, cursor, cursor),
-        Shape::Cut(p) => Plan::EnterCut(p),
-        Shape::Abort => Plan::Abort,
-        Shape::Succeed => Plan::Branch(Front::Nothing, cursor, cursor),
-        Shape::Defer(expression) => Plan::Ask(None, expression),
-        Shape::DeferPrim(primitive, expression) => Plan::Ask(Some(primitive), expression),
-    }
-}
-
-#[inline(always)]
-fn enter_primitive(
-    patterns: &Patterns,
-    looks: &mut Looks,
-    subject: &[u8],
-    id: PatId,
-    cursor: usize,
-) -> Plan
-    requires known { id.0 < length patterns.now }
-    requires primitive { IsPrimitive (tree patterns.now id.0) }
-    requires inside { cursor ≤ length subject.now }
-    requires looks { AreTrue patterns.now subject.now looks.old }
-    ensures looks { AreTrue patterns.now subject.now looks.new }
-    ensures plan { IsPlan patterns.now subject.now (Goal.Match id) cursor Mark.Enter result }
-    ensures scopes { KeepsScopes patterns.now (Goal.Match id) result }
-{
-    let Some(end) = patterns.look(looks, id, subject, cursor) else {
-        return Plan::Fail;
+    let Ok(depth) = u32::try_from(points.depth() - 1) else {
+        return Err(AllocError);
     };
-    take_end(patterns, looks, subject, id, cursor, end)
+    let close = Goal::CloseCut { left, depth };
+    points.branch(&[Goal::Match(body), close], cursor, left as usize)?;
+    Ok(())
 }
 
 #[inline(always)]
-fn next_of_pattern(
-    patterns: &Patterns,
-    looks: &mut Looks,
-    subject: &[u8],
-    id: PatId,
-    cursor: usize,
-    at: usize,
-) -> Plan
-    requires known { id.0 < length patterns.now }
-    requires inside { cursor ≤ length subject.now }
-    requires small { length subject.now ≤ 4294967295 }
-    requires next { HasNext (tree patterns.now id.0) subject.now cursor at }
-    requires looks { AreTrue patterns.now subject.now looks.old }
-    ensures looks { AreTrue patterns.now subject.now looks.new }
-    ensures plan { IsPlan patterns.now subject.now (Goal.Match id) cursor (Mark.Next at) result }
-    ensures scopes { KeepsScopes patterns.now (Goal.Match id) result }
+fn replace_by<P: Points>(points: &mut P, front: Front, at: usize) -> Result<(), AllocError>
+    requires { HasFirst (P.points points.old) }
+    ensures ok { OnOk result (P.points points.new ≡ replaced (goals_in front) at (P.points points.old)) }
+    ensures records { P.records points.new ≤ P.records points.old + 2 }
+    ensures err { OnErr result ((P.points points.new ≡ P.points points.old)
+        × (P.records points.new ≡ P.records points.old)) }
 {
-    match patterns.shape(id) {
-        Shape::Primitive => take_end(patterns, looks, subject, id, cursor, at),
-        Shape::Alt(_p, q) => Plan::Replace(Front::One(Goal::Match(q)), cursor),
-        Shape::Arbno(p) => {
-            let close = Goal::CloseRepeat {
-                arbno: id,
-                start: cursor as u32,
-            };
-            Plan::Replace(Front::Two(Goal::Match(p), close), cursor)
-        }
-        Shape::Succeed => Plan::Branch(Front::Nothing, cursor, cursor),
-        Shape::Fence => Plan::BackIntoFence,
-        Shape::Cut(_p) => Plan::BackIntoCut,
-        _ => unreachable!(),
+    match front {
+        Front::Nothing => points.replace(&[], at),
+        Front::One(goal) => points.replace(&[goal], at),
+        Front::Two(first, second) => points.replace(&[first, second], at),
     }
 }
 
-/// A primitive's point stays only where there is an end behind this one.
 #[inline(always)]
-fn take_end(
-    patterns: &Patterns,
-    looks: &mut Looks,
-    subject: &[u8],
-    id: PatId,
-    cursor: usize,
-    end: usize,
-) -> Plan
-    requires known { id.0 < length patterns.now }
-    requires inside { cursor ≤ length subject.now }
-    requires end { Contains (ends_of (tree patterns.now id.0) subject.now cursor) end }
-    requires looks { AreTrue patterns.now subject.now looks.old }
-    ensures looks { AreTrue patterns.now subject.now looks.new }
-    ensures plan { (i : ℕ) → end_of (tree patterns.now id.0) subject.now cursor i ≡ Some end
-        → result ≡ end_plan end (end_of (tree patterns.now id.0) subject.now cursor (i + 1)) }
+fn branch_by<P: Points>(
+    points: &mut P,
+    front: Front,
+    at: usize,
+    next: usize,
+) -> Result<(), AllocError>
+    requires { HasFirst (P.points points.old) }
+    ensures ok { OnOk result (P.points points.new ≡ branched (goals_in front) at next (P.points points.old)) }
+    ensures records { P.records points.new ≤ P.records points.old + 2 }
+    ensures err { OnErr result ((P.points points.new ≡ P.points points.old)
+        × (P.records points.new ≡ P.records points.old)) }
 {
-    match patterns.look_behind(looks, id, subject, cursor, end) {
-        None => Plan::Replace(Front::Nothing, end),
-        Some(next) => Plan::Branch(Front::Nothing, end, next),
+    match front {
+        Front::Nothing => points.branch(&[], at, next),
+        Front::One(goal) => points.branch(&[goal], at, next),
+        Front::Two(first, second) => points.branch(&[first, second], at, next),
     }
 }

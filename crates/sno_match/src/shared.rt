@@ -104,6 +104,7 @@ impl Points for SharedGoals {
         }
     }
 
+    #[inline(always)]
     fn replace(&mut self, front: &[Goal], cursor: usize) -> Result<(), AllocError> {
         let Some(point) = self.top else {
             return Ok(());
@@ -132,6 +133,7 @@ impl Points for SharedGoals {
         Ok(())
     }
 
+    #[inline(always)]
     fn branch(&mut self, front: &[Goal], cursor: usize, next: usize) -> Result<(), AllocError> {
         let Some(point) = self.top else {
             return Ok(());
@@ -240,6 +242,7 @@ fn in_32_bits(n: usize) -> Result<u32, AllocError>
 }
 
 /// Cuts the records back to the first `keep`, and puts these goals in front of a list of those.
+#[inline(always)]
 fn put_front(
     records: &mut Vec<GoalRecord>,
     keep: u32,
@@ -261,6 +264,7 @@ fn put_front(
 }
 
 /// Puts these goals in front of a list: the number of the new one.
+#[inline(always)]
 fn link(records: &mut Vec<GoalRecord>, behind: u32, front: &[Goal]) -> u32
     requires few { length records.old.items + length front.now ≤ 4294967295 }
     requires room { vec_len records.old + length front.now ≤ vec_capacity records.old }

@@ -1,11 +1,12 @@
 -- What a move of the matcher does to the searches still to come. These words are private to the matcher.
 use Rattle.std.specs.Prelude.{ℕ, ◌≡◌, ◌<◌, ◌≤◌, ◌+◌, ◌-◌, ◌*◌, List, [], ◌∷◌, Option, None, Some, length}
 use Rattle.sno_value.specs.declared.ids.PatId.{PatId}
+use Rattle.sno_pattern.specs.Pattern.{Pattern, Fence, Cut}
 use Rattle.sno_pattern.specs.Table.{Node, tree}
 use Rattle.sno_match.specs.declared.goal.Goal.{Goal}
 use Rattle.sno_match.specs.declared.goal.Goal.TheVariants.{Match, CloseCut}
 use Rattle.sno_match.specs.declared.goal.Mark.{Mark}
-use Rattle.sno_match.specs.declared.goal.Mark.TheVariants.{Enter}
+use Rattle.sno_match.specs.declared.goal.Mark.TheVariants.{Enter, Next}
 use Rattle.sno_match.specs.declared.event.Event.{Event as Told}
 use Rattle.sno_match.specs.declared.event.Event.TheVariants as V
 use Rattle.sno_match.specs.declared.event.Pending.{Pending}
@@ -17,7 +18,9 @@ use Rattle.sno_match.specs.Search.{Event, Answer, Gives, Search, emit}
 use Rattle.sno_match.specs.Events.{in_trace, cost, pending_after}
 use Rattle.sno_match.specs.Point.{Point, with_front, replaced, branched, closed, cut_back, below}
 use Rattle.sno_match.specs.inner.State.{verdict_of, after_move, HasAsked}
-use Rattle.sno_match.specs.inner.Plan.{goals_in}
+use Rattle.sno_match.specs.declared.steps.Due.{Due}
+use Rattle.sno_match.specs.declared.steps.Due.TheVariants as D
+use Rattle.sno_match.specs.inner.Plan.{goals_in, IsPlan, KeepsScopes}
 use Rattle.sno_match.specs.inner.Remaining.{remaining, waiting}
 use Rattle.sno_match.specs.inner.Starts.{FailsAt}
 
@@ -61,12 +64,6 @@ abbrev pub EnteredFails : List Node → List ℕ → Goal → Mark → ℕ → �
 EnteredFails nodes s (Match id) Enter price c = FailsAt (tree nodes id.0) s price c
 EnteredFails nodes s goal mark price c = ⊥
 
--- the plan takes a step
-abbrev pub Costs : Plan → Type 0
-Costs P.BackIntoFence = ⊥
-Costs P.BackIntoCut = ⊥
-Costs plan = Unit {0}
-
 -- what a plan does to the stack, and what it tells, with the cursor and the steps left behind its own
 abbrev pub CarriesOut : Plan → ℕ → ℕ → List Point → Option Told → List Point → Type 0
 CarriesOut (P.Replace front at) c left old told new = (told ≡ None) × (new ≡ replaced (goals_in front) at old)
@@ -81,14 +78,28 @@ CarriesOut P.Abort c left old told new = (told ≡ Some V.Aborted) × (new ≡ o
 CarriesOut (P.EnterCut p) c left old told new =
     (told ≡ None) × (new ≡ branched (Match p ∷ CloseCut left (length (below old)) ∷ []) c left old)
 CarriesOut (P.CloseCut depth) c left old told new = (told ≡ None) × (new ≡ cut_back depth old)
-CarriesOut P.BackIntoFence c left old told new = ⊥
-CarriesOut P.BackIntoCut c left old told new = ⊥
 
--- what a plan comes to where no step is left
-abbrev pub EndsBy : Plan → List Point → Option Told → List Point → Type 0
-EndsBy P.BackIntoFence old told new = (told ≡ Some V.Aborted) × (new ≡ old)
-EndsBy P.BackIntoCut old told new = (told ≡ None) × (new ≡ below old)
-EndsBy plan old told new = (told ≡ Some V.Limit) × (new ≡ old)
+-- a step: a right plan was carried out
+pub record Steps (nodes : List Node) (s : List ℕ) (goal : Goal) (c : ℕ) (mark : Mark) (left : ℕ) (old : List Point)
+    (told : Option Told) (new : List Point) : Type 0 where
+  pub plan : Plan
+  pub is_plan : IsPlan nodes s goal c mark plan
+  pub scopes : KeepsScopes nodes goal plan
+  pub carried : CarriesOut plan c left old told new
+
+-- what is due is a step: no FENCE is backed into, and no cut
+abbrev pub HasStep : List Node → Goal → Mark → Type 0
+HasStep nodes goal Enter = Unit {0}
+HasStep nodes (Match id) (Next at) = (tree nodes id.0 ≡ Fence → ⊥) × ((p : Pattern) → tree nodes id.0 ≡ Cut p → ⊥)
+HasStep nodes goal (Next at) = Unit {0}
+
+-- what is due at a point
+abbrev pub IsDueAs : List Node → Goal → Mark → Due → Type 0
+IsDueAs nodes goal mark D.Step = HasStep nodes goal mark
+IsDueAs nodes goal mark D.BackIntoFence =
+    (id : PatId) × (at : ℕ) × (goal ≡ Match id) × (mark ≡ Next at) × (tree nodes id.0 ≡ Fence)
+IsDueAs nodes goal mark D.BackIntoCut =
+    (id : PatId) × (at : ℕ) × (p : Pattern) × (goal ≡ Match id) × (mark ≡ Next at) × (tree nodes id.0 ≡ Cut p)
 
 -- the stack once the deferred part at its top is answered
 abbrev pub answered : Option PatId → List Point → List Point

@@ -88,11 +88,6 @@ IsPlan nodes s goal cursor mark P.Abort =
     (answers : List Answer) (left : ℕ) →
     remaining nodes s start (point_at goal rest cursor pending mark ∷ below) answers (suc left)
     ≡ Gives [] answers left Aborted) × IsDue nodes s goal cursor mark
-IsPlan nodes s goal cursor mark P.BackIntoFence =
-    (start : ℕ) (rest : List Numbered) (pending : List Pending) (below : List Point)
-    (answers : List Answer) (left : ℕ) →
-    remaining nodes s start (point_at goal rest cursor pending mark ∷ below) answers left
-    ≡ Gives [] answers left Aborted
 IsPlan nodes s goal cursor mark (P.EnterCut p) =
     ((start : ℕ) (rest : List Numbered) (pending : List Pending) (below : List Point)
     (answers : List Answer) (left : ℕ) →
@@ -107,7 +102,18 @@ IsPlan nodes s goal cursor mark (P.CloseCut depth) =
     remaining nodes s start (point_at goal rest cursor pending mark ∷ below) answers (suc left) ≡
     remaining nodes s start (cut_back depth (point_at goal rest cursor pending mark ∷ below)) answers left)
     × IsDue nodes s goal cursor mark × ((m : ℕ) × (goal ≡ N.CloseCut m depth))
-IsPlan nodes s goal cursor mark P.BackIntoCut =
+
+-- FENCE is backed into: the match is over
+abbrev pub BacksIntoFence : List Node → List ℕ → Numbered → ℕ → Mark → Type 0
+BacksIntoFence nodes s goal cursor mark =
+    (start : ℕ) (rest : List Numbered) (pending : List Pending) (below : List Point)
+    (answers : List Answer) (left : ℕ) →
+    remaining nodes s start (point_at goal rest cursor pending mark ∷ below) answers left
+    ≡ Gives [] answers left Aborted
+
+-- FENCE(P) is backed into: the search goes on below
+abbrev pub BacksIntoCut : List Node → List ℕ → Numbered → ℕ → Mark → Type 0
+BacksIntoCut nodes s goal cursor mark =
     (start : ℕ) (rest : List Numbered) (pending : List Pending) (below : List Point) (answers : List Answer)
     → AllMarked below → (left : ℕ) →
     remaining nodes s start (point_at goal rest cursor pending mark ∷ below) answers left
