@@ -120,24 +120,14 @@ fn enter_goal<P: Points>(
         Goal::CloseCond { target, start } => {
             let start = start as usize;
             let end = cursor;
-            carry_out(
-                points,
-                told,
-                Plan::Close(Pending { target, start, end }),
-                cursor,
-                left,
-            )
+            let plan = Plan::Close(Pending { target, start, end });
+            carry_out(points, told, plan, cursor, left)
         }
         Goal::CloseImm { target, start } => {
             let start = start as usize;
             let end = cursor;
-            carry_out(
-                points,
-                told,
-                Plan::Assign(Pending { target, start, end }),
-                cursor,
-                left,
-            )
+            let plan = Plan::Assign(Pending { target, start, end });
+            carry_out(points, told, plan, cursor, left)
         }
         Goal::CloseCut { left: _left, depth } => {
             carry_out(points, told, Plan::CloseCut(depth as usize), cursor, left)
@@ -187,14 +177,8 @@ fn enter_pattern<P: Points>(
             carry_out(points, told, Plan::Replace(front, cursor), cursor, left)
         }
         Shape::Alt(p, _q) => {
-            let front = Front::One(Goal::Match(p));
-            carry_out(
-                points,
-                told,
-                Plan::Branch(front, cursor, cursor),
-                cursor,
-                left,
-            )
+            let plan = Plan::Branch(Front::One(Goal::Match(p)), cursor, cursor);
+            carry_out(points, told, plan, cursor, left)
         }
         Shape::Cond(p, target) => {
             let start = cursor as u32;
@@ -213,13 +197,10 @@ fn enter_pattern<P: Points>(
         Shape::Cut(p) => carry_out(points, told, Plan::EnterCut(p), cursor, left),
         Shape::Abort => carry_out(points, told, Plan::Abort, cursor, left),
         Shape::Defer(e) => carry_out(points, told, Plan::Ask(None, e), cursor, left),
-        Shape::DeferPrim(prim, e) => carry_out(
-            points,
-            told,
-            Plan::Ask(Some(prim), e),
-            cursor,
-            left,
-        ),
+        Shape::DeferPrim(prim, e) => {
+            let plan = Plan::Ask(Some(prim), e);
+            carry_out(points, told, plan, cursor, left)
+        }
     }
 }
 
@@ -238,13 +219,8 @@ fn stay_and_go_on<P: Points>(
     ensures err { OnErr result ((P.points points.new ≡ P.points points.old)
         × (P.records points.new ≡ P.records points.old)) }
 {
-    carry_out(
-        points,
-        told,
-        Plan::Branch(Front::Nothing, cursor, cursor),
-        cursor,
-        left,
-    )
+    let plan = Plan::Branch(Front::Nothing, cursor, cursor);
+    carry_out(points, told, plan, cursor, left)
 }
 
 /// The step of a primitive that is entered.
