@@ -13,7 +13,7 @@ ghost use Rattle.sno_store.specs.inner.First.{search_patterns};
 ghost use Rattle.sno_store.specs.Outcomes.{IsAnswered, IsDefined, IsDone, IsEntered, IsTyped, itself};
 ghost use Rattle.sno_store.specs.inner.Seen.{prototype_seen};
 ghost use Rattle.sno_store.specs.Stored.{stored_notions};
-ghost use Rattle.sno_store.specs.Symbols.{found};
+ghost use Rattle.sno_store.specs.Symbols.{found, HasKey};
 ghost use Rattle.sno_store.specs.inner.Symbols.{appended, no_contents, with_searches, with_controls, AreJoined};
 ghost use Rattle.sno_store.specs.inner.Symbols.{IsDefinedByParts, IsTypedByParts};
 ghost use Rattle.sno_store.specs.Tables.{new_table, find_entry, make_entry, table_to_array};
@@ -138,6 +138,15 @@ impl Store {
         ensures { result.now ≡ slice_index_or self.now.symbols symbol.0 [] }
     {
         self.symbols.text(symbol)
+    }
+
+    /// Whether a symbol is known to be the name with this key (`sno_value::name_key`). The keys of the first symbols are
+    /// kept.
+    #[inline(always)]
+    pub fn has_key(&self, symbol: SymId, key: u64) -> bool
+        ensures { result ≡ true → HasKey symbol.0 key self.now.symbols }
+    {
+        self.symbols.has_key(symbol, key)
     }
 
     /// The value of what is named. It is null where the store has no such name.
