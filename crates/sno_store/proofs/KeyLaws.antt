@@ -11,11 +11,13 @@ cut count symbols keys known i some = ⊎_elim here nowhere (cases_lt i count) w
   Goal : Type 0
   Goal = (slice_index_or (take count symbols) i [] ≡ name_of (slice_index_or (take count keys) i 0))
       × (1 ≤ length (slice_index_or (take count symbols) i []))
+
   here : i < count → Goal
   here h =
       let text = get_or-take count symbols i [] h in
       let key = get_or-take count keys i 0 h in
       let kept = known i (rw (sym key) some) in
       (text ∙ kept.0 ∙ ap name_of (sym key), rw text (kept.1))
+
   nowhere : count ≤ i → Goal
   nowhere h = absurd (omega (arith, get_or_past (take count keys) i 0 (omega (arith, length-take count keys, min-le_left count (length keys))), some))

@@ -149,15 +149,23 @@ impl Store {
         self.symbols.has_key(symbol, key)
     }
 
+    /// The value of the variable that a symbol names. It is null where the store has no symbol with this number.
+    #[inline(always)]
+    pub fn variable(&self, symbol: SymId) -> &Value
+        ensures { result.now ≡ value_of self.now (Name.Var symbol) }
+    {
+        match self.values.get(symbol.0 as usize) {
+            Some(value) => value,
+            None => &self.null,
+        }
+    }
+
     /// The value of what is named. It is null where the store has no such name.
     pub fn get(&self, name: Name) -> &Value
         ensures { result.now ≡ value_of self.now name }
     {
         match name {
-            Name::Var(symbol) => match self.values.get(symbol.0 as usize) {
-                Some(value) => value,
-                None => &self.null,
-            },
+            Name::Var(symbol) => self.variable(symbol),
             Name::Elem(array, element) => match self.objects.element_value(array, element) {
                 Some(value) => value,
                 None => &self.null,

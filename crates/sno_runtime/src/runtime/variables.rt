@@ -90,11 +90,10 @@ impl Runtime {
         ensures { IfSome result (λ value. (name : List ℕ) → IsKeyOf name key
             → Does shown IsValueOf (and_then (variable_named name) reads) self.now self.now (Ok value.now)) }
     {
-        let target = Name::Var(symbol);
-        if !self.has_key(symbol, key) || is_input(target) {
+        if !self.has_key(symbol, key) || is_input(Name::Var(symbol)) {
             return None;
         }
-        Some(self.store.get(target))
+        Some(self.store.variable(symbol))
     }
 
     /// What the variable of such a name holds, where it was found there before and isn't INPUT.
