@@ -5,7 +5,7 @@ ghost use Rattle.sno_pattern.specs.Table.{Node};
 ghost use Rattle.sno_match.specs.Events.{in_trace};
 ghost use Rattle.sno_match.specs.Within.{IsWithin};
 ghost use Rattle.sno_runtime.specs.Values.{shown, IsValueOf};
-ghost use Rattle.sno_runtime.specs.Variables.{assigns, text_of};
+ghost use Rattle.sno_runtime.specs.Variables.{assigns, is_output, text_of};
 ghost use Rattle.sno_runtime.specs.Effects.{effect};
 ghost use Rattle.sno_runtime.specs.inner.Performs.{Performs, WritesLine};
 
@@ -44,6 +44,7 @@ pub fn take_effect<W: Sink>(
 }
 
 /// Sets what is named. OUTPUT is given a value that has a text, else it is error 1, and writes it as a line.
+#[inline(always)]
 pub fn assign<W: Sink>(
     runtime: &mut Runtime,
     target: Name,
@@ -58,10 +59,30 @@ pub fn assign<W: Sink>(
     ensures sound { OnOk result ((W.drain writer.new).broken ≡ false) }
     ensures fault { result ≡ Err Stop.WriteFault → (W.drain writer.new).broken ≡ true }
 {
-    if !is_output(target) {
-        runtime.set(target, value);
-        return Ok(());
+    if is_output(target) {
+        return assign_output(runtime, target, value, writer);
     }
+    runtime.set(target, value);
+    Ok(())
+}
+
+/// Writes a value as a line, and gives it to OUTPUT.
+#[inline(never)]
+fn assign_output<W: Sink>(
+    runtime: &mut Runtime,
+    target: Name,
+    value: Value,
+    writer: &mut W,
+) -> Result<(), Stop>
+    requires output { is_output target ≡ true }
+    requires value { IsValueOf runtime.old.nodes value }
+    requires sound { (W.drain writer.old).broken ≡ false }
+    ensures does { Performs (assigns target (shown runtime.old.nodes value))
+        runtime.old runtime.new (W.drain writer.old).taken (W.drain writer.new).taken result }
+    ensures nodes { runtime.new.nodes ≡ runtime.old.nodes }
+    ensures sound { OnOk result ((W.drain writer.new).broken ≡ false) }
+    ensures fault { result ≡ Err Stop.WriteFault → (W.drain writer.new).broken ≡ true }
+{
     write_value(runtime.alloc(), &value, writer)?;
     runtime.set(target, value);
     Ok(())

@@ -7,5 +7,6 @@ pub mod NameLaws
 pub mod ObjectLaws
 pub mod Places
 pub mod Prototypes
+pub mod KeyLaws
 pub mod SymbolLaws
 pub mod TypeLaws

@@ -13,7 +13,7 @@ ghost use Rattle.sno_store.specs.inner.First.{search_patterns};
 ghost use Rattle.sno_store.specs.Outcomes.{IsAnswered, IsDefined, IsDone, IsEntered, IsTyped, itself};
 ghost use Rattle.sno_store.specs.inner.Seen.{prototype_seen};
 ghost use Rattle.sno_store.specs.Stored.{stored_notions};
-ghost use Rattle.sno_store.specs.Symbols.{found};
+ghost use Rattle.sno_store.specs.Symbols.{found, HasKey};
 ghost use Rattle.sno_store.specs.inner.Symbols.{appended, no_contents, with_searches, with_controls, AreJoined};
 ghost use Rattle.sno_store.specs.inner.Symbols.{IsDefinedByParts, IsTypedByParts};
 ghost use Rattle.sno_store.specs.Tables.{new_table, find_entry, make_entry, table_to_array};
@@ -140,15 +140,32 @@ impl Store {
         self.symbols.text(symbol)
     }
 
+    /// Whether a symbol is known to be the name with this key (`sno_value::name_key`). The keys of the first symbols are
+    /// kept.
+    #[inline(always)]
+    pub fn has_key(&self, symbol: SymId, key: u64) -> bool
+        ensures { result ≡ true → HasKey symbol.0 key self.now.symbols }
+    {
+        self.symbols.has_key(symbol, key)
+    }
+
+    /// The value of the variable that a symbol names. It is null where the store has no symbol with this number.
+    #[inline(always)]
+    pub fn variable(&self, symbol: SymId) -> &Value
+        ensures { result.now ≡ value_of self.now (Name.Var symbol) }
+    {
+        match self.values.get(symbol.0 as usize) {
+            Some(value) => value,
+            None => &self.null,
+        }
+    }
+
     /// The value of what is named. It is null where the store has no such name.
     pub fn get(&self, name: Name) -> &Value
         ensures { result.now ≡ value_of self.now name }
     {
         match name {
-            Name::Var(symbol) => match self.values.get(symbol.0 as usize) {
-                Some(value) => value,
-                None => &self.null,
-            },
+            Name::Var(symbol) => self.variable(symbol),
             Name::Elem(array, element) => match self.objects.element_value(array, element) {
                 Some(value) => value,
                 None => &self.null,

@@ -1,37 +1,44 @@
 //! The texts of the symbols, by number and by text.
 ghost use Rattle.std.specs.Prelude.{◌≡◌, ◌+◌, ◌||◌, ◌≤◌, ◌<◌, [], ◌∷◌, ◌++◌, length, take, false, slice_index_or};
-ghost use Rattle.std.specs.Prelude.{option_map, IfOk, OnOk, OnErr};
+ghost use Rattle.std.specs.Prelude.{option_map, true, IfOk, OnOk, OnErr};
 ghost use Rattle.std.specs.List.{list_any};
 ghost use Rattle.std.specs.Str.{bytes_eq};
 ghost use Rattle.sno_store.specs.Store.{is_symbol};
 ghost use Rattle.sno_store.specs.Definitions.{listed, names, with_names};
 ghost use Rattle.sno_store.specs.inner.Seen.{prototype_seen};
-ghost use Rattle.sno_store.specs.Symbols.{found};
+ghost use Rattle.sno_store.specs.Symbols.{found, HasKey};
 
 use crate::function_prototype::{FunctionPrototype, count, is_among};
 use indexmap::IndexSet;
-use sno_value::SymId;
+use sno_value::{SymId, name_key};
 use std::alloc::{AllocError, Global};
 use std::marker::Model;
 
 /// How many symbols a store holds at most (this profile).
 pub(crate) const MOST_SYMBOLS: usize = 1_000_000;
 
+/// Of how many symbols the keys are kept: a program's own names are the first ones.
+const MOST_KEYS: usize = 4096;
+
 /// The symbols, which contracts see as the list of their texts.
 #[derive(Drop)]
 pub(crate) struct Symbols {
     alloc: Global,
     texts: IndexSet<Vec<u8>>,
+    // the keys of the first of them
+    keys: Vec<u64>,
 }
 
 impl Model for Symbols {
     ghost use Rattle.std.specs.Prelude.{List, ℕ, ◌≤◌, map, length};
+    ghost use Rattle.sno_store.specs.inner.Symbols.{AreKeysOf};
 
     ghost Value = { List (List ℕ) };
 
     ghost view = { λ s. map (λ text. text.items) s.texts.keys };
 
-    ghost invariant = { λ s. length s.texts.keys ≤ 1_000_000 };
+    ghost invariant = { λ s. (length s.texts.keys ≤ 1_000_000)
+        × AreKeysOf (map (λ text. text.items) s.texts.keys) s.keys.items };
 }
 
 impl Symbols {
@@ -42,6 +49,7 @@ impl Symbols {
         Symbols {
             alloc,
             texts: IndexSet::new(alloc),
+            keys: Vec::new(alloc),
         }
     }
 
@@ -140,7 +148,30 @@ impl Symbols {
         let id = SymId(self.texts.len() as u32);
         let text = Vec::from_slice(self.alloc, name)?;
         self.texts.insert(text)?;
+        self.keep_key(id, name);
         Ok(id)
+    }
+
+    /// Keeps the key of the symbol that joined last, where those of all others are kept.
+    fn keep_key(&mut self, symbol: SymId, name: &[u8])
+        requires { slice_index_or self.old symbol.0 [] ≡ name.now }
+        ensures { self.new ≡ self.old }
+    {
+        let place = symbol.0 as usize;
+        if self.keys.len() == place && place < MOST_KEYS {
+            let _kept = self.keys.push(name_key(name));
+        }
+    }
+
+    /// Whether a symbol is known to be the name with this key.
+    #[inline(always)]
+    pub(crate) fn has_key(&self, symbol: SymId, key: u64) -> bool
+        ensures { result ≡ true → HasKey symbol.0 key self.now }
+    {
+        match self.keys.get(symbol.0 as usize) {
+            Some(kept) => key != 0 && *kept == key,
+            None => false,
+        }
     }
 
     /// Only so many symbols stay, the first ones.
@@ -148,6 +179,7 @@ impl Symbols {
         ensures { self.new ≡ take count self.old }
     {
         self.texts.truncate(count);
+        self.keys.truncate(count);
     }
 
     /// The text of a symbol, which is empty where there is none with this number.

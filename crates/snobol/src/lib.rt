@@ -30,6 +30,7 @@ mod job;
 mod listing;
 mod machine;
 mod matching;
+mod names;
 mod no_input;
 mod quick;
 mod replacement;

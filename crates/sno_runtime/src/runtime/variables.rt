@@ -1,6 +1,8 @@
 //! Variables by their names, and what names hold.
-ghost use Rattle.std.specs.Prelude.{◌≡◌, IfSome, Ok};
+ghost use Rattle.std.specs.Prelude.{◌≡◌, IfSome, List, ℕ, Ok, option_map, true};
+ghost use Rattle.sno_value.specs.Keys.{IsKeyOf};
 ghost use Rattle.sno_store.specs.Store.{with_value};
+ghost use Rattle.sno_store.specs.Symbols.{found};
 ghost use Rattle.sno_runtime.specs.Action.{and_then};
 ghost use Rattle.sno_runtime.specs.Values.{shown, IsValueOf};
 ghost use Rattle.sno_runtime.specs.Runtime.{itself};
@@ -64,6 +66,34 @@ impl Runtime {
         ensures { IfSome result (λ id. Does itself any (variable_named name.now) self.now self.now (Ok (Name.Var id))) }
     {
         self.known(place % FOUND_SYMBOLS, name)
+    }
+
+    /// The symbol that a name is, if it is one.
+    pub fn symbol_of(&self, name: &[u8]) -> Option<SymId>
+        ensures { option_map (λ id. id.0) result ≡ found name.now self.now.store.symbols }
+    {
+        self.store.find_symbol(name)
+    }
+
+    /// Whether a symbol is known to be the variable whose name has this key (`sno_value::name_key`).
+    #[inline(always)]
+    pub fn has_key(&self, symbol: SymId, key: u64) -> bool
+        ensures { result ≡ true → (name : List ℕ) → IsKeyOf name key
+            → Does itself any (variable_named name) self.now self.now (Ok (Name.Var symbol)) }
+    {
+        self.store.has_key(symbol, key)
+    }
+
+    /// What the variable holds whose name has this key, where a symbol is known to be that and isn't INPUT.
+    #[inline(always)]
+    pub fn value_by_key(&self, symbol: SymId, key: u64) -> Option<&Value>
+        ensures { IfSome result (λ value. (name : List ℕ) → IsKeyOf name key
+            → Does shown IsValueOf (and_then (variable_named name) reads) self.now self.now (Ok value.now)) }
+    {
+        if !self.has_key(symbol, key) || is_input(Name::Var(symbol)) {
+            return None;
+        }
+        Some(self.store.variable(symbol))
     }
 
     /// What the variable of such a name holds, where it was found there before and isn't INPUT.

@@ -78,6 +78,8 @@ L N = N + INPUT :S(L)\n OUTPUT = N\nEND\n <- 3\n4\n => 7\n
  N = 3\n OUTPUT = 'a' ~LT(N,2) 'b'\n OUTPUT = 'a' ~GT(N,2) 'b'\n OUTPUT = 'c'\nEND\n => ab\nc\n
  DEFINE('F()') :(M)\nF N = 10\n F = 1 :(RETURN)\nM N = 3\n OUTPUT = N + F()\n OUTPUT = F() + N\nEND\n => 4\n11\n
  DEFINE('F()') :(M)\nF A = ARRAY(2,'new')\n F = 1 :(RETURN)\nM A = ARRAY(2,'old')\n OUTPUT = A<F()>\n OUTPUT = A<1>\nEND\n => old\nnew\n
+ ABCDEF = 1\n ABCDEFG = 2\n ABCDEFGH = 3\n ABCDEFGHI = 4\n OUTPUT = ABCDEF + ABCDEFG * 10 + ABCDEFGH * 100 + ABCDEFGHI * 1000\nEND\n => 4321\n
+ DEFINE('DOUBLED(X)')\n DEFINE('DOUBLED8(X)') :(M)\nDOUBLED DOUBLED = X + X :(RETURN)\nDOUBLED8 DOUBLED8 = X X :(RETURN)\nM OUTPUT = DOUBLED(4) + DOUBLED8(4)\nEND\n => 52\n
  A = ARRAY(3,0)\n A<2> = 5\n I = 1\n OUTPUT = A<I + 1> + A<I> A<I + 2> - 1\n A<I + 3> = 1 :S(END)\n OUTPUT = 'out'\nEND\n => 5-1\nout\n
 ";
 

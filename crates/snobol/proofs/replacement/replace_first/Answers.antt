@@ -1,7 +1,7 @@
 use Rattle.std.proofs.Common.{ap, ◌∙◌, ◌≤◌, ℕ, List, length, subst, Err}
 use Rattle.std.proofs.lemmas.Result.{err_from_is_err_and}
 use Rattle.snobol.proofs.RunningLaws.{answered}
-use Rattle.snobol.proofs.StatementLaws.{of_part, part_runs, part_ended}
+use Rattle.snobol.proofs.StatementLaws.{part_runs, part_ended}
 use Rattle.snobol.proofs.replacement.replace_first.Goals as goal
 
 pub returns-in_err-span : goal.returns-in_err-span
@@ -9,16 +9,16 @@ returns-in_err-span g c =
     let p = err_from_is_err_and c.from_residual.result c.from_residual.ensures.1 in
     answered (p.1 ∙ ap Err p.2) (part_ended _ c.in_err-span.ensures.does)
 
-pub evaluate-requires-clause-level : goal.evaluate-requires-clause-level
-evaluate-requires-clause-level g c = ap length c.in_ok-span.ensures.does.calls ∙ c.requires.level
+pub object_of-requires-clause-level : goal.object_of-requires-clause-level
+object_of-requires-clause-level g c = ap length c.in_ok-span.ensures.does.calls ∙ c.requires.level
 
-pub evaluate-requires-clause-ready : goal.evaluate-requires-clause-ready
-evaluate-requires-clause-ready g c = c.in_ok-span.ensures.does.ready
+pub object_of-requires-clause-ready : goal.object_of-requires-clause-ready
+object_of-requires-clause-ready g c = c.in_ok-span.ensures.does.ready
 
 pub returns-in_err-value : goal.returns-in_err-value
 returns-in_err-value g c =
     let p = err_from_is_err_and c.from_residual-in_err-value.result c.from_residual-in_err-value.ensures.1 in
-    let lost = of_part _ _ c.object_part.ensures c.in_err-value.ensures in
+    let lost = c.in_err-value.ensures in
     answered (p.1 ∙ ap Err p.2) (part_runs _ c.in_ok-span.ensures.does (part_ended _ lost))
 
 pub put_value-requires-clause-order : goal.put_value-requires-clause-order
@@ -38,6 +38,6 @@ put_value-requires-clause-sound g c = c.in_ok-value.ensures.ready.writes
 
 pub returns : goal.returns
 returns g c =
-    let object = of_part _ _ c.object_part.ensures c.in_ok-value.ensures in
+    let object = c.in_ok-value.ensures in
     let put = rw (← c.requires.text) at (c.put_value.ensures _ object.ready.reads) in
     part_runs _ c.in_ok-span.ensures.does (part_runs _ object put)

@@ -1,0 +1,4 @@
+use Rattle.snobol.proofs.calls.called_name.Goals as goal
+
+pub returns-in-Comparison : goal.returns-in-Comparison
+returns-in-Comparison c = λ program part known. let of = rw c.in-Comparison.is at known in (of.0, of.1)
