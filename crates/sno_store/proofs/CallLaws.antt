@@ -7,7 +7,7 @@ use Rattle.std.specs.List.{list_any, sum}
 use Rattle.std.proofs.lemmas.Bool.{eqb-true, eqb-false, cases_lt, or_from, or_parts}
 use Rattle.std.proofs.lemmas.List.{length-set, get_or-set_same, get_or-set_other, get_or_past, set-set, set_comm, same_lists, map-append}
 use Rattle.std.proofs.lemmas.List.{length-append, length-drop, length-take-le, take_all, drop_all, drop_more, take-append-le, drop-append-le, take-append-drop}
-use Rattle.std.proofs.lemmas.List.{drop-set-lt, set_past, nil_from_length, same_from_push, append_assoc}
+use Rattle.std.proofs.lemmas.List.{nil_from_length, append_assoc}
 use Rattle.std.proofs.lemmas.List.Sums.{sum_by-cons, sum_by_push}
 use Rattle.sno_value.specs.declared.ids.SymId.{SymId}
 use Rattle.sno_value.specs.declared.value.Value.{Value}
@@ -273,20 +273,18 @@ innermost counts n ss e =
       rest = rest;
     }
 
--- an argument is taken out of its place, and given to the next formal
+-- the argument at a place is given to the next formal
 pub given_next : (f : ℕ) (fs : List ℕ) (arguments values : List Value) (i : ℕ) →
-    with_arguments (Str []) fs (drop (i + 1) (set arguments i (Str []))) (set values f (get_or arguments i (Str [])))
+    with_arguments (Str []) fs (drop (i + 1) arguments) (set values f (get_or arguments i (Str [])))
     ≡ with_arguments (Str []) (f ∷ fs) (drop i arguments) values
 given_next f fs arguments values i = by (cases_lt i (length arguments))
   where
     by : (i < length arguments) ⊎ (length arguments ≤ i)
-        → with_arguments (Str []) fs (drop (i + 1) (set arguments i (Str []))) (set values f (get_or arguments i (Str [])))
+        → with_arguments (Str []) fs (drop (i + 1) arguments) (set values f (get_or arguments i (Str [])))
         ≡ with_arguments (Str []) (f ∷ fs) (drop i arguments) values
-    by (inl within) =
-        ap (λ rest. with_arguments (Str []) fs rest (set values f (get_or arguments i (Str [])))) (drop-set-lt (i + 1) arguments i (Str []) (omega arith))
-        ∙ ap (λ rest. with_arguments (Str []) (f ∷ fs) rest values) (sym (drop_more arguments i (Str []) within))
+    by (inl within) = ap (λ rest. with_arguments (Str []) (f ∷ fs) rest values) (sym (drop_more arguments i (Str []) within))
     by (inr past) =
-        (λ k. with_arguments (Str []) fs (drop (i + 1) (set_past arguments i (Str []) past k)) (set values f (get_or_past arguments i (Str []) past k)))
+        (λ k. with_arguments (Str []) fs (drop (i + 1) arguments) (set values f (get_or_past arguments i (Str []) past k)))
         ∙ ap (λ rest. with_arguments (Str []) fs rest (set values f (Str []))) (drop_all (i + 1) arguments (omega arith))
         ∙ ap (λ rest. with_arguments (Str []) (f ∷ fs) rest values) (sym (drop_all i arguments past))
 

@@ -1,16 +1,16 @@
 //! Calls of functions that a program defines.
 ghost use Rattle.std.specs.Prelude.{◌≡◌, ◌+◌, ◌≤◌, ◌<◌, [], ◌∷◌, ◌++◌, map, length, take, drop, vec_len, vec_capacity};
-ghost use Rattle.std.specs.Prelude.{List, ℕ, OnErr, OnOk, slice_set};
+ghost use Rattle.std.specs.Prelude.{List, ℕ, OnErr, OnOk, slice_index_or, slice_set};
 ghost use Rattle.sno_value.specs.declared.value.Value.{Value as Stored};
 ghost use Rattle.sno_value.specs.declared.value.Value.TheVariants.{Str};
 ghost use Rattle.sno_store.specs.Calls.{entered, function_value, restored, saved, with_arguments, with_nulls};
 ghost use Rattle.sno_store.specs.inner.Seen.{moved, numbered, saved_seen};
 
 use crate::definition::Definition;
-use crate::values::{exchanged, replaced, set};
 use sno_value::{SymId, Value};
 use std::alloc::{AllocError, Global};
 use std::marker::Model;
+use std::mem;
 
 /// What the open calls have saved, the innermost last, and each function's own value first. Where a symbol stands more
 /// than once in a call, the value that its variable had stands with the first, and null with the others.
@@ -55,6 +55,7 @@ impl Calls {
 
     /// Begins a call of a function: the values of its variables are saved, then it and its locals are null and its
     /// formals are the arguments, which are taken out of their list. Where memory is refused, all is as it was.
+    #[inline(always)]
     pub(crate) fn open(
         &mut self,
         alloc: Global,
@@ -76,8 +77,7 @@ impl Calls {
         let count = 1 + formals.len() + locals.len();
         self.saved.reserve(count)?;
         self.counts.push(count)?;
-        let value = exchanged(values, function, Value::null());
-        self.saved.push_reserved((function, value));
+        save_one(function, values, &mut self.saved);
         save(formals, values, &mut self.saved);
         save(locals, values, &mut self.saved);
         give(formals, arguments, values);
@@ -86,6 +86,7 @@ impl Calls {
 
     /// Ends the innermost call: gives the value of its function, and brings the saved values back, the last one first.
     /// Where no call is open, it is null and nothing happens.
+    #[inline(always)]
     pub(crate) fn close(&mut self, values: &mut Vec<Value>) -> Value
         ensures does { (calls : List (List (ℕ × Stored))) (call : List (ℕ × Stored)) → self.old ≡ calls ++ call ∷ []
             → (result ≡ function_value (Str []) call values.old.items)
@@ -112,8 +113,26 @@ fn save(symbols: &[SymId], values: &mut Vec<Value>, saved: &mut Vec<(SymId, Valu
     ensures room { vec_capacity saved.old ≤ vec_capacity saved.new }
 {
     'symbols: for symbol in symbols {
-        let value = exchanged(values, *symbol, Value::null());
-        saved.push_reserved((*symbol, value));
+        save_one(*symbol, values, saved);
+    }
+}
+
+/// The value of a variable goes behind what is saved, and the variable becomes null.
+#[inline(always)]
+fn save_one(symbol: SymId, values: &mut Vec<Value>, saved: &mut Vec<(SymId, Value)>)
+    requires room { vec_len saved.old < vec_capacity saved.old }
+    ensures saved { saved.new.items ≡ saved.old.items
+        ++ (symbol, slice_index_or values.old.items symbol.0 (Str [])) ∷ [] }
+    ensures values { values.new.items ≡ slice_set values.old.items symbol.0 (Str []) }
+    ensures len { vec_len saved.new ≡ vec_len saved.old + 1 }
+    ensures room { vec_capacity saved.old ≤ vec_capacity saved.new }
+{
+    let place = symbol.0 as usize;
+    if place < values.len() {
+        let value = mem::replace(&mut values[place], Value::null());
+        saved.push_reserved((symbol, value));
+    } else {
+        saved.push_reserved((symbol, Value::null()));
     }
 }
 
@@ -126,11 +145,27 @@ fn give(formals: &[SymId], arguments: &mut Vec<Value>, values: &mut Vec<Value>)
 {
     let mut place = 0;
     'formals: for formal in formals {
-        let argument = replaced(arguments, place, Value::null());
-        set(values, *formal, argument);
+        give_one(*formal, arguments, place, values);
         place += 1;
     }
     arguments.clear();
+}
+
+/// A formal is given the argument at a place, which is taken out of it. A missing one is null.
+#[inline(always)]
+fn give_one(formal: SymId, arguments: &mut Vec<Value>, place: usize, values: &mut Vec<Value>)
+    ensures value { values.new.items
+        ≡ slice_set values.old.items formal.0 (slice_index_or arguments.old.items place (Str [])) }
+    ensures rest { drop (place + 1) arguments.new.items ≡ drop (place + 1) arguments.old.items }
+{
+    let variable = formal.0 as usize;
+    if variable < values.len() {
+        if place < arguments.len() {
+            values[variable] = mem::replace(&mut arguments[place], Value::null());
+        } else {
+            values[variable] = Value::null();
+        }
+    }
 }
 
 /// Takes the value of the function of a call out of its variable, where the call's values are those behind the first so
@@ -142,8 +177,22 @@ fn take_result(saved: &[(SymId, Value)], held: usize, values: &mut Vec<Value>) -
     ensures len { length values.new.items ≡ length values.old.items }
 {
     match saved.get(held) {
-        Some((function, _value)) => exchanged(values, *function, Value::null()),
+        Some((function, _value)) => taken(values, *function),
         None => Value::null(),
+    }
+}
+
+/// The value that a variable had, which is null now. Where there is no such variable, it is null.
+#[inline(always)]
+fn taken(values: &mut Vec<Value>, variable: SymId) -> Value
+    ensures value { result ≡ slice_index_or values.old.items variable.0 (Str []) }
+    ensures values { values.new.items ≡ slice_set values.old.items variable.0 (Str []) }
+{
+    let place = variable.0 as usize;
+    if place < values.len() {
+        mem::replace(&mut values[place], Value::null())
+    } else {
+        Value::null()
     }
 }
 
@@ -154,7 +203,23 @@ fn bring_back(saved: &mut Vec<(SymId, Value)>, held: usize, values: &mut Vec<Val
     ensures len { length values.new.items ≡ length values.old.items }
 {
     'saved: while saved.len() > held {
-        let (symbol, value) = saved.take_last();
-        set(values, symbol, value);
+        bring_back_last(saved, values);
+    }
+}
+
+/// The value that was saved last is brought back. Where its variable is none, it is let go.
+#[inline(always)]
+fn bring_back_last(saved: &mut Vec<(SymId, Value)>, values: &mut Vec<Value>)
+    requires { 0 < vec_len saved.old }
+    ensures { (s : SymId × Stored) × (saved.old.items ≡ saved.new.items ++ s ∷ [])
+        × (values.new.items ≡ slice_set values.old.items s.0.0 s.1) }
+{
+    let (symbol, _value) = &saved[saved.len() - 1];
+    let place = symbol.0 as usize;
+    if place < values.len() {
+        let (_symbol, value) = saved.take_last();
+        values[place] = value;
+    } else {
+        saved.truncate(saved.len() - 1);
     }
 }

@@ -405,6 +405,7 @@ impl Store {
 
     /// The same as `enter`, but the list of the arguments stays the caller's: it is empty where the call is open, and
     /// as it was where it is refused.
+    #[inline(always)]
     pub fn enter_with(
         &mut self,
         function: SymId,
@@ -434,6 +435,7 @@ impl Store {
 
     /// Ends the innermost call: gives the value of its function's variable, and brings the saved values back, the last
     /// one first. It takes no memory. Where no call is open, it is null and nothing happens.
+    #[inline(always)]
     pub fn leave(&mut self) -> Value
         ensures { (calls : List (List (ℕ × Value))) (call : List (ℕ × Value)) → self.old.calls ≡ calls ++ call ∷ []
             → (result ≡ function_value (Str []) call self.old.values)

@@ -75,6 +75,7 @@ impl Runtime {
     /// Begins a call of a function: the values of its variables are saved, and they are set for the call. The list of
     /// the arguments is kept for the next evaluation. A function without a definition is error 4; beside 200 open calls
     /// it is error 10.
+    #[inline(always)]
     pub fn enter(&mut self, function: SymId, arguments: Vec<Value>) -> Result<(), Exit>
         requires { AllByRecursion (IsValueOf self.old.nodes) arguments.items }
         ensures { (d : Defined) → definition_at self.old.store.functions function.0 ≡ Some d
@@ -91,6 +92,7 @@ impl Runtime {
 
     /// Ends the innermost call, whose statement had this number: gives the value of its function, and brings back the
     /// values that it saved. Where no call is open it gives null, and nothing changes.
+    #[inline(always)]
     pub fn leave(&mut self, statement: u32) -> Value
         ensures { (calls : List (List (ℕ × Stored))) (call : List (ℕ × Stored)) → self.old.store.calls ≡ calls
             ++ call ∷ [] → Leaves calls call statement self.old self.new result }

@@ -8,13 +8,13 @@ use Rattle.sno_store.proofs.calls.bring_back.Goals as goal
 
 pub saved-preserved : goal.saved-preserved
 saved-preserved c =
-    let s = c.take_last-value.result in
-    let after = c.take_last-value.new.self.items in
-    let is = c.take_last-value.ensures.items in
-    let within : c.args.held ≤ length after = omega (arith, c.saved-test.true, c.len.ensures, ap length is, length_push after s) in
+    let did = c.bring_back_last.ensures in
+    let s = did.0 in
+    let after = c.bring_back_last.new.saved.items in
+    let within : c.args.held ≤ length after = omega (arith, c.saved-test.true, c.len.ensures, ap length did.1, length_push after s) in
     record {
-      held = kept_more c.saved.saved.items after s c.args.held is within ∙ c.saved.invariant.held;
-      long = ap length c.set.ensures ∙ length-set c.saved.values.items s.0.0 s.1 ∙ c.saved.invariant.long;
-      values = ap (restored (numbered (drop c.args.held after))) c.set.ensures
-          ∙ restored_more c.saved.saved.items after s c.args.held c.saved.values.items is within ∙ c.saved.invariant.values;
+      held = kept_more c.saved.saved.items after s c.args.held did.1 within ∙ c.saved.invariant.held;
+      long = ap length did.2 ∙ length-set c.saved.values.items s.0.0 s.1 ∙ c.saved.invariant.long;
+      values = ap (restored (numbered (drop c.args.held after))) did.2
+          ∙ restored_more c.saved.saved.items after s c.args.held c.saved.values.items did.1 within ∙ c.saved.invariant.values;
     }

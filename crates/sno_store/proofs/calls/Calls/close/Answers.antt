@@ -1,4 +1,4 @@
-use Rattle.std.proofs.Common.{◌≡◌, ◌-◌, ◌∙◌, ◌++◌, ◌∷◌, [], ap, sym, arith, drop, length, take}
+use Rattle.std.proofs.Common.{◌≡◌, ◌-◌, ◌∙◌, [], ap, sym, arith, drop, length, take}
 use Rattle.std.specs.List.{sum}
 use Rattle.std.proofs.lemmas.List.{length_push, same_from_push}
 use Rattle.sno_value.specs.declared.value.Value.TheVariants.{Str}

@@ -1,4 +1,4 @@
-use Rattle.std.proofs.Common.{◌∙◌, ap, sym, length, arith}
+use Rattle.std.proofs.Common.{ap, length, arith}
 use Rattle.sno_store.proofs.CallLaws.{length-calls}
 use Rattle.sno_store.proofs.calls.Calls.len.Goals as goal
 

@@ -1,4 +1,4 @@
-use Rattle.std.proofs.Common.{◌≡◌, ◌+◌, ◌∙◌, ◌++◌, [], ◌∷◌, ap, refl, length, map, get_or, set}
+use Rattle.std.proofs.Common.{◌+◌, ◌∙◌, ◌++◌, [], ◌∷◌, ap, refl, length, map, get_or, set}
 use Rattle.sno_value.specs.declared.value.Value.TheVariants.{Str}
 use Rattle.sno_store.specs.Calls.{with_arguments, with_nulls}
 use Rattle.sno_store.specs.inner.Seen.{calls_seen}
@@ -12,10 +12,10 @@ returns-clause-ok c =
     let formals = c.formals-formals.result.now in
     let locals = c.locals-locals.result.now in
     let values = c.args.values.now.items in
-    let did = opened counts before c.args.function formals locals values c.push_reserved.new.self.items c.save.new.saved.items c.save-2.new.saved.items
-    c.exchanged-value.new.values.items c.save.new.values.items (1 + length formals + length locals) c.self.invariant refl
-    (c.push_reserved.ensures.items ∙ (λ i. c.in_ok-reserve.ensures.items i ++ (c.args.function, c.exchanged-value.ensures.value i) ∷ []))
-    (c.exchanged-value.ensures.values ∙ ap (set values c.args.function.0) c.null.ensures)
+    let did = opened counts before c.args.function formals locals values c.save_one.new.saved.items c.save.new.saved.items c.save-2.new.saved.items
+    c.save_one.new.values.items c.save.new.values.items (1 + length formals + length locals) c.self.invariant refl
+    (c.save_one.ensures.saved ∙ ap (λ ss. ss ++ (c.args.function, get_or values c.args.function.0 (Str [])) ∷ []) c.in_ok-reserve.ensures.items)
+    c.save_one.ensures.values
     c.save.ensures.saved c.save.ensures.values c.save-2.ensures.saved in
     ap (λ ks. calls_seen ks c.save-2.new.saved.items) c.in_ok-push.ensures.items ∙ did.0
     ∙ (λ i. c.self.view_is i
@@ -26,10 +26,9 @@ returns-clause-values c =
     let formals = numbers c.formals-formals.result.now in
     let locals = numbers c.locals-locals.result.now in
     let values = c.args.values.now.items in
-    let first = c.exchanged-value.ensures.values ∙ ap (set values c.args.function.0) c.null.ensures in
     c.give.ensures.values
     ∙ ap (with_arguments (Str []) formals c.args.arguments.now.items)
-    (c.save-2.ensures.values ∙ ap (with_nulls (Str []) locals) (c.save.ensures.values ∙ ap (with_nulls (Str []) formals) first))
+    (c.save-2.ensures.values ∙ ap (with_nulls (Str []) locals) (c.save.ensures.values ∙ ap (with_nulls (Str []) formals) c.save_one.ensures.values))
     ∙ given (Str []) formals locals c.args.arguments.now.items (set values c.args.function.0 (Str []))
     ∙ (λ i. with_arguments (Str []) (c.formals-formals.ensures i) c.args.arguments.now.items
     (with_nulls (Str []) (c.locals-locals.ensures i) (set values c.args.function.0 (Str []))))
