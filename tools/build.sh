@@ -41,7 +41,7 @@ prove() {
     kit=
     trap end_kit EXIT
     for signal in HUP INT PIPE TERM; do trap "stop $signal" "$signal"; done
-    (cd "$top/crates/$crate" && exec setsid rt run -- --help) </dev/null >"$log" 2>&1 &
+    setsid "$top/tools/prove" $(program_crates "$name") </dev/null >"$log" 2>&1 &
     kit=$!
     follow 9>&-
     status=0
