@@ -140,8 +140,8 @@ impl Store {
         self.symbols.text(symbol)
     }
 
-    /// Whether a symbol is known to be the name with this key (`sno_value::name_key`). The keys of the first symbols are
-    /// kept.
+    /// Whether a symbol is known to be the name with this key (`sno_value::name_key`). The keys of the first symbols
+    /// are kept.
     #[inline(always)]
     pub fn has_key(&self, symbol: SymId, key: u64) -> bool
         ensures { result ≡ true → HasKey symbol.0 key self.now.symbols }

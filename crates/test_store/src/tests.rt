@@ -150,8 +150,8 @@ fn changes(store: &mut Store, alloc: Global, step: Step) -> Result<bool, AllocEr
     })
 }
 
-/// Makes a call that defines a function, or that begins or ends a call of one, and says whether it answers what the step
-/// says.
+/// Makes a call that defines a function, or that begins or ends a call of one, and says whether it answers what the
+/// step says.
 fn calls_functions(store: &mut Store, alloc: Global, step: Step) -> Result<bool, AllocError> {
     Ok(match step {
         Step::Define(prototype, entry, want) => {

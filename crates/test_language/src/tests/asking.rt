@@ -26,7 +26,8 @@ impl Question for Commands {
     }
 }
 
-/// `OPTIONS ; PATTERN ; SUBJECT`, `PATTERN ; SUBJECT`, or a pattern alone, whose subject is A. The answer is the listing.
+/// `OPTIONS ; PATTERN ; SUBJECT`, `PATTERN ; SUBJECT`, or a pattern alone, whose subject is A. The answer is the
+/// listing.
 #[derive(Drop)]
 pub struct Ways;
 
@@ -69,8 +70,8 @@ impl Question for Checks {
     }
 }
 
-/// An expression whose value a program writes between `<` and `>`; `fails` where it fails, and `error` and the code where
-/// it is an error.
+/// An expression whose value a program writes between `<` and `>`; `fails` where it fails, and `error` and the code
+/// where it is an error.
 #[derive(Drop)]
 pub struct Values;
 
@@ -121,8 +122,8 @@ fn pattern_and_subject(text: &str) -> (&str, &str, &str) {
 }
 
 /// What a command gives, whose file and whose standard input hold these bytes: what it writes to standard output and,
-/// where it ends with another status than 0 or writes nothing, `status` and the status. Behind that and `: ` stands what
-/// it writes to standard error, if anything.
+/// where it ends with another status than 0 or writes nothing, `status` and the status. Behind that and `: ` stands
+/// what it writes to standard error, if anything.
 fn told(alloc: Global, words: &[&str], file: Option<&[u8]>, input: &[u8]) -> Result<String, Fail> {
     let job = match command(alloc, words) {
         Ok(job) => job,

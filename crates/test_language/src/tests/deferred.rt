@@ -31,8 +31,8 @@ fn expressions_in_matches(rt: HostRuntime) -> Result<(), Fail> {
     check_rows::<Ways, _>(&rt, EXPRESSIONS_IN_MATCHES)
 }
 
-/// The argument of a primitive may be such an expression. The second row's steps are the concatenation, `$`, LEN(1), the
-/// close of `$`, the deferred LEN, and the LEN that takes its place.
+/// The argument of a primitive may be such an expression. The second row's steps are the concatenation, `$`, LEN(1),
+/// the close of `$`, the deferred LEN, and the LEN that takes its place.
 const ARGUMENTS_IN_MATCHES: &str = r"
 --anchor ; LEN(1) $ N LEN(*N) ; 2ABC => set N 0 1\nway 0 3\nexhausted\n
 --anchor --steps 6 ; LEN(1) $ N LEN(*N) ; 2ABC => set N 0 1\nway 0 3\nexhausted\n

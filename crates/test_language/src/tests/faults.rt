@@ -159,8 +159,8 @@ struct Done {
     told: Vec<u8>,
 }
 
-/// Does a job on a reader that fails at the call behind so many, and on writers with so much room for what is written and
-/// for what is told.
+/// Does a job on a reader that fails at the call behind so many, and on writers with so much room for what is written
+/// and for what is told.
 fn performed(
     alloc: Global,
     job: &Job<'_>,

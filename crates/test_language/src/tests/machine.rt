@@ -35,8 +35,10 @@ fn find<R: Source, W: Sink>(
     subject: &[u8],
 ) -> Found
     requires subject { length subject.now ≤ 1_000_000 }
-    requires ready { machine.old.stopped ≡ None → CanRun machine.old.state (devices (R.feed reader.old) (W.drain writer.old)) }
-    ensures ready { machine.new.stopped ≡ None → CanRun machine.new.state (devices (R.feed reader.new) (W.drain writer.new)) }
+    requires ready { machine.old.stopped ≡ None
+        → CanRun machine.old.state (devices (R.feed reader.old) (W.drain writer.old)) }
+    ensures ready { machine.new.stopped ≡ None
+        → CanRun machine.new.state (devices (R.feed reader.new) (W.drain writer.new)) }
 {
     match machine.pattern(reader, writer, expression) {
         Ok(Some(pattern)) => machine.match_first(reader, writer, pattern, subject),
@@ -69,8 +71,8 @@ fn pattern_of(alloc: Global, text: &[u8]) -> Result<Result<Option<PatId>, Outcom
     Ok(pattern)
 }
 
-/// `PATTERN ; SUBJECT ; SUBJECT`: what is found of an expression's pattern in a first and in a second subject, where INPUT
-/// gives the lines `A` and `B`, behind what is written.
+/// `PATTERN ; SUBJECT ; SUBJECT`: what is found of an expression's pattern in a first and in a second subject, where
+/// INPUT gives the lines `A` and `B`, behind what is written.
 #[derive(Drop)]
 pub struct Finds;
 

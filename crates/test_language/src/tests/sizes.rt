@@ -49,8 +49,8 @@ fn long_negations(rt: HostRuntime) -> Result<(), Fail> {
     check_rows::<Ways, _>(&rt, LONG_NEGATIONS)
 }
 
-/// The names of a program, that of its item among them, are symbols before its first statement: with N, LT, X, Z and the
-/// eight subscripts there are 21, so that 999,979 more have room, and not the last one of 999,980.
+/// The names of a program, that of its item among them, are symbols before its first statement: with N, LT, X, Z and
+/// the eight subscripts there are 21, so that 999,979 more have room, and not the last one of 999,980.
 const NAMES_OF_A_PROGRAM: &str = r"
 L N = LT(N,99998) N + 1 :F(E)\n X = $('a' N) $('b' N) $('c' N) $('d' N) $('e' N) $('f' N) $('g' N) $('h' N) $('i' N) $('j' N) :(L)\nE Z<A,B,C,D,F,G,H,I>\nEND\n => status 1: snobol4: error 9 in statement 2\n
 ";

@@ -102,8 +102,8 @@ fn a_match_begins_again(rt: HostRuntime) -> Result<(), Fail> {
 /// How many patterns one match is begun again with.
 const PATTERNS: usize = 2_000;
 
-/// Compares what a match that begins again and the plain search tell of a pattern, and then leaves the match behind some
-/// of the pattern's events.
+/// Compares what a match that begins again and the plain search tell of a pattern, and then leaves the match behind
+/// some of the pattern's events.
 fn compare<P: Points>(
     rt: &impl Abort,
     alloc: Global,

@@ -33,8 +33,9 @@ floating 4 : TEXT:A TEXT:B |:0,1 => exhausted at 4;
 floating 3 : TEXT:A TEXT:B |:0,1 => limit at 3;
 ";
 
-/// They are 'AB' | 'AC', also where both fail behind the first byte; 'ABC' | 'AC', where the subject ends inside a word; 'XY' | ANY('AB') | SPAN('BC');
-/// 'A' | ('B' | 'C'); ('A' | 'B') . X; ('A' | 'B') $ X; ('A' | 'B') 'C'; and 'A' | '', which begins with any byte.
+/// They are 'AB' | 'AC', also where both fail behind the first byte; 'ABC' | 'AC', where the subject ends inside a
+/// word; 'XY' | ANY('AB') | SPAN('BC'); 'A' | ('B' | 'C'); ('A' | 'B') . X; ('A' | 'B') $ X; ('A' | 'B') 'C'; and 'A' |
+/// '', which begins with any byte.
 const CHOICES: &str = r"
 floating 1000 AC: TEXT:AB TEXT:AC |:0,1 => way 0 2 at 4; exhausted at 14;
 floating 1000 AAD: TEXT:AB TEXT:AC |:0,1 => exhausted at 19;

@@ -14,8 +14,8 @@ struct Facts {
     third: Option<usize>,
 }
 
-/// The events of a match, as `way 0 2 at 7 with 1 0 1 with 2 0 2;`: `at` has the steps and `with` each assignment of the
-/// pending list of the last way.
+/// The events of a match, as `way 0 2 at 7 with 1 0 1 with 2 0 2;`: `at` has the steps and `with` each assignment of
+/// the pending list of the last way.
 pub fn drawn_events(alloc: Global, told: &[Told]) -> Result<String, AllocError> {
     let mut text = String::new(alloc);
     for one in told {

@@ -142,7 +142,8 @@ pub fn check_same(rt: &impl Abort, got: &[Told], want: &[Told]) {
     }
 }
 
-/// Compares what the matcher over either stack and the plain search tell of one pattern, and gives the number of events.
+/// Compares what the matcher over either stack and the plain search tell of one pattern, and gives the number of
+/// events.
 fn compare(rt: &impl Abort, alloc: Global, chance: &mut Chance) -> Result<usize, Fail> {
     let forms = chance.forms(alloc)?;
     let answers = chance.answers(alloc, forms.len())?;

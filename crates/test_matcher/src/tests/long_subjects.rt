@@ -13,12 +13,12 @@ use std::test::Fail;
 /// How many bytes the subject has.
 const BYTES: usize = 1000;
 
-/// A step enters ARBNO first, and four lead from each way to the next: the repetition is taken up, LEN and its close are
-/// entered, and ARBNO again. Behind the last byte the repetition is taken up once more, and LEN is entered in vain.
+/// A step enters ARBNO first, and four lead from each way to the next: the repetition is taken up, LEN and its close
+/// are entered, and ARBNO again. Behind the last byte the repetition is taken up once more, and LEN is entered in vain.
 const STEPS_OF_REPETITIONS: u32 = 4003;
 
-/// At a start before the last byte five goals are entered: the concatenation, `$`, LEN, the close of `$` and FAIL; behind
-/// the last byte three. Each start but the first is taken up by a step.
+/// At a start before the last byte five goals are entered: the concatenation, `$`, LEN, the close of `$` and FAIL;
+/// behind the last byte three. Each start but the first is taken up by a step.
 const STEPS_OF_ASSIGNMENTS: u32 = 6003;
 
 /// The most records that are kept at an event, however many starts there were.

@@ -18,8 +18,8 @@ use std::test::Fail;
 /// Each row is tried with every limit below this.
 const LIMITS: u32 = 160;
 
-/// Compares what the matcher over either stack and the plain search tell of the row `SUBJECT: FORMS` with this limit. The
-/// first form answers a deferred part, but for the second that is reached, which fails.
+/// Compares what the matcher over either stack and the plain search tell of the row `SUBJECT: FORMS` with this limit.
+/// The first form answers a deferred part, but for the second that is reached, which fails.
 fn compare(
     rt: &impl Abort,
     alloc: Global,
@@ -70,8 +70,8 @@ AAAAAAAAAABBBBBBBBBBAABB: SPAN:A TEXT: TEXT: TEXT: TEXT: TEXT: TEXT: TEXT: SPAN:
 AAAAAAAAAA,BBBBBBBBBB;A,B;: BREAKX:, TEXT: TEXT: TEXT: TEXT: TEXT: TEXT: TEXT: BREAKX:; &:0,8 TEXT:C &:9,10
 ";
 
-/// BAL at the heads of patterns, behind other parts and backed into, so that it is looked for more often than the subject is
-/// long and its ends come from the table.
+/// BAL at the heads of patterns, behind other parts and backed into, so that it is looked for more often than the
+/// subject is long and its ends come from the table.
 const BALANCED: &str = r"
 ((((: BAL TEXT:X &:0,1
 (())(): BAL TEXT:X &:0,1
@@ -147,8 +147,8 @@ fn check_long_run(
     check_no_way(rt, alloc, &table, pattern, &subject, steps)
 }
 
-/// At each start within the run three goals are entered: the concatenation, the primitive and the text. At a start where
-/// the primitive fails two are. Each start but the first is taken up by a step.
+/// At each start within the run three goals are entered: the concatenation, the primitive and the text. At a start
+/// where the primitive fails two are. Each start but the first is taken up by a step.
 #[test]
 fn long_runs_are_looked_through_once(rt: HostRuntime) -> Result<(), Fail> {
     check_long_run(&rt, rt.alloc(), "SPAN:A TEXT:B &:0,1", 200_005)?;

@@ -239,7 +239,8 @@ fn assignments_on_the_way(rt: HostRuntime) -> Result<(), Fail> {
     check_rows::<Matches, _>(&rt, ASSIGNMENTS)
 }
 
-/// They are (LEN(1) . A LEN(1)) . B; ('A' . X 'C' | 'A' . Y) 'B'; LEN(1) . X | LEN(2) . Y; LEN(1) $ X . Y; and LEN(1) . Z.
+/// They are (LEN(1) . A LEN(1)) . B; ('A' . X 'C' | 'A' . Y) 'B'; LEN(1) . X | LEN(2) . Y; LEN(1) $ X . Y; and LEN(1) .
+/// Z.
 const PENDING: &str = r"
 anchored 1000 XY: LEN:1 .:0,1 &:1,0 .:2,2 => way 0 2 at 7 with 1 0 1 with 2 0 2; exhausted at 7 with 1 0 1 with 2 0 2;
 anchored 1000 AB: TEXT:A .:0,1 TEXT:C &:1,2 .:0,2 |:3,4 TEXT:B &:5,6 => way 0 2 at 12 with 2 0 1; exhausted at 12 with 2 0 1;
@@ -254,8 +255,8 @@ fn assignments_that_wait(rt: HostRuntime) -> Result<(), Fail> {
     check_rows::<Matches, _>(&rt, PENDING)
 }
 
-/// The first event, and where it is a value also the event behind the answer, which is the first form: each with the steps
-/// up to it, how many events were told, and the length of the subject, which the match takes over.
+/// The first event, and where it is a value also the event behind the answer, which is the first form: each with the
+/// steps up to it, how many events were told, and the length of the subject, which the match takes over.
 #[derive(Drop)]
 struct FirstEvents;
 
@@ -466,7 +467,8 @@ fn a_long_chain(rt: HostRuntime) -> Result<(), Fail> {
 /// How many bytes a long run has.
 const RUN: usize = 50_000;
 
-/// ARBNO(FENCE('A' | 'AA')) RPOS(0): a cut that was closed leaves no point, so that the stack doesn't grow with the run.
+/// ARBNO(FENCE('A' | 'AA')) RPOS(0): a cut that was closed leaves no point, so that the stack doesn't grow with the
+/// run.
 fn repeat_cuts<P: Points>(rt: &impl Abort, alloc: Global) -> Result<(), Fail> {
     let forms = forms_of(alloc, "TEXT:A TEXT:AA |:0,1 CUT:2 ARBNO:3 RPOS:0 &:4,5")?;
     let (table, pattern) = table_of(alloc, &forms)?;

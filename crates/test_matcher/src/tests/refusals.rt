@@ -9,9 +9,9 @@ use std::alloc::{AllocError, Global};
 use std::process::Abort;
 use std::test::Fail;
 
-/// Refuses growths. Which ones, the number of the pattern modulo 64 says, since nothing else reaches a stack from a test:
-/// every second one for the pattern with the number 3, the first alone for that with 4, the second for that with 5, and so
-/// on.
+/// Refuses growths. Which ones, the number of the pattern modulo 64 says, since nothing else reaches a stack from a
+/// test: every second one for the pattern with the number 3, the first alone for that with 4, the second for that with
+/// 5, and so on.
 #[derive(Drop)]
 struct Refusing<P: Points> {
     inner: P,
@@ -145,11 +145,12 @@ const CUTS: Expected = Expected {
 /// One for each of its steps but 7 and 9, at which a cut is closed, and one for the way.
 const GROWTHS_OF_CUTS: u32 = 9;
 
-/// The growths of the repetition behind `new`: one for each step but 19, 21, 23, 30, 32, 44, 46 and 48, which fail, and one for each way.
+/// The growths of the repetition behind `new`: one for each step but 19, 21, 23, 30, 32, 44, 46 and 48, which fail, and
+/// one for each way.
 const GROWTHS: u32 = 47;
 
-/// The next event, asked for again after each refusal: none was told, and the steps are no fewer than those of the event
-/// before, and no more than those of this one.
+/// The next event, asked for again after each refusal: none was told, and the steps are no fewer than those of the
+/// event before, and no more than those of this one.
 fn ask_again<P: Points>(
     rt: &impl Abort,
     m: &mut Engine<P>,

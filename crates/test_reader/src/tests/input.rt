@@ -93,8 +93,8 @@ fn four_calls(
     Ok((told, device.into_inner().asked))
 }
 
-/// The lines of an input, behind the numbers of bytes that come at once: they are the same for each of these. A reader of
-/// up to 100 bytes at once that is asked once more than it has to be fails.
+/// The lines of an input, behind the numbers of bytes that come at once: they are the same for each of these. A reader
+/// of up to 100 bytes at once that is asked once more than it has to be fails.
 #[derive(Drop)]
 struct Inputs;
 

@@ -16,8 +16,8 @@ fn long_expressions(rt: HostRuntime) -> Result<(), Fail> {
     check_rows::<Nodes, _>(&rt, LONG_EXPRESSIONS)
 }
 
-/// All kinds count alike. One that closes makes room for another, those in literals aren't counted, and the count doesn't
-/// fall below 0.
+/// All kinds count alike. One that closes makes room for another, those in literals aren't counted, and the count
+/// doesn't fall below 0.
 const BRACKETS: &str = r"
 \<40:(\>1\<40:)\> => 0 statements, 1 nodes
 \<40:(\>1\<40:)\> (1) => 0 statements, 3 nodes

@@ -29,9 +29,9 @@ fn single_refusals(rt: HostRuntime) -> Result<(), Fail> {
     check_rows::<Sizes, _>(&rt, SINGLE_REFUSALS)
 }
 
-/// Each two rows of the table of refusals that fit one statement, the one before and behind the other in its text. A label
-/// stands first, so nothing comes before a duplicate one. An END that was read ends the program, so no duplicate label is
-/// in `END L`; nor is an integer: L is a label there.
+/// Each two rows of the table of refusals that fit one statement, the one before and behind the other in its text. A
+/// label stands first, so nothing comes before a duplicate one. An END that was read ends the program, so no duplicate
+/// label is in `END L`; nor is an integer: L is a label there.
 const PAIRS_IN_ONE_STATEMENT: &str = r"
 -- an open literal, and more than 40 brackets
  X = 'A\<41:(\>1\<41:)\>\nEND => snobol4: syntax 1 at line 1

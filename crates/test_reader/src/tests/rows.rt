@@ -1,5 +1,5 @@
-//! Blocks of rows: each line has a text, ` => ` and the answer that the text must have. An empty line, or one that begins
-//! with `-- `, is no row.
+//! Blocks of rows: each line has a text, ` => ` and the answer that the text must have. An empty line, or one that
+//! begins with `-- `, is no row.
 //!
 //! In a row `\n`, `\t`, `\r`, `\v` and `\0` are the bytes that they are in C, `\d` is byte 127, `\s` a blank and `\\` a
 //! backslash, `\#` is 9223372036854775808, and `\<40:TEXT\>` stands for 40 copies of TEXT.
