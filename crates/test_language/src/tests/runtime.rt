@@ -18,7 +18,7 @@ use std::test::Fail;
 const OUTPUT: Name = Name::Var(SymId(8));
 
 /// The value for which a word of a row stands: the null string where it is none of these.
-fn value_named(alloc: Global, word: &str) -> Value
+fn value_named(word: &str) -> Value
     ensures { (nodes : List Node) → IsValueOf nodes result }
 {
     match word {
@@ -82,12 +82,7 @@ impl Question for Forms {
         let (form, values) = from_utf8(text)?.split_once(" ").unwrap_or_default();
         let (x, y) = values.split_once(" ").unwrap_or((values, ""));
         let mut runtime = new_runtime(alloc)?;
-        let given = given(
-            &mut runtime,
-            form,
-            value_named(alloc, x),
-            value_named(alloc, y),
-        );
+        let given = given(&mut runtime, form, value_named(x), value_named(y));
         let given = given_text(alloc, given)?;
         let patterns = runtime.patterns().len();
         Ok(format!(in alloc; "{given}, {patterns} patterns")?)
@@ -211,7 +206,7 @@ impl Question for Outputs {
     fn answer(alloc: Global, text: &[u8]) -> Result<String, Fail> {
         let mut runtime = new_runtime(alloc)?;
         let mut output = Device::new(Vec::new(alloc));
-        let value = value_named(alloc, from_utf8(text)?);
+        let value = value_named(from_utf8(text)?);
         let ending = assign(&mut runtime, OUTPUT, value, &mut output);
         let written = output.into_inner();
         Ok(format!(in alloc; "{}{ending:?}", from_utf8(&written)?)?)
