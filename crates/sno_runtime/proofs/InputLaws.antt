@@ -1,6 +1,7 @@
 -- A line of input that becomes a value.
 use Rattle.std.proofs.Common.{Vec, Global, ◌≡◌, ℕ, zero, suc, ◌+◌, ℤ, pos, negsuc, ◌==◌, ◌<◌, ◌≤◌, nat_lt, Bool, true, false, if◌then◌else◌, List, [], ◌∷◌}
-use Rattle.std.proofs.Common.{◌⊎◌, inl, inr, ◌++◌, length, take, refl, ap, sym, ◌∙◌, subst, arith, append_assoc, Option, None, Some, Result, Ok, Err, OnOk, IsErrOf}
+use Rattle.std.proofs.Common.{◌⊎◌, inl, inr, ◌++◌, length, take, refl, ap, sym, ◌∙◌, subst, arith, append_assoc}
+use Rattle.std.proofs.Common.{Option, None, Some, Result, Ok, Err, OnOk, IsErrOf}
 use Rattle.std.specs.List.{list_all, range_with_len}
 use Rattle.std.proofs.lemmas.Bool.{le-ltb, lt-ltb}
 use Rattle.sno_value.specs.Strings.{trimmed}
