@@ -32,7 +32,6 @@ use Rattle.sno_runtime.proofs.Calls.{saved_shown}
 use Rattle.sno_runtime.proofs.Outcomes.{gives_does, no_memory_does, grows_none, then_got, then_err, saved_shown_stay}
 use Rattle.snobol.specs.declared.forms.Wanted.{Wanted}
 use Rattle.snobol.specs.declared.forms.Wanted.TheVariants as wanted
-use Rattle.snobol.specs.inner.Calling.{RunsAt}
 use Rattle.snobol.specs.Evaluate.{Caller, made_function, function_of, function_called}
 use Rattle.snobol.specs.Forms.{token}
 use Rattle.snobol.specs.Meaning.{label_number, chain, leaves, performs_function, performs_call, call_at}
@@ -274,10 +273,10 @@ module _ (program : Program) (f n : ℕ) (d : Definition) (xs : List Value) (bef
   -- a whole call, whose statements may call others
 
   pub call_runs : (level : ℕ) (late after : Runtime) (value : Stored) (success : Bool) (old new : Devices) → level ≡ length mid.store.calls
-      → RunsAt {X = Bool} itself any (λ call. chain program call (mid.keywords.cap + 1) n) program level mid late old new (Ok success)
+      → Runs {X = Bool} itself any (chain program (call_at program (200 - level)) (mid.keywords.cap + 1) n) mid late old new (Ok success)
       → ((calls : List (List (ℕ × Stored))) (call : List (ℕ × Stored)) → late.store.calls ≡ calls ++ call ∷ []
       → Leaves calls call before.keywords.statement late after value)
-      → RunsAt shown IsValueOf (λ call. call f xs) program (length before.store.calls) before after old new (answered success value)
+      → Runs shown IsValueOf (call_at program (200 - length before.store.calls) f xs) before after old new (answered success value)
   call_runs level late after value success old new inside p leave =
       rw (deeper level inside) (left_runs late after value p.grows (leave before.store.calls (stored_call f d before) (innermost late p.calls))
       (200 - level) success old new p)
@@ -285,8 +284,8 @@ module _ (program : Program) (f n : ℕ) (d : Definition) (xs : List Value) (bef
   -- a chain of statements never fails
   pub call_ended : (level : ℕ) (late : Runtime) (old new : Devices) (x : Exit) → level ≡ length mid.store.calls
       → (◌≡◌ {A = Result Bool Exit} (Err x) (Err Failure) → ⊥)
-      → RunsAt {X = Bool} itself any (λ call. chain program call (mid.keywords.cap + 1) n) program level mid late old new (Err x)
-      → RunsAt {X = Stored} shown IsValueOf (λ call. call f xs) program (length before.store.calls) before late old new (Err x)
+      → Runs {X = Bool} itself any (chain program (call_at program (200 - level)) (mid.keywords.cap + 1) n) mid late old new (Err x)
+      → Runs {X = Stored} shown IsValueOf (call_at program (200 - length before.store.calls) f xs) before late old new (Err x)
   call_ended level late old new Failure inside never p = absurd (never refl)
   call_ended level late old new (Halt why) inside never p = rw (deeper level inside) (halted_runs (200 - level) late old new why p)
 
@@ -294,7 +293,7 @@ module _ (program : Program) (f n : ℕ) (d : Definition) (xs : List Value) (bef
 
 pub not_begun : (program : Program) (f : ℕ) (d : Definition) (xs : List Value) (before mid : Runtime) (e : Devices) (x : Exit) → CanRun before e
     → length before.store.calls < 200 → Enters f d xs before mid (Err x)
-    → RunsAt {X = Stored} shown IsValueOf (λ call. call f xs) program (length before.store.calls) before mid e e (Err x)
+    → Runs {X = Stored} shown IsValueOf (call_at program (200 - length before.store.calls) f xs) before mid e e (Err x)
 not_begun program f d xs before mid e Failure can room began = absurd began
 not_begun program f d xs before mid e (Halt (HasError code)) can room began = absurd (let n = began.1 in omega arith)
 not_begun program f d xs before mid e (Halt (HasErrorIn code statement)) can room began = absurd began
@@ -308,6 +307,6 @@ not_begun program f d xs before mid e (Halt HasEnded) can room began = absurd be
 
 pub call_refused : (program : Program) (f : ℕ) (xs : List Value) (s : Runtime) (e : Devices) (x : Exit) → CanRun s e → length s.store.calls ≤ 200
     → ((levels : ℕ) (xs : List Value) → levels + length s.store.calls ≡ 200 → Does {X = Stored} shown IsValueOf (call_at program levels f xs) s s (Err x))
-    → RunsAt {X = Stored} shown IsValueOf (λ call. call f xs) program (length s.store.calls) s s e e (Err x)
+    → Runs {X = Stored} shown IsValueOf (call_at program (200 - length s.store.calls) f xs) s s e e (Err x)
 call_refused program f xs s e x can most refused = does_runs shown IsValueOf (call_at program (200 - length s.store.calls) f xs) s s e (Err x) can
     (refused (200 - length s.store.calls) xs (omega arith))

@@ -8,8 +8,8 @@
 //! an expression: `in_place` reads tokens, `quick` does what two integers or an array need, and `apply` any form.
 //! `matching` runs a match up to its first way, `answers` gives it what its deferred parts stand for, and `replacement`
 //! puts a text in the place of what matched. `calls` performs the statements of a function that the program has made,
-//! within a `scope`. `enumeration` is the listing of a pattern, and `listing` its loop over events; `machine` evaluates
-//! and matches, call after call.
+//! and `scope` is what statements are performed in. `enumeration` is the listing of a pattern, and `listing` its loop
+//! over events; `machine` evaluates and matches, call after call.
 #![tactic(auto)]
 
 mod answers;

@@ -7,29 +7,26 @@ ghost use Rattle.sno_runtime.specs.Effects.{listed};
 ghost use Rattle.sno_runtime.specs.inner.Performs.{Performs};
 ghost use Rattle.sno_runtime.specs.Runtime.{itself};
 ghost use Rattle.sno_runtime.specs.inner.Runtime.{any};
-ghost use Rattle.snobol.specs.inner.Calling.{Calling};
+ghost use Rattle.snobol.specs.inner.Calling.{CanRunIn};
 ghost use Rattle.snobol.specs.Listing.{lists_events};
-ghost use Rattle.snobol.specs.Running.{Runs, CanRun, devices};
+ghost use Rattle.snobol.specs.Meaning.{calls};
+ghost use Rattle.snobol.specs.Running.{Runs, devices};
 ghost use Rattle.snobol.specs.Turns.{most_events};
 
 use crate::answers::answer_of;
 use crate::evaluate::evaluate;
 use crate::forms::value_of;
-use crate::scope::Scope;
+use crate::scope::Calls;
 use sno_io::{Sink, Source, put};
 use sno_match::{Event, Matcher, Pending};
 use sno_runtime::{Exit, Runtime, Stop, line_of, take_effect};
-use sno_value::{PatId, SymId, Value};
+use sno_value::PatId;
 
 /// Lists the events of a match, up to the last: each event's line is written, and then it takes effect. A deferred part
 /// is evaluated, and has no line.
-pub(crate) fn list_ways<
-    R: Source,
-    W: Sink,
-    C: Fn(&mut Runtime, &mut R, &mut W, SymId, Vec<Value>) -> Result<Value, Exit>,
->(
+pub(crate) fn list_ways<R: Source, W: Sink, S: Calls<R, W>>(
     runtime: &mut Runtime,
-    scope: &Scope<C>,
+    scope: &S,
     reader: &mut R,
     pattern: PatId,
     subject: &[u8],
@@ -37,18 +34,13 @@ pub(crate) fn list_ways<
     limit: u32,
     writer: &mut W,
 ) -> Result<(), Exit>
-    requires calls { Calling R.feed W.drain scope.now.code.now scope.now.level (C.pre scope.now.call)
-        (C.post scope.now.call) }
-    requires level { length runtime.old.store.calls ≡ scope.now.level }
-    requires outermost { scope.now.level ≡ 0 }
+    requires outermost { S.caller scope.now ≡ calls (S.code scope.now) }
     requires pattern { pattern.0 < length runtime.old.nodes }
     requires subject { length subject.now ≤ 1_000_000 }
-    requires ready { CanRun runtime.old (devices (R.feed reader.old) (W.drain writer.old)) }
-    ensures { Runs itself any
-        (lists_events scope.now.code.now (tree runtime.old.nodes pattern.0) subject.now anchored limit
-        (most_events limit) [] 0) runtime.old runtime.new
-        (devices (R.feed reader.old) (W.drain writer.old))
-        (devices (R.feed reader.new) (W.drain writer.new)) result }
+    requires within { CanRunIn (S.within scope.now) runtime.old (devices (R.feed reader.old) (W.drain writer.old)) }
+    ensures { Runs itself any (lists_events (S.code scope.now) (tree runtime.old.nodes pattern.0) subject.now anchored
+        limit (most_events limit) [] 0) runtime.old runtime.new
+        (devices (R.feed reader.old) (W.drain writer.old)) (devices (R.feed reader.new) (W.drain writer.new)) result }
 {
     let alloc = runtime.alloc();
     let mut matcher = Matcher::new(alloc, runtime.patterns(), pattern, subject, anchored, limit)?;

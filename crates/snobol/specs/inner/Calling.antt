@@ -1,5 +1,6 @@
--- What functions did whose parts may call functions of the program. These words are private to the interpreter.
-use Rattle.std.specs.Prelude.{◌≡◌, ℕ, ◌-◌, List, length, map, Result}
+-- What functions owe whose parts may call functions of the program, and what a closure does of such a call. These words
+-- are private to the interpreter.
+use Rattle.std.specs.Prelude.{◌≡◌, ℕ, ◌-◌, length, map, Result}
 use Rattle.std.specs.Borrow.{MutBor}
 use Rattle.std.specs.List.{AllByRecursion}
 use Rattle.std.specs.declared.vec.Vec.{Vec}
@@ -8,20 +9,16 @@ use Rattle.sno_value.specs.declared.ids.SymId.{SymId}
 use Rattle.sno_value.specs.declared.value.Value.{Value as Stored}
 use Rattle.sno_io.specs.Devices.{Drain, Feed}
 use Rattle.sno_text.specs.Program.{Program}
-use Rattle.sno_pattern.specs.Table.{Node}
 use Rattle.sno_runtime.specs.declared.stops.Exit.{Exit}
-use Rattle.sno_runtime.specs.Action.{Action}
 use Rattle.sno_runtime.specs.Runtime.{Runtime}
 use Rattle.sno_runtime.specs.Values.{shown, IsValueOf}
-use Rattle.snobol.specs.Evaluate.{Caller}
 use Rattle.snobol.specs.Meaning.{call_at}
 use Rattle.snobol.specs.Running.{Devices, CanRun, Runs, devices}
 
--- It ran as the action does, whose calls stand inside so many open ones.
-abbrev pub RunsAt : {X A : Type 0} → (List Node → X → A) → (List Node → X → Type 0) → (Caller → Action A) → Program → ℕ
-    → Runtime → Runtime → Devices → Devices → Result X Exit → Type 0
-RunsAt see fits act program level before after old new result =
-    Runs see fits (act (call_at program (200 - level))) before after old new result
+-- The run can go on, and calls can be done where so many are open.
+pub record CanRunIn (within : ℕ → Type 0) (s : Runtime) (d : Devices) : Type 0 where
+  pub level : within (length s.store.calls)
+  pub ready : CanRun s d
 
 -- A closure does calls that stand inside so many open ones: what it owes of a call, and what that did. `feed` and
 -- `drain` say what a reader and a writer tell.
@@ -35,5 +32,5 @@ pub record Calling {R W : Type 0} (feed : R → Feed) (drain : W → Drain) (pro
       → AllByRecursion (IsValueOf m.now.nodes) xs.items → pre m r w f xs
   pub meant : (m : MutBor Runtime) (r : MutBor R) (w : MutBor W) (f : SymId) (xs : Vec Stored Global)
       (x : Result Stored Exit) (m1 : MutBor Runtime) (r1 : MutBor R) (w1 : MutBor W) → post m r w f xs x m1 r1 w1
-      → RunsAt shown IsValueOf (λ call. call f.0 (map (shown m.now.nodes) xs.items)) program level m.now m1.now
+      → Runs shown IsValueOf (call_at program (200 - level) f.0 (map (shown m.now.nodes) xs.items)) m.now m1.now
       (devices (feed r.now) (drain w.now)) (devices (feed r1.now) (drain w1.now)) x

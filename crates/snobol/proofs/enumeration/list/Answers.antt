@@ -9,40 +9,25 @@ use Rattle.snobol.proofs.enumeration.list.Goals as goal
 told_is_no_fault : ◌≡◌ {A = Result (Unit {0}) Stop} (Ok tt) (Err WriteFault) → ⊥
 told_is_no_fault e = cc e
 
-pub pattern_of-requires-clause-calls : goal.pattern_of-requires-clause-calls
-pattern_of-requires-clause-calls g c = record {
-  callable = λ m r w f xs level can values. (level, (values, can));
-  meant = λ m r w f xs x m1 r1 w1 did. did.2;
-}
+pub pattern_of-requires : goal.pattern_of-requires
+pattern_of-requires g c =
+    let start = rw c.in-Ok.is at c.new.ensures in
+    record {
+      level = ap length (new_closed c.in-Ok.runtime c.for_listing-keywords.result start);
+      ready = new_runs c.in-Ok.runtime c.for_listing-keywords.result _ start refl c.requires.sound;
+    }
 
-pub pattern_of-requires-clause-level : goal.pattern_of-requires-clause-level
-pattern_of-requires-clause-level g c = ap length (new_closed c.in-Ok.runtime c.for_listing-keywords.result (rw c.in-Ok.is at c.new.ensures))
-
-pub pattern_of-requires-clause-ready : goal.pattern_of-requires-clause-ready
-pattern_of-requires-clause-ready g c = new_runs c.in-Ok.runtime c.for_listing-keywords.result _ (rw c.in-Ok.is at c.new.ensures) refl c.requires.sound
-
-pub list_ways-requires-clause-calls : goal.list_ways-requires-clause-calls
-list_ways-requires-clause-calls g c = record {
-  callable = λ m r w f xs level can values. (level, (values, can));
-  meant = λ m r w f xs x m1 r1 w1 did. did.2;
-}
-
-pub list_ways-requires-clause-level : goal.list_ways-requires-clause-level
-list_ways-requires-clause-level g c =
+pub list_ways-requires-clause-within : goal.list_ways-requires-clause-within
+list_ways-requires-clause-within g c =
+    let start = rw c.in-Ok.is at c.new.ensures in
     let did = rw c.in-Ok-pattern_of.is at c.pattern_of.ensures in
-    ap length (did.calls ∙ new_closed c.in-Ok.runtime c.for_listing-keywords.result (rw c.in-Ok.is at c.new.ensures))
+    record { level = ap length (did.calls ∙ new_closed c.in-Ok.runtime c.for_listing-keywords.result start); ready = did.ready }
 
 pub list_ways-requires-clause-pattern : goal.list_ways-requires-clause-pattern
 list_ways-requires-clause-pattern g c =
     let start = rw c.in-Ok.is at c.new.ensures in
     let did = rw c.in-Ok-pattern_of.is at (c.pattern_of.ensures) in
     did.answer
-
-pub list_ways-requires-clause-ready : goal.list_ways-requires-clause-ready
-list_ways-requires-clause-ready g c =
-    let start = rw c.in-Ok.is at c.new.ensures in
-    let did = rw c.in-Ok-pattern_of.is at (c.pattern_of.ensures) in
-    did.ready
 
 pub put-requires : goal.put-requires
 put-requires g c =

@@ -7,10 +7,11 @@ use Rattle.snobol.specs.inner.Given.{given_of}
 use Rattle.snobol.proofs.RunningLaws.{performs_runs}
 use Rattle.snobol.proofs.EnumerationLaws.{whole_listing, value_then, value_ended, unlisted, last_told, line_told, events_over, event_then, event_ended}
 use Rattle.snobol.proofs.SessionLaws.{turn_of, trace_followed, given_to, follows_on, follows_answer, given_same, given_answer}
+use Rattle.snobol.proofs.CallingLaws.{still_in}
 use Rattle.snobol.proofs.listing.list_ways.Goals as goal
 
-pub evaluate-value-requires-clause-level : goal.evaluate-value-requires-clause-level
-evaluate-value-requires-clause-level g c = ap length c.events.invariant.calls ∙ c.requires.level
+pub evaluate-value-requires : goal.evaluate-value-requires
+evaluate-value-requires g c = still_in _ _ _ _ _ c.requires.within c.events.invariant.calls c.events.invariant.can
 
 pub answer_of-requires : goal.answer_of-requires
 answer_of-requires g c = c.evaluate-value.ensures.answer
@@ -28,13 +29,13 @@ answer-requires-clause-known g c =
 pub returns-in_err-matcher : goal.returns-in_err-matcher
 returns-in_err-matcher g c =
     let p = err_from_is_err_and c.from_residual.result c.from_residual.ensures.1 in
-    rw (p.1, p.2) (unlisted _ _ _ c.requires.ready)
+    rw (p.1, p.2) (unlisted _ _ _ c.requires.within.ready)
 
 pub returns-in_err-event : goal.returns-in_err-event
 returns-in_err-event g c =
     let p = err_from_is_err_and c.from_residual-in_err-event.result c.from_residual-in_err-event.ensures.1 in
     let i = c.events.invariant in
-    rw (p.1, p.2, ← whole_listing c.args.scope.now.code.now _ c.args.subject.now c.args.anchored c.args.limit) (i.leads _ _ _ (unlisted _ _ _ i.can))
+    rw (p.1, p.2, ← whole_listing (g.S.Calls.code c.args.scope.now) _ c.args.subject.now c.args.anchored c.args.limit) (i.leads _ _ _ (unlisted _ _ _ i.can))
 
 pub returns-in_err-given-in-Value : goal.returns-in_err-given-in-Value
 returns-in_err-given-in-Value g c =
@@ -43,7 +44,7 @@ returns-in_err-given-in-Value g c =
     let turn = rw c.in-Value.is at (turn_of c.events.matcher c.next.new.self _ _ _ _ _ c.in_ok-event.event i.follows c.in_ok-event.ensures.same
     c.in_ok-event.ensures.ok c.in_ok-event.ensures.counts) in
     let runs = c.in_err-given-in-Value.ensures _ _ _ _ (rw (c.value_of.ensures, c.requires.outermost) at c.evaluate-value.ensures) in
-    rw (p.1, p.2, ← whole_listing c.args.scope.now.code.now _ c.args.subject.now c.args.anchored c.args.limit)
+    rw (p.1, p.2, ← whole_listing (g.S.Calls.code c.args.scope.now) _ c.args.subject.now c.args.anchored c.args.limit)
     (i.leads _ _ _ (value_ended _ _ _ _ _ _ _ c.in-Value.prim c.in-Value.expr.0 _ _ _ _ _ _ turn runs))
 
 pub returns-in_err-answer-in-Value : goal.returns-in_err-answer-in-Value
@@ -53,7 +54,7 @@ returns-in_err-answer-in-Value g c =
     let turn = rw c.in-Value.is at (turn_of c.events.matcher c.next.new.self _ _ _ _ _ c.in_ok-event.event i.follows c.in_ok-event.ensures.same
     c.in_ok-event.ensures.ok c.in_ok-event.ensures.counts) in
     let runs = c.in_ok-given-in-Value.ensures _ _ _ _ (rw (c.value_of.ensures, c.requires.outermost) at c.evaluate-value.ensures) in
-    rw (p.1, p.2, ← whole_listing c.args.scope.now.code.now _ c.args.subject.now c.args.anchored c.args.limit)
+    rw (p.1, p.2, ← whole_listing (g.S.Calls.code c.args.scope.now) _ c.args.subject.now c.args.anchored c.args.limit)
     (i.leads _ _ _ (value_then _ _ _ _ _ _ _ c.in-Value.prim c.in-Value.expr.0 _ _ _ _ _ _ _ c.in_ok-given-in-Value.given _ turn runs
     (unlisted _ _ _ runs.ready)))
 
@@ -93,7 +94,7 @@ returns-in_err-list_event-in-Exhausted g c =
     let did = c.in_err-list_event-in-Exhausted.ensures in
     let runs = performs_runs _ _ _ _ (g.W.Sink.drain c.events.writer) _ (Err c.in_err-list_event-in-Exhausted.field-0.0) i.can.reads did.nodes tt did.fault
     (rw c.pending.ensures.value at did.does) in
-    rw (p.1, p.2, ← whole_listing c.args.scope.now.code.now _ c.args.subject.now c.args.anchored c.args.limit)
+    rw (p.1, p.2, ← whole_listing (g.S.Calls.code c.args.scope.now) _ c.args.subject.now c.args.anchored c.args.limit)
     (i.leads _ _ _ (event_ended _ _ _ _ _ _ _ c.in_ok-event.event c.next.new.self.way _ _ _ _ _ _ last.0 turn.0 turn.1 runs))
 
 pub returns-in-Exhausted : goal.returns-in-Exhausted
@@ -111,9 +112,9 @@ returns-in-Exhausted g c =
     let same = ap length (c.in_ok-event.ensures.same.trace ∙ trace_followed c.events.matcher _ _ _ _ _ i.follows) in
     let all : length (trace (tree c.args.runtime.now.nodes c.args.pattern.0) c.args.subject.now c.args.anchored c.args.limit (given_to c.events.matcher))
     ≤ suc c.events.matcher.told = omega arith in
-    rw (← whole_listing c.args.scope.now.code.now _ c.args.subject.now c.args.anchored c.args.limit)
+    rw (← whole_listing (g.S.Calls.code c.args.scope.now) _ c.args.subject.now c.args.anchored c.args.limit)
     (i.leads _ _ _ (event_then _ _ _ _ _ _ _ c.in_ok-event.event c.next.new.self.way _ _ _ _ _ _ _ _ last.0 turn.0 turn.1 runs
-    (events_over c.args.scope.now.code.now (tree c.args.runtime.now.nodes c.args.pattern.0) c.args.subject.now c.args.anchored c.args.limit _
+    (events_over (g.S.Calls.code c.args.scope.now) (tree c.args.runtime.now.nodes c.args.pattern.0) c.args.subject.now c.args.anchored c.args.limit _
     (given_to c.events.matcher) _ _ runs.ready all)))
 
 pub events-preserved : goal.events-preserved
@@ -149,5 +150,5 @@ returns-in_err-list_event-in_default g c =
     let did = c.in_err-list_event-in_default.ensures in
     let runs = performs_runs _ _ _ _ (g.W.Sink.drain c.events.writer) _ (Err c.in_err-list_event-in_default.field-0.0) i.can.reads did.nodes tt did.fault
     (rw c.pending-in_default.ensures.value at did.does) in
-    rw (p.1, p.2, ← whole_listing c.args.scope.now.code.now _ c.args.subject.now c.args.anchored c.args.limit)
+    rw (p.1, p.2, ← whole_listing (g.S.Calls.code c.args.scope.now) _ c.args.subject.now c.args.anchored c.args.limit)
     (i.leads _ _ _ (event_ended _ _ _ _ _ _ _ c.in_ok-event.event c.next.new.self.way _ _ _ _ _ _ on.0 turn.0 turn.1 runs))

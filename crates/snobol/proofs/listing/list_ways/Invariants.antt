@@ -17,10 +17,10 @@ invariant-events g l = record {
   can : CanRun l.runtime (devices (g.R.Source.feed l.reader) (g.W.Sink.drain l.writer));
   calls : l.runtime.store.calls ≡ l.fn.runtime.store.calls;
   leads : (c : Runtime) (z : Devices) (r : Result Unit Exit)
-      → Runs itself any (to_end l.scope.code.now (tree l.fn.runtime.nodes l.fn.pattern.0) l.fn.subject l.fn.anchored l.fn.limit
+      → Runs itself any (to_end (g.S.Calls.code l.scope) (tree l.fn.runtime.nodes l.fn.pattern.0) l.fn.subject l.fn.anchored l.fn.limit
       (given_to l.matcher) l.matcher.told) l.runtime c
       (devices (g.R.Source.feed l.reader) (g.W.Sink.drain l.writer)) z r
-      → Runs itself any (to_end l.scope.code.now (tree l.fn.runtime.nodes l.fn.pattern.0) l.fn.subject l.fn.anchored l.fn.limit [] 0) l.fn.runtime c
+      → Runs itself any (to_end (g.S.Calls.code l.scope) (tree l.fn.runtime.nodes l.fn.pattern.0) l.fn.subject l.fn.anchored l.fn.limit [] 0) l.fn.runtime c
       (devices (g.R.Source.feed l.fn.reader) (g.W.Sink.drain l.fn.writer)) z r;
 }
 

@@ -1,8 +1,9 @@
-use Rattle.std.proofs.Common.{ap, ◌∙◌, length, Some, Err}
+use Rattle.std.proofs.Common.{ap, ◌∙◌, Some, Err}
 use Rattle.std.proofs.lemmas.Result.{err_from_is_err_and}
 use Rattle.snobol.proofs.RunningLaws.{answered}
 use Rattle.snobol.proofs.StatementLaws.{of_part, read_runs, part_runs, part_ended, name_runs, nameless_runs, text_runs, textless_runs, pattern_runs}
 use Rattle.snobol.proofs.StatementLaws.{patternless_runs}
+use Rattle.snobol.proofs.CallingLaws.{still_in}
 use Rattle.snobol.proofs.replacement.replace.Goals as goal
 
 pub returns-in_err-name : goal.returns-in_err-name
@@ -36,11 +37,10 @@ returns-in_err-text g c =
     answered (p.1 ∙ ap Err p.2) (part_runs _ named (name_runs _ _ c.in_ok-target.target (c.in_ok-target.ensures c.evaluate_root.new.runtime.nodes)
     (part_runs _ read (textless_runs _ _ read.ready (c.in_err-text.ensures.text c.read.new.self.nodes)))))
 
-pub evaluate_root-requires-2-clause-level : goal.evaluate_root-requires-2-clause-level
-evaluate_root-requires-2-clause-level g c = ap length c.in_ok-value.ensures.calls ∙ (ap length c.in_ok-name.ensures.calls ∙ c.requires.level)
-
-pub evaluate_root-requires-2-clause-ready : goal.evaluate_root-requires-2-clause-ready
-evaluate_root-requires-2-clause-ready g c = (read_runs c.in_ok-name.ensures.ready c.in_ok-value.ensures).ready
+pub evaluate_root-requires-2 : goal.evaluate_root-requires-2
+evaluate_root-requires-2 g c =
+    still_in _ _ _ _ _ c.requires (c.in_ok-value.ensures.calls ∙ c.in_ok-name.ensures.calls)
+    (read_runs c.in_ok-name.ensures.ready c.in_ok-value.ensures).ready
 
 pub returns-in_err-value-2 : goal.returns-in_err-value-2
 returns-in_err-value-2 g c =
@@ -70,15 +70,10 @@ replace_first-done-requires-clause-subject g c =
 pub replace_first-done-requires-clause-text : goal.replace_first-done-requires-clause-text
 replace_first-done-requires-clause-text g c = rw (c.deref_mut.ensures.value, c.in_ok-matcher.ensures.subject) c.as_slice.ensures
 
-pub replace_first-done-requires-clause-level : goal.replace_first-done-requires-clause-level
-replace_first-done-requires-clause-level g c =
+pub replace_first-done-requires-clause-within : goal.replace_first-done-requires-clause-within
+replace_first-done-requires-clause-within g c =
     let begun = pattern_runs _ _ c.args.pattern (of_part _ _ (ap Some c.value_of-part.ensures) c.in_ok-value-2.ensures) c.in_ok-matcher.ensures.does in
-    ap length begun.calls ∙ (ap length c.in_ok-value.ensures.calls ∙ (ap length c.in_ok-name.ensures.calls ∙ c.requires.level))
-
-pub replace_first-done-requires-clause-ready : goal.replace_first-done-requires-clause-ready
-replace_first-done-requires-clause-ready g c =
-    let begun = pattern_runs _ _ c.args.pattern (of_part _ _ (ap Some c.value_of-part.ensures) c.in_ok-value-2.ensures) c.in_ok-matcher.ensures.does in
-    begun.ready
+    still_in _ _ _ _ _ c.requires (begun.calls ∙ (c.in_ok-value.ensures.calls ∙ c.in_ok-name.ensures.calls)) begun.ready
 
 pub returns : goal.returns
 returns g c =

@@ -2,6 +2,7 @@ use Rattle.std.proofs.Common.{ap, ◌∙◌, ◌≤◌, ℕ, List, length, subst
 use Rattle.std.proofs.lemmas.Result.{err_from_is_err_and}
 use Rattle.snobol.proofs.RunningLaws.{answered}
 use Rattle.snobol.proofs.StatementLaws.{part_runs, part_ended}
+use Rattle.snobol.proofs.CallingLaws.{still_in}
 use Rattle.snobol.proofs.replacement.replace_first.Goals as goal
 
 pub returns-in_err-span : goal.returns-in_err-span
@@ -9,11 +10,8 @@ returns-in_err-span g c =
     let p = err_from_is_err_and c.from_residual.result c.from_residual.ensures.1 in
     answered (p.1 ∙ ap Err p.2) (part_ended _ c.in_err-span.ensures.does)
 
-pub object_of-requires-clause-level : goal.object_of-requires-clause-level
-object_of-requires-clause-level g c = ap length c.in_ok-span.ensures.does.calls ∙ c.requires.level
-
-pub object_of-requires-clause-ready : goal.object_of-requires-clause-ready
-object_of-requires-clause-ready g c = c.in_ok-span.ensures.does.ready
+pub object_of-requires : goal.object_of-requires
+object_of-requires g c = still_in _ _ _ _ _ c.requires.within c.in_ok-span.ensures.does.calls c.in_ok-span.ensures.does.ready
 
 pub returns-in_err-value : goal.returns-in_err-value
 returns-in_err-value g c =

@@ -3,17 +3,9 @@ use Rattle.std.specs.Result.{result_err}
 use Rattle.snobol.proofs.AskingLaws.{stop_told, read_fault_told, write_fault_told, going_told, answer_told, nodes_kept}
 use Rattle.snobol.proofs.machine.Machine.match_first.Goals as goal
 
-pub match_first-requires-clause-calls : goal.match_first-requires-clause-calls
-match_first-requires-clause-calls g c = record {
-  callable = λ m r w f xs level can values. (level, (values, can));
-  meant = λ m r w f xs x m1 r1 w1 did. did.2;
-}
-
-pub match_first-requires-clause-level : goal.match_first-requires-clause-level
-match_first-requires-clause-level g c = ap length (c.self.invariant c.in_default.is)
-
-pub match_first-requires-clause-ready : goal.match_first-requires-clause-ready
-match_first-requires-clause-ready g c = (rw (← c.self.view_is) at c.requires.ready) c.in_default.is
+pub match_first-requires-clause-within : goal.match_first-requires-clause-within
+match_first-requires-clause-within g c =
+    record { level = ap length (c.self.invariant c.in_default.is); ready = (rw (← c.self.view_is) at c.requires.ready) c.in_default.is }
 
 pub invariant_of-self : goal.invariant_of-self
 invariant_of-self g c = λ going.

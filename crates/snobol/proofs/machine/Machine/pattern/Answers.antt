@@ -3,17 +3,9 @@ use Rattle.std.specs.Result.{result_err}
 use Rattle.snobol.proofs.AskingLaws.{stop_told, read_fault_told, write_fault_told, going_told, answer_told, nodes_kept}
 use Rattle.snobol.proofs.machine.Machine.pattern.Goals as goal
 
-pub pattern_of-requires-clause-calls : goal.pattern_of-requires-clause-calls
-pattern_of-requires-clause-calls g c = record {
-  callable = λ m r w f xs level can values. (level, (values, can));
-  meant = λ m r w f xs x m1 r1 w1 did. did.2;
-}
-
-pub pattern_of-requires-clause-level : goal.pattern_of-requires-clause-level
-pattern_of-requires-clause-level g c = ap length (c.self.invariant c.in_default.is)
-
-pub pattern_of-requires-clause-ready : goal.pattern_of-requires-clause-ready
-pattern_of-requires-clause-ready g c = (rw (← c.self.view_is) at c.requires.ready) c.in_default.is
+pub pattern_of-requires : goal.pattern_of-requires
+pattern_of-requires g c =
+    record { level = ap length (c.self.invariant c.in_default.is); ready = (rw (← c.self.view_is) at c.requires.ready) c.in_default.is }
 
 pub invariant_of-self : goal.invariant_of-self
 invariant_of-self g c = λ going.
