@@ -1,5 +1,6 @@
 pub mod Expressions
 pub mod FlatLaws
+pub mod NumeralLaws
 pub mod QuickLaws
 pub mod Leads
 pub mod InPlaceLaws

@@ -67,6 +67,117 @@ fn comparisons(rt: HostRuntime) -> Result<(), Fail> {
     check_rows::<Values, _>(&rt, COMPARISONS)
 }
 
+const DIGITS: &str = r"
+'007' + 1 => <8>
+1 + '007' => <8>
+'' + 1 => <1>
+1 + '' => <1>
+' 7' + 1 => error 1
+1 + ' 7' => error 1
+'7 ' + 1 => error 1
+1 + '7 ' => error 1
+'-7' + 1 => <-6>
+1 + '-7' => <-6>
+'+7' + 1 => <8>
+1 + '+7' => <8>
+'1e3' + 1 => error 1
+1 + '1e3' => error 1
+'7/' + 1 => error 1
+1 + '7/' => error 1
+':7' + 1 => error 1
+1 + ':7' => error 1
+'999999999999999999' + 1 => <1000000000000000000>
+1 + '999999999999999999' => <1000000000000000000>
+'1000000000000000000' + 1 => <1000000000000000001>
+1 + '1000000000000000000' => <1000000000000000001>
+'9223372036854775806' + 1 => <9223372036854775807>
+1 + '9223372036854775806' => <9223372036854775807>
+'9223372036854775807' + 1 => error 2
+1 + '9223372036854775807' => error 2
+'\#' + 1 => error 1
+1 + '\#' => error 1
+'10000000000000000000' + 1 => error 1
+1 + '10000000000000000000' => error 1
+'99999999999999999999' + 1 => error 1
+1 + '99999999999999999999' => error 1
+'000000000000000000000000007' + 1 => <8>
+1 + '000000000000000000000000007' => <8>
+'000000000000000000000000000' + 1 => <1>
+1 + '000000000000000000000000000' => <1>
+'18446744073709551623' + 1 => error 1
+1 + '18446744073709551623' => error 1
+'12' - '5' => <7>
+'12' * '5' => <60>
+'12' / '5' => <2>
+'12' ** '2' => <144>
+'9223372036854775807' + '1' => error 2
+'3037000500' * '3037000500' => error 2
+'12' '5' => <125>
+'007' '' => <007>
+'' '007' => <007>
+DATATYPE('12' '') => <STRING>
+DATATYPE('12' + '') => <INTEGER>
+";
+
+#[test]
+fn strings_of_digits(rt: HostRuntime) -> Result<(), Fail> {
+    check_rows::<Values, _>(&rt, DIGITS)
+}
+
+const COMPARED_DIGITS: &str = r"
+LT('007',8) => <>
+GE(8,'007') => <>
+LT('',8) => <>
+GE(8,'') => <>
+LT(' 7',8) => error 1
+GE(8,' 7') => error 1
+LT('7 ',8) => error 1
+GE(8,'7 ') => error 1
+LT('-7',8) => <>
+GE(8,'-7') => <>
+LT('+7',8) => <>
+GE(8,'+7') => <>
+LT('1e3',8) => error 1
+GE(8,'1e3') => error 1
+LT('7/',8) => error 1
+GE(8,'7/') => error 1
+LT(':7',8) => error 1
+GE(8,':7') => error 1
+LT('999999999999999999',8) => fails
+GE(8,'999999999999999999') => fails
+LT('1000000000000000000',8) => fails
+GE(8,'1000000000000000000') => fails
+LT('9223372036854775806',8) => fails
+GE(8,'9223372036854775806') => fails
+LT('9223372036854775807',8) => fails
+GE(8,'9223372036854775807') => fails
+LT('\#',8) => error 1
+GE(8,'\#') => error 1
+LT('10000000000000000000',8) => error 1
+GE(8,'10000000000000000000') => error 1
+LT('99999999999999999999',8) => error 1
+GE(8,'99999999999999999999') => error 1
+LT('000000000000000000000000007',8) => <>
+GE(8,'000000000000000000000000007') => <>
+LT('000000000000000000000000000',8) => <>
+GE(8,'000000000000000000000000000') => <>
+LT('18446744073709551623',8) => error 1
+GE(8,'18446744073709551623') => error 1
+EQ('007','7') => <>
+NE('007','7') => fails
+IDENT('007','7') => fails
+IDENT('7',7) => fails
+DIFFER('7',7) => <>
+LGT('10','9') => fails
+GT('10','9') => <>
+LE('10','9') => fails
+";
+
+#[test]
+fn compared_strings_of_digits(rt: HostRuntime) -> Result<(), Fail> {
+    check_rows::<Values, _>(&rt, COMPARED_DIGITS)
+}
+
 const PROGRAMS: &str = r"
  I = 0\nL I = LT(I,3) I + 1 :S(L)\n OUTPUT = I\nEND\n => 3\n
  I = '0'\nL I = LT(I,3) I + 1 :S(L)\n OUTPUT = I\nEND\n => 3\n
@@ -81,6 +192,16 @@ L N = N + INPUT :S(L)\n OUTPUT = N\nEND\n <- 3\n4\n => 7\n
  ABCDEF = 1\n ABCDEFG = 2\n ABCDEFGH = 3\n ABCDEFGHI = 4\n OUTPUT = ABCDEF + ABCDEFG * 10 + ABCDEFGH * 100 + ABCDEFGHI * 1000\nEND\n => 4321\n
  DEFINE('DOUBLED(X)')\n DEFINE('DOUBLED8(X)') :(M)\nDOUBLED DOUBLED = X + X :(RETURN)\nDOUBLED8 DOUBLED8 = X X :(RETURN)\nM OUTPUT = DOUBLED(4) + DOUBLED8(4)\nEND\n => 52\n
  A = ARRAY(3,0)\n A<2> = 5\n I = 1\n OUTPUT = A<I + 1> + A<I> A<I + 2> - 1\n A<I + 3> = 1 :S(END)\n OUTPUT = 'out'\nEND\n => 5-1\nout\n
+ N = INPUT\n OUTPUT = N + 1\n OUTPUT = 1 + N\n OUTPUT = N + N\n OUTPUT = (2 * 3) - N\n OUTPUT = N N\n OUTPUT = N 1\nEND\n <- 007\n => 8\n8\n14\n-1\n007007\n0071\n
+ N = INPUT\n OUTPUT = N + 1\n OUTPUT = 1 + N\n OUTPUT = N + N\n OUTPUT = (2 * 3) - N\n OUTPUT = N N\n OUTPUT = N 1\nEND\n <- -7\n => -6\n-6\n-14\n13\n-7-7\n-71\n
+ N = INPUT\n OUTPUT = LT(N,8) 'a'\n OUTPUT = LT(6,N) 'b'\n OUTPUT = EQ(N,N) 'c'\n OUTPUT = GT(3 * 3,N) 'd'\n OUTPUT = NE(N,7) 'e'\nEND\n <- 07\n => a\nb\nc\nd\n
+ N = INPUT\n T = TABLE()\n T<N> = 'text'\n T<7> = 'integer'\n OUTPUT = T<N>\n OUTPUT = T<N + 0>\n OUTPUT = IDENT(N,7) 'same'\n OUTPUT = DATATYPE(N)\nEND\n <- 7\n => text\ninteger\nSTRING\n
+ N = INPUT\n A = ARRAY(3,'none')\n A<N> = 'text'\n OUTPUT = A<2>\n OUTPUT = A<N>\n OUTPUT = A<N - 1>\nEND\n <- 2\n => text\ntext\nnone\n
+ DEFINE('LT(A,B)')\n N = INPUT\n OUTPUT = LT(N,1) 'b' :(END)\nLT LT = A 'mine' :(RETURN)\nEND\n <- 2\n => 2mineb\n
+ N = INPUT\n OUTPUT = 'a' ~LT(N,2) 'b'\n OUTPUT = 'a' ~GT(N,2) 'b'\n OUTPUT = 'c'\nEND\n <- 3\n => ab\nc\n
+ N = INPUT\n OUTPUT = N + 1\nEND\n <- 9223372036854775807\n => status 1: snobol4: error 2 in statement 2\n
+ N = INPUT\n OUTPUT = LT(1,N) 'a'\n OUTPUT = N + 1\nEND\n <- 7 \n => status 1: snobol4: error 1 in statement 2\n
+ OUTPUT = N + 1\n OUTPUT = LT(N,1) 'a'\n OUTPUT = GT(1,N) 'b'\nEND\n => 1\na\nb\n
 ";
 
 #[test]
