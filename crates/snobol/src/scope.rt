@@ -41,8 +41,8 @@ pub(crate) trait Calls<R: Source, W: Sink> {
         requires values { AllByRecursion (IsValueOf runtime.old.nodes) arguments.items }
         requires within { CanRunIn (within self.now) runtime.old (devices (R.feed reader.old) (W.drain writer.old)) }
         ensures { Runs shown IsValueOf (caller self.now function.0 (map (shown runtime.old.nodes) arguments.items))
-            runtime.old runtime.new
-            (devices (R.feed reader.old) (W.drain writer.old)) (devices (R.feed reader.new) (W.drain writer.new)) result };
+            runtime.old runtime.new (devices (R.feed reader.old) (W.drain writer.old))
+            (devices (R.feed reader.new) (W.drain writer.new)) result };
 
     #[inline(always)]
     fn program(&self) -> &Program
