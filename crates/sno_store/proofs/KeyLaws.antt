@@ -1,9 +1,9 @@
 -- Keys stay those of their symbols where the last ones go.
-use Rattle.std.proofs.Common.{◌≡◌, ℕ, ◌<◌, ◌≤◌, List, [], ◌∷◌, ◌++◌, length, take, slice_index_or, ap, sym, ◌∙◌, arith, ⊎_elim}
+use Rattle.std.proofs.Common.{◌≡◌, ℕ, ◌<◌, ◌≤◌, List, [], length, take, slice_index_or, ap, sym, ◌∙◌, arith, ⊎_elim}
 use Rattle.std.proofs.lemmas.Bool.{cases_lt}
 use Rattle.std.proofs.Math.Nat.{min-le_left}
 use Rattle.std.proofs.lemmas.List.{get_or-take, get_or_past, length-take}
-use Rattle.sno_value.specs.Keys.{IsKeyOf, name_of}
+use Rattle.sno_value.specs.Keys.{name_of}
 use Rattle.sno_store.specs.inner.Symbols.{AreKeysOf}
 
 pub cut : (count : ℕ) (symbols : List (List ℕ)) (keys : List ℕ) → AreKeysOf symbols keys → AreKeysOf (take count symbols) (take count keys)

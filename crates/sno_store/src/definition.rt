@@ -1,19 +1,23 @@
 //! What a function of the program is.
 ghost use Rattle.std.specs.Prelude.{◌≡◌, map};
+ghost use Rattle.sno_value.specs.Keys.{IsKeyOf};
 
-use sno_value::SymId;
+use sno_value::{SymId, name_key};
 use std::marker::Model;
 
 /// A function that a program defined: the label at which its calls begin, its formals and its locals.
 #[derive(Drop)]
 pub struct Definition {
     entry: Vec<u8>,
+    // the key of the entry, by which it is told from other labels at once
+    entry_key: u64,
     formals: Vec<SymId>,
     locals: Vec<SymId>,
 }
 
 impl Model for Definition {
     ghost use Rattle.std.specs.Prelude.{map};
+    ghost use Rattle.sno_value.specs.Keys.{IsKeyOf};
     ghost use Rattle.sno_store.specs.Definitions.{Definition as Shown};
 
     ghost Value = { Shown };
@@ -23,6 +27,8 @@ impl Model for Definition {
       formals = map (λ id. id.0) d.formals.items;
       locals = map (λ id. id.0) d.locals.items;
     } };
+
+    ghost invariant = { λ d. IsKeyOf d.entry.items d.entry_key };
 }
 
 impl Definition {
@@ -34,8 +40,10 @@ impl Definition {
           locals = map (λ id. id.0) locals.items;
         } }
     {
+        let entry_key = name_key(&entry);
         Definition {
             entry,
+            entry_key,
             formals,
             locals,
         }
@@ -46,6 +54,14 @@ impl Definition {
         ensures { result.now ≡ self.now.entry }
     {
         self.entry.as_slice()
+    }
+
+    /// The key of that label (`sno_value::name_key`).
+    #[inline(always)]
+    pub fn entry_key(&self) -> u64
+        ensures { IsKeyOf self.now.entry result }
+    {
+        self.entry_key
     }
 
     /// The symbols of the formals, in their order.

@@ -1,5 +1,5 @@
 //! The store: symbols, variables, arrays, tables and objects of a program's own types, and functions with their calls.
-ghost use Rattle.std.specs.Prelude.{◌≡◌, ◌<◌, ◌≤◌, ℕ, List, [], ◌∷◌, ◌++◌, length, take, nat_lt, true, false};
+ghost use Rattle.std.specs.Prelude.{◌≡◌, ◌<◌, ◌≤◌, ℕ, List, [], ◌∷◌, ◌++◌, drop, length, take, nat_lt, true, false};
 ghost use Rattle.std.specs.Prelude.{slice_index_or, Some, option_copied, option_map, IfOk, OnOk, OnErr, IsOkAnd};
 ghost use Rattle.std.specs.List.{list_all};
 ghost use Rattle.sno_value.specs.declared.value.Value.TheVariants.{Str};
@@ -182,16 +182,35 @@ impl Store {
     }
 
     /// Gives a value to what is named, which takes no memory. Nothing changes where the store has no such name.
+    #[inline(always)]
     pub fn set(&mut self, name: Name, value: Value)
         ensures { self.new ≡ with_value name value self.old }
     {
+        if let Name::Var(symbol) = name {
+            self.set_variable(symbol, value);
+            return;
+        }
+        self.set_named(name, value);
+    }
+
+    /// The same of a variable.
+    #[inline(always)]
+    fn set_variable(&mut self, symbol: SymId, value: Value)
+        ensures { self.new ≡ with_value (Name.Var symbol) value self.old }
+    {
+        let place = symbol.0 as usize;
+        if place < self.values.len() {
+            self.values[place] = value;
+        }
+    }
+
+    /// The same of any name.
+    #[inline(never)]
+    fn set_named(&mut self, name: Name, value: Value)
+        ensures { self.new ≡ with_value name value self.old }
+    {
         match name {
-            Name::Var(symbol) => {
-                let place = symbol.0 as usize;
-                if place < self.values.len() {
-                    self.values[place] = value;
-                }
-            }
+            Name::Var(symbol) => self.set_variable(symbol, value),
             Name::Elem(array, element) => self.objects.set_element(array, element, value),
             Name::Entry(table, entry) => self.objects.set_entry(table, entry, value),
             Name::Field(object, field) => self.objects.set_field(object, field, value),
@@ -417,6 +436,25 @@ impl Store {
             → OnOk result (arguments.new.items ≡ []) }
         ensures kept { OnErr result (arguments.new.items ≡ arguments.old.items) }
     {
+        self.enter_behind(function, arguments, 0)?;
+        Ok(())
+    }
+
+    /// The same, but the arguments are the values behind the first so many of the list, which alone stay in it.
+    #[inline(always)]
+    pub fn enter_behind(
+        &mut self,
+        function: SymId,
+        values: &mut Vec<Value>,
+        held: usize,
+    ) -> Result<(), StoreError>
+        requires { held ≤ length values.old.items }
+        ensures entered { (d : Shown) → definition_at self.old.functions function.0 ≡ Some d
+            → IsEntered function d (drop held values.old.items) self.old self.new result }
+        ensures taken { (d : Shown) → definition_at self.old.functions function.0 ≡ Some d
+            → OnOk result (values.new.items ≡ take held values.old.items) }
+        ensures kept { OnErr result (values.new.items ≡ values.old.items) }
+    {
         let Some(definition) = self.functions.definition(function) else {
             return Ok(());
         };
@@ -427,7 +465,8 @@ impl Store {
             self.alloc,
             function,
             definition,
-            arguments,
+            values,
+            held,
             &mut self.values,
         )?;
         Ok(())
