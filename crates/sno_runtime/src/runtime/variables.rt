@@ -169,6 +169,7 @@ impl Runtime {
     }
 
     /// Gives a variable a value.
+    #[inline(always)]
     pub fn set(&mut self, name: Name, value: Value)
         requires { IsValueOf self.old.nodes value }
         ensures { self.new ≡ record self.old { store = with_value name value self.old.store } }
