@@ -29,7 +29,7 @@ mod types;
 mod unary_operators;
 
 pub use builtins::{Builtin, Plain, Relation, function_named};
-pub use convert::{as_pattern, number_of, text_of};
+pub use convert::{as_pattern, is_null, number, number_of, text_of};
 pub use effects::{assign, take_effect};
 pub use errors::{
     CALL_LEVEL, DATA_TYPE, FAILURE_IN_GOTO, MATCH_LIMIT, NO_KEYWORD, NO_VARIABLE, NULL_STRING,
@@ -45,4 +45,5 @@ pub use numbers::stands;
 pub use operators::operation;
 pub use runtime::Runtime;
 pub use stops::{Exit, Stop, error};
+pub use types::same;
 pub use unary_operators::{unary, unary_name};

@@ -35,7 +35,7 @@ pub fn differ(x: &Value, y: &Value) -> Result<Value, Exit>
 
 /// Whether two values are equal in type and value. An object is equal to itself alone. Two patterns aren't compared,
 /// and neither are two expressions.
-fn same(x: &Value, y: &Value) -> Option<bool>
+pub fn same(x: &Value, y: &Value) -> Option<bool>
     ensures { (nodes : List Node) → result ≡ same (shown nodes x.now) (shown nodes y.now) }
 {
     match (x, y) {

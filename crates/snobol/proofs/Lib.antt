@@ -2,6 +2,7 @@ pub mod Expressions
 pub mod FlatLaws
 pub mod NumeralLaws
 pub mod QuickLaws
+pub mod ExaminingLaws
 pub mod Leads
 pub mod InPlaceLaws
 pub mod ApplyLaws

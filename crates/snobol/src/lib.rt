@@ -5,8 +5,8 @@
 //! it before its first statement begins: where statements go on (`targets`) and the instructions (`instruction`) of
 //! each expression (`flat`, made by `compile` of the operands of each of the `forms`). `execution` goes through the
 //! statements of a run, `statements` performs one, and `gotos` finds the next one. `evaluate` runs the instructions of
-//! an expression: `in_place` reads tokens, `quick` does what two integers or an array need, with the numbers of
-//! `numerals`, and `apply` any form.
+//! an expression: `in_place` reads tokens, `quick` does what two numbers (`numerals`), an array or a
+//! function that examines its arguments (`examining`) need, and `apply` any form.
 //! `matching` runs a match up to its first way, `answers` gives it what its deferred parts stand for, and `replacement`
 //! puts a text in the place of what matched. `calls` performs the statements of a function that the program has made,
 //! and `scope` is what statements are performed in. `enumeration` is the listing of a pattern, and `listing` its loop
@@ -21,6 +21,7 @@ mod compile;
 mod endings;
 mod enumeration;
 mod evaluate;
+mod examining;
 mod execution;
 mod flat;
 mod forms;

@@ -15,6 +15,7 @@ use std::alloc::Global;
 impl Runtime {
     /// The value of a variable. INPUT reads a line: it fails at the end of the input, and a line of more than 1,000,000
     /// bytes is error 8.
+    #[inline(always)]
     pub fn read<R: Source>(&mut self, reader: &mut R, name: Name) -> Result<Value, Exit>
         requires { IsReady self.old (R.feed reader.old) }
         ensures { Reads shown IsValueOf (reads name) self.old self.new (R.feed reader.old) (R.feed reader.new) result }
@@ -26,6 +27,7 @@ impl Runtime {
     }
 
     /// The next line of the input, without its trailing spaces where &TRIM isn't 0.
+    #[inline(never)]
     fn read_line<R: Source>(&mut self, reader: &mut R) -> Result<Value, Exit>
         requires { IsReady self.old (R.feed reader.old) }
         ensures { Reads shown IsValueOf reads_line self.old self.new (R.feed reader.old) (R.feed reader.new) result }
