@@ -22,5 +22,6 @@ pub mod AnswerLaws
 pub mod SessionLaws
 pub mod MatchLaws
 pub mod AskingLaws
+pub mod AssignLaws
 pub mod CallLaws
 pub mod MadeCalls
