@@ -182,6 +182,7 @@ impl Store {
     }
 
     /// Gives a value to what is named, which takes no memory. Nothing changes where the store has no such name.
+    #[inline(always)]
     pub fn set(&mut self, name: Name, value: Value)
         ensures { self.new ≡ with_value name value self.old }
     {
