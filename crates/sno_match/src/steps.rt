@@ -250,9 +250,15 @@ fn enter_primitive<P: Points>(
 {
     match patterns.look(looks, id, subject, cursor) {
         None => carry_out(points, told, Plan::Fail, cursor, left),
-        Some(end) => take_end(
-            points, told, patterns, looks, subject, id, cursor, end, left,
-        ),
+        Some(end) => {
+            if patterns.has_one_end(id) {
+                let plan = Plan::Replace(Front::Nothing, end);
+                return carry_out(points, told, plan, cursor, left);
+            }
+            take_end(
+                points, told, patterns, looks, subject, id, cursor, end, left,
+            )
+        }
     }
 }
 
@@ -301,7 +307,7 @@ fn take_next<P: Points>(
 }
 
 /// A primitive's step to this end. Its point stays only where there is an end behind it.
-#[inline(always)]
+#[inline(never)]
 fn take_end<P: Points>(
     points: &mut P,
     told: &mut Option<Event>,

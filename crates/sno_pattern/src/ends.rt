@@ -1,5 +1,5 @@
 //! Where a primitive ends.
-ghost use Rattle.std.specs.Prelude.{◌≡◌, ℕ, ◌≤◌, ◌+◌, length, slice_get, Some};
+ghost use Rattle.std.specs.Prelude.{◌≡◌, ℕ, ◌≤◌, ◌+◌, length, slice_get, IsTrue, List, None, Some};
 ghost use Rattle.sno_pattern.specs.Pattern.{Text};
 ghost use Rattle.sno_pattern.specs.Ends.{ends};
 ghost use Rattle.sno_pattern.specs.inner.Shape.{end_of_node};
@@ -49,6 +49,18 @@ pub(crate) fn end_behind_of_kind(kind: &Kind, subject: &[u8], last: usize) -> Op
         Kind::Bal => balanced_end(subject, last),
         Kind::BreakX(set) => stop_behind(set, subject, last),
         _ => None,
+    }
+}
+
+/// Whether a primitive node has no end behind its first.
+pub(crate) fn has_one_end(kind: &Kind) -> bool
+    ensures { IsTrue result → (s : List ℕ) (c : ℕ) → end_of_node (node_of kind.now) s c 1 ≡ None }
+{
+    match kind {
+        Kind::Arb => false,
+        Kind::Bal => false,
+        Kind::BreakX(_set) => false,
+        _ => true,
     }
 }
 

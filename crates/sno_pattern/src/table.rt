@@ -1,5 +1,5 @@
 //! The table of patterns: its builders and look-ups.
-ghost use Rattle.std.specs.Prelude.{◌≡◌, ℕ, ◌+◌, ◌<◌, ◌≤◌, ◌↔◌, ◌⊎◌, [], ◌∷◌, ◌++◌, length, Some, None, IfOk, IfErr};
+ghost use Rattle.std.specs.Prelude.{◌≡◌, ℕ, ◌+◌, ◌<◌, ◌≤◌, ◌↔◌, ◌⊎◌, [], ◌∷◌, ◌++◌, length, List, Some, None, IfOk, IfErr};
 ghost use Rattle.std.specs.Prelude.{IfSome, OnOk, OnErr, IsErrOf, IsTrue, Contains, false};
 ghost use Rattle.sno_pattern.specs.Pattern.{Text, Arb, Bal, Rem, Fail, Leaf, Fence, Cut, Abort, Succeed, Arbno, Alt};
 ghost use Rattle.sno_pattern.specs.Pattern.{Cat, Cond, Imm, Place, Defer};
@@ -19,7 +19,7 @@ ghost use Rattle.sno_pattern.specs.inner.Kinds.{nodes_of, node_of, IsTable};
 
 use crate::argument::{Arg, among, counted};
 use crate::byte_set::ByteSet;
-use crate::ends::{end_behind_of_kind, end_of_kind};
+use crate::ends::{end_behind_of_kind, end_of_kind, has_one_end};
 use crate::first_bytes::{add_first_bytes_of_kind, kind_fails_at};
 use crate::kind::{Entry, Kind, is_quiet_over, shape_of_kind};
 use crate::looks::{Looks, Run, is_far, is_near, last_with_end, slot_behind, slot_of_first};
@@ -297,6 +297,15 @@ impl Patterns {
         ensures inside { IfSome result (λ e. e ≤ length subject.now) }
     {
         end_behind_of_kind(&self.entries[id.0 as usize].kind, subject, last)
+    }
+
+    /// Whether a primitive has no end behind its first, from no cursor of no subject.
+    pub fn has_one_end(&self, id: PatId) -> bool
+        requires id { id.0 < length self.now }
+        requires primitive { IsPrimitive (tree self.now id.0) }
+        ensures { IsTrue result → (s : List ℕ) (c : ℕ) → end_of (tree self.now id.0) s c 1 ≡ None }
+    {
+        has_one_end(&self.entries[id.0 as usize].kind)
     }
 
     /// The first place, from `from` up to `until`, at which a

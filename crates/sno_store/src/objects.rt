@@ -107,6 +107,7 @@ impl Objects {
     }
 
     /// An element is given a value. Nothing changes where there is no such element.
+    #[inline(never)]
     pub(crate) fn set_element(&mut self, id: ObjId, element: u32, value: Value)
         ensures { self.new ≡ changed (with_element element value) self.old id }
     {
@@ -118,6 +119,7 @@ impl Objects {
     }
 
     /// An entry is given a value. Nothing changes where there is no such entry.
+    #[inline(never)]
     pub(crate) fn set_entry(&mut self, id: ObjId, entry: u32, value: Value)
         ensures { self.new ≡ changed (with_entry_value entry value) self.old id }
     {
@@ -129,6 +131,7 @@ impl Objects {
     }
 
     /// A field is given a value. Nothing changes where there is no such field.
+    #[inline(never)]
     pub(crate) fn set_field(&mut self, id: ObjId, field: u32, value: Value)
         ensures { self.new ≡ changed (with_field field value) self.old id }
     {

@@ -1,6 +1,7 @@
-use Rattle.std.proofs.Common.{sym, ◌∙◌, refl}
+use Rattle.std.proofs.Common.{sym, ◌∙◌, refl, None}
 use Rattle.sno_match.specs.declared.goal.Goal.TheVariants as N
 use Rattle.sno_match.specs.declared.plan.Plan.TheVariants as P
+use Rattle.sno_match.specs.inner.Plan.{end_plan}
 use Rattle.sno_match.proofs.PlanLaws as plans
 use Rattle.sno_match.proofs.StepLaws.{stepped}
 use Rattle.sno_match.proofs.steps.enter_primitive.Goals as goal
@@ -17,8 +18,18 @@ returns-in-None-clause-ok g c =
       plans.due-enter c.args.patterns.now c.args.subject.now (N.Match c.args.id) c.args.cursor,
     ) tt c.carry_out.ensures.ok
 
-pub returns-in-Some-clause-ok : goal.returns-in-Some-clause-ok
-returns-in-Some-clause-ok g c =
+pub returns-then-has_one_end-clause-ok : goal.returns-then-has_one_end-clause-ok
+returns-then-has_one_end-clause-ok g c =
+    let here = sym c.look.ensures.value ∙ c.in-Some.is in
+    let last = c.has_one_end.ensures c.if-has_one_end.true c.args.subject.now c.args.cursor in
+    stepped _ _ _ _ _ _ _ _ _ c.carry_out-then-has_one_end.result (end_plan c.in-Some.end None)
+    (plans.leaf_enter c.args.patterns.now c.args.subject.now c.args.id c.requires.primitive.0 c.args.cursor c.requires.primitive.1 c.requires.inside
+    c.in-Some.end here None last)
+    (plans.leaf_scopes c.args.patterns.now c.args.id c.requires.primitive.0 c.requires.primitive.1 c.in-Some.end None)
+    c.carry_out-then-has_one_end.ensures.ok
+
+pub returns-else-has_one_end-clause-ok : goal.returns-else-has_one_end-clause-ok
+returns-else-has_one_end-clause-ok g c =
     let here = sym c.look.ensures.value ∙ c.in-Some.is in
     stepped _ _ _ _ _ _ _ _ _ c.take_end.result _
     (plans.leaf_enter c.args.patterns.now c.args.subject.now c.args.id c.requires.primitive.0 c.args.cursor c.requires.primitive.1 c.requires.inside
