@@ -1,5 +1,5 @@
 -- What holds of each member of a list.
-use Rattle.std.proofs.Common.{ℕ, zero, suc, List, [], ◌∷◌, ◌++◌, drop, set, get_or, replicate, slice_get, Option, None, Some}
+use Rattle.std.proofs.Common.{ℕ, zero, suc, List, [], ◌∷◌, ◌++◌, set, get_or, replicate, slice_get, Option, None, Some}
 use Rattle.std.specs.List.{AllByRecursion}
 
 pub all_end : {X : Type 0} (P : X → Type 0) (xs : List X) (x : X) → AllByRecursion P xs → P x → AllByRecursion P (xs ++ x ∷ [])
@@ -32,11 +32,6 @@ all_front P (y ∷ xs) x h = let front = all_front P xs x h.1 in ((h.0, front.0)
 abbrev pub IfThere : {X : Type 0} → (X → Type 0) → Option X → Type 0
 IfThere P None = Unit {0}
 IfThere P (Some x) = P x
-
-pub all_dropped : {X : Type 0} (P : X → Type 0) (n : ℕ) (xs : List X) → AllByRecursion P xs → AllByRecursion P (drop n xs)
-all_dropped P zero xs h = h
-all_dropped P (suc n) [] h = h
-all_dropped P (suc n) (x ∷ xs) h = all_dropped P n xs h.1
 
 pub member : {X : Type 0} (P : X → Type 0) (xs : List X) (i : ℕ) → AllByRecursion P xs → IfThere P (slice_get xs i)
 member P [] i h = tt

@@ -54,8 +54,7 @@ impl Calls {
     }
 
     /// Begins a call of a function: the values of its variables are saved, then it and its locals are null and its
-    /// formals are the arguments, which are taken out of a list: they stand behind its first so many. Where memory is
-    /// refused, all is as it was.
+    /// formals are the arguments, which are taken out of their list. Where memory is refused, all is as it was.
     #[inline(always)]
     pub(crate) fn open(
         &mut self,
@@ -63,16 +62,13 @@ impl Calls {
         function: SymId,
         definition: &Definition,
         arguments: &mut Vec<Value>,
-        held: usize,
         values: &mut Vec<Value>,
     ) -> Result<(), AllocError>
-        requires { held ≤ length arguments.old.items }
         ensures ok { OnOk result
             (self.new ≡ self.old ++ saved (Str []) function.0 definition.now values.old.items ∷ []) }
         ensures values { OnOk result
-            (values.new.items
-            ≡ entered (Str []) function.0 definition.now (drop held arguments.old.items) values.old.items) }
-        ensures taken { OnOk result (arguments.new.items ≡ take held arguments.old.items) }
+            (values.new.items ≡ entered (Str []) function.0 definition.now arguments.old.items values.old.items) }
+        ensures taken { OnOk result (arguments.new.items ≡ []) }
         ensures err { OnErr result (self.new ≡ self.old) }
         ensures err_values { OnErr result (values.new.items ≡ values.old.items) }
         ensures err_arguments { OnErr result (arguments.new.items ≡ arguments.old.items) }
@@ -84,8 +80,7 @@ impl Calls {
         save_one(function, values, &mut self.saved);
         save(formals, values, &mut self.saved);
         save(locals, values, &mut self.saved);
-        give(formals, &mut arguments.as_mut_slice()[held..], values);
-        arguments.truncate(held);
+        give(formals, arguments, values);
         Ok(())
     }
 
@@ -141,25 +136,28 @@ fn save_one(symbol: SymId, values: &mut Vec<Value>, saved: &mut Vec<(SymId, Valu
     }
 }
 
-/// Formals are given arguments from left to right, which are taken out of their places: missing ones are null.
+/// Formals are given arguments from left to right, which are taken out of their list: missing ones are null, and extra
+/// ones are dropped.
 #[inline(always)]
-fn give(formals: &[SymId], arguments: &mut [Value], values: &mut Vec<Value>)
-    ensures { values.new.items ≡ with_arguments (Str []) (map (λ id. id.0) formals.now)
-        arguments.old values.old.items }
+fn give(formals: &[SymId], arguments: &mut Vec<Value>, values: &mut Vec<Value>)
+    ensures values { values.new.items ≡ with_arguments (Str []) (map (λ id. id.0) formals.now)
+        arguments.old.items values.old.items }
+    ensures taken { arguments.new.items ≡ [] }
 {
     let mut place = 0;
     'formals: for formal in formals {
         give_one(*formal, arguments, place, values);
         place += 1;
     }
+    arguments.clear();
 }
 
 /// A formal is given the argument at a place, which is taken out of it. A missing one is null.
 #[inline(always)]
-fn give_one(formal: SymId, arguments: &mut [Value], place: usize, values: &mut Vec<Value>)
+fn give_one(formal: SymId, arguments: &mut Vec<Value>, place: usize, values: &mut Vec<Value>)
     ensures value { values.new.items
-        ≡ slice_set values.old.items formal.0 (slice_index_or arguments.old place (Str [])) }
-    ensures rest { drop (place + 1) arguments.new ≡ drop (place + 1) arguments.old }
+        ≡ slice_set values.old.items formal.0 (slice_index_or arguments.old.items place (Str [])) }
+    ensures rest { drop (place + 1) arguments.new.items ≡ drop (place + 1) arguments.old.items }
 {
     let variable = formal.0 as usize;
     if variable < values.len() {

@@ -1,5 +1,5 @@
 //! The store: symbols, variables, arrays, tables and objects of a program's own types, and functions with their calls.
-ghost use Rattle.std.specs.Prelude.{◌≡◌, ◌<◌, ◌≤◌, ℕ, List, [], ◌∷◌, ◌++◌, drop, length, take, nat_lt, true, false};
+ghost use Rattle.std.specs.Prelude.{◌≡◌, ◌<◌, ◌≤◌, ℕ, List, [], ◌∷◌, ◌++◌, length, take, nat_lt, true, false};
 ghost use Rattle.std.specs.Prelude.{slice_index_or, Some, option_copied, option_map, IfOk, OnOk, OnErr, IsOkAnd};
 ghost use Rattle.std.specs.List.{list_all};
 ghost use Rattle.sno_value.specs.declared.value.Value.TheVariants.{Str};
@@ -436,25 +436,6 @@ impl Store {
             → OnOk result (arguments.new.items ≡ []) }
         ensures kept { OnErr result (arguments.new.items ≡ arguments.old.items) }
     {
-        self.enter_behind(function, arguments, 0)?;
-        Ok(())
-    }
-
-    /// The same, but the arguments are the values behind the first so many of the list, which alone stay in it.
-    #[inline(always)]
-    pub fn enter_behind(
-        &mut self,
-        function: SymId,
-        values: &mut Vec<Value>,
-        held: usize,
-    ) -> Result<(), StoreError>
-        requires { held ≤ length values.old.items }
-        ensures entered { (d : Shown) → definition_at self.old.functions function.0 ≡ Some d
-            → IsEntered function d (drop held values.old.items) self.old self.new result }
-        ensures taken { (d : Shown) → definition_at self.old.functions function.0 ≡ Some d
-            → OnOk result (values.new.items ≡ take held values.old.items) }
-        ensures kept { OnErr result (values.new.items ≡ values.old.items) }
-    {
         let Some(definition) = self.functions.definition(function) else {
             return Ok(());
         };
@@ -465,8 +446,7 @@ impl Store {
             self.alloc,
             function,
             definition,
-            values,
-            held,
+            arguments,
             &mut self.values,
         )?;
         Ok(())

@@ -1,5 +1,5 @@
 //! Functions that a program defines, and their calls.
-ghost use Rattle.std.specs.Prelude.{◌≡◌, ◌≤◌, ℕ, List, [], ◌∷◌, ◌++◌, drop, length, map, option_copied, take, OnErr, OnOk, Some};
+ghost use Rattle.std.specs.Prelude.{◌≡◌, ◌≤◌, ℕ, List, [], ◌∷◌, ◌++◌, length, map, option_copied, Some};
 ghost use Rattle.std.specs.List.{AllByRecursion};
 ghost use Rattle.sno_value.specs.declared.value.Value.{Value as Stored};
 ghost use Rattle.sno_store.specs.Definitions.{Definition as Defined};
@@ -87,29 +87,6 @@ impl Runtime {
         let mut arguments = arguments;
         self.store.enter_with(function, &mut arguments)?;
         self.keep_values(arguments);
-        Ok(())
-    }
-
-    /// The same, but the arguments are the values behind the first so many of the list, which alone stay in it.
-    #[inline(always)]
-    pub fn enter_behind(
-        &mut self,
-        function: SymId,
-        values: &mut Vec<Value>,
-        held: usize,
-    ) -> Result<(), Exit>
-        requires held { held ≤ length values.old.items }
-        requires values { AllByRecursion (IsValueOf self.old.nodes) values.old.items }
-        ensures entered { (d : Defined) → definition_at self.old.store.functions function.0 ≡ Some d
-            → Enters function.0 d (map (shown self.old.nodes) (drop held values.old.items)) self.old self.new result }
-        ensures taken { (d : Defined) → definition_at self.old.store.functions function.0 ≡ Some d
-            → OnOk result (values.new.items ≡ take held values.old.items) }
-        ensures kept { OnErr result (values.new.items ≡ values.old.items) }
-    {
-        if self.store.definition(function).is_none() {
-            return Err(error(UNDEFINED_FUNCTION));
-        }
-        self.store.enter_behind(function, values, held)?;
         Ok(())
     }
 

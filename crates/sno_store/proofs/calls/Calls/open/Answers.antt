@@ -1,6 +1,4 @@
-use Rattle.std.proofs.Common.{◌+◌, ◌∙◌, ◌++◌, ◌-◌, List, [], ◌∷◌, ap, arith, drop, refl, length, map, get_or, set}
-use Rattle.std.proofs.lemmas.List.{length-drop, take_all}
-use Rattle.sno_value.specs.declared.value.Value.{Value}
+use Rattle.std.proofs.Common.{◌+◌, ◌∙◌, ◌++◌, [], ◌∷◌, ap, refl, length, map, get_or, set}
 use Rattle.sno_value.specs.declared.value.Value.TheVariants.{Str}
 use Rattle.sno_store.specs.Calls.{with_arguments, with_nulls}
 use Rattle.sno_store.specs.inner.Seen.{calls_seen}
@@ -27,13 +25,10 @@ pub returns-clause-values : goal.returns-clause-values
 returns-clause-values c =
     let formals = numbers c.formals-formals.result.now in
     let locals = numbers c.locals-locals.result.now in
-    let slice = c.as_mut_slice.result.now in
-    let behind = take_all (length slice - c.args.held) (drop c.args.held slice) (omega (arith, length-drop c.args.held slice))
-    ∙ ap (drop c.args.held) c.as_mut_slice.ensures.value in
-    c.give.ensures
-    ∙ ap (λ (xs : List Value). with_arguments (Str []) formals xs c.save-2.new.values.items) behind
-    ∙ ap (with_arguments (Str []) formals (drop c.args.held c.args.arguments.now.items))
+    let values = c.args.values.now.items in
+    c.give.ensures.values
+    ∙ ap (with_arguments (Str []) formals c.args.arguments.now.items)
     (c.save-2.ensures.values ∙ ap (with_nulls (Str []) locals) (c.save.ensures.values ∙ ap (with_nulls (Str []) formals) c.save_one.ensures.values))
-    ∙ given (Str []) formals locals (drop c.args.held c.args.arguments.now.items) (set c.args.values.now.items c.args.function.0 (Str []))
-    ∙ (λ i. with_arguments (Str []) (c.formals-formals.ensures i) (drop c.args.held c.args.arguments.now.items)
-    (with_nulls (Str []) (c.locals-locals.ensures i) (set c.args.values.now.items c.args.function.0 (Str []))))
+    ∙ given (Str []) formals locals c.args.arguments.now.items (set values c.args.function.0 (Str []))
+    ∙ (λ i. with_arguments (Str []) (c.formals-formals.ensures i) c.args.arguments.now.items
+    (with_nulls (Str []) (c.locals-locals.ensures i) (set values c.args.function.0 (Str []))))
