@@ -45,7 +45,8 @@ returns-in_err-matcher g c =
 
 pub replace_first-done-requires-clause-subject : goal.replace_first-done-requires-clause-subject
 replace_first-done-requires-clause-subject g c =
-    rw (c.deref_mut.ensures.value, c.in_ok-matcher.ensures.subject, c.as_slice.ensures) (c.in_ok-text.ensures.short c.read.new.self.nodes c.in_ok-value.ensures.answer)
+    rw (c.deref_mut.ensures.value, c.in_ok-matcher.ensures.subject, c.as_slice.ensures)
+    (c.in_ok-text.ensures.short c.read.new.self.nodes c.in_ok-value.ensures.answer)
 
 pub replace_first-done-requires-clause-text : goal.replace_first-done-requires-clause-text
 replace_first-done-requires-clause-text g c = rw (c.deref_mut.ensures.value, c.in_ok-matcher.ensures.subject) c.as_slice.ensures
