@@ -14,9 +14,9 @@ use crate::stops::{Exit, error};
 use sno_value::{Name, SymId, Value};
 
 /// A new object of a type: missing arguments are null, and extra ones are dropped.
-pub fn construct(runtime: &mut Runtime, number: u32, arguments: Vec<Value>) -> Result<Value, Exit>
-    requires { AllByRecursion (IsValueOf runtime.old.nodes) arguments.items }
-    ensures { Does shown IsValueOf (constructs number (map (shown runtime.old.nodes) arguments.items))
+pub fn construct(runtime: &mut Runtime, number: u32, arguments: &mut [Value]) -> Result<Value, Exit>
+    requires { AllByRecursion (IsValueOf runtime.old.nodes) arguments.old }
+    ensures { Does shown IsValueOf (constructs number (map (shown runtime.old.nodes) arguments.old))
         runtime.old runtime.new result }
 {
     let id = runtime.new_data(number, arguments)?;

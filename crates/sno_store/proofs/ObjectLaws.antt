@@ -1,9 +1,11 @@
 -- The list of objects, beside the list that is kept.
-use Rattle.std.proofs.Common.{◌≡◌, ℕ, zero, suc, ◌<◌, ◌≤◌, ◌==◌, Bool, true, false, if◌then◌else◌, List, [], ◌∷◌, ◌++◌, length, map, set, get_or, slice_get}
+use Rattle.std.proofs.Common.{◌≡◌, ℕ, zero, suc, ◌+◌, ◌<◌, ◌≤◌, ◌==◌, ◌⊎◌, inl, inr, Bool, true, false, if◌then◌else◌, List, [], ◌∷◌, ◌++◌, drop, length, map, set, get_or}
+use Rattle.std.proofs.Common.{slice_get}
 use Rattle.std.proofs.Common.{option_map, unwrap_or, Option, None, Some, Result, Ok, Err, IsErrAnd, refl, sym, ap, subst, ◌∙◌, arith}
 use Rattle.std.proofs.lemmas.Option.{unwrap_or-slice_get, slice_get-map, slice_get-get_or}
 use Rattle.std.specs.Global.{Box}
-use Rattle.std.proofs.lemmas.List.{set-get_or}
+use Rattle.std.proofs.lemmas.Bool.{cases_lt}
+use Rattle.std.proofs.lemmas.List.{drop_all, drop_more, get_or_past, set-get_or}
 use Rattle.sno_value.specs.declared.ids.ObjId.{ObjId}
 use Rattle.sno_value.specs.declared.value.Name.{Name}
 use Rattle.sno_value.specs.declared.value.Name.TheVariants.{Entry}
@@ -58,15 +60,16 @@ pub field_is : (null : Value) (fields : Option (List Value)) (values : List Valu
     → unwrap_or value null ≡ field_value null fields k
 field_is null fields values k value is found = ap (λ v. unwrap_or v null) found ∙ unwrap_or-slice_get values k null ∙ ap (λ f. field_value null f k) is
 
--- the values of fields, one after another: a value is taken, or is missing
-pub field_taken : (null : Value) (n m : ℕ) (value : Value) (old new : List Value) → n ≡ suc m → old ≡ value ∷ new → field_values null n old
-    ≡ value ∷ field_values null m new
-field_taken null n m value old new e f = ap (λ k. field_values null k old) e ∙ ap (field_values null (suc m)) f
-
-pub field_missing : (null : Value) (n m : ℕ) (value : Value) (old new : List Value) → n ≡ suc m → old ≡ [] → new ≡ [] → value ≡ null → field_values null n old
-    ≡ value ∷ field_values null m new
-field_missing null n m value old new e f g h =
-    ap (λ k. field_values null k old) e ∙ ap (field_values null (suc m)) f ∙ sym (λ i. h i ∷ field_values null m (g i))
+-- the value at a place is that of the next field, or is missing
+pub field_next : (null : Value) (n m : ℕ) (values : List Value) (i : ℕ) → n ≡ suc m → field_values null n (drop i values)
+    ≡ get_or values i null ∷ field_values null m (drop (i + 1) values)
+field_next null n m values i one = ap (λ k. field_values null k (drop i values)) one ∙ by (cases_lt i (length values))
+  where
+    by : (i < length values) ⊎ (length values ≤ i) → field_values null (suc m) (drop i values) ≡ get_or values i null ∷ field_values null m (drop (i + 1) values)
+    by (inl within) = ap (field_values null (suc m)) (drop_more values i null within)
+    by (inr past) =
+        ap (field_values null (suc m)) (drop_all i values past)
+        ∙ sym (λ k. get_or_past values i null past k ∷ field_values null m (drop_all (i + 1) values (omega arith) k))
 
 -- the table that a number is
 pub table_is : (objects : List Kept) (i : ℕ) (entries : Box (List (Value × Value))) (old : Kept) → i < length objects

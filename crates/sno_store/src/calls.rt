@@ -54,24 +54,23 @@ impl Calls {
     }
 
     /// Begins a call of a function: the values of its variables are saved, then it and its locals are null and its
-    /// formals are the arguments, which are taken out of their list. Where memory is refused, all is as it was.
+    /// formals are the arguments, which are moved out of their places. Where memory is refused, all is as it was.
     #[inline(always)]
     pub(crate) fn open(
         &mut self,
         alloc: Global,
         function: SymId,
         definition: &Definition,
-        arguments: &mut Vec<Value>,
+        arguments: &mut [Value],
         values: &mut Vec<Value>,
     ) -> Result<(), AllocError>
         ensures ok { OnOk result
             (self.new ≡ self.old ++ saved (Str []) function.0 definition.now values.old.items ∷ []) }
         ensures values { OnOk result
-            (values.new.items ≡ entered (Str []) function.0 definition.now arguments.old.items values.old.items) }
-        ensures taken { OnOk result (arguments.new.items ≡ []) }
+            (values.new.items ≡ entered (Str []) function.0 definition.now arguments.old values.old.items) }
         ensures err { OnErr result (self.new ≡ self.old) }
         ensures err_values { OnErr result (values.new.items ≡ values.old.items) }
-        ensures err_arguments { OnErr result (arguments.new.items ≡ arguments.old.items) }
+        ensures err_arguments { OnErr result (arguments.new ≡ arguments.old) }
     {
         let (formals, locals) = (definition.formals(), definition.locals());
         let count = 1 + formals.len() + locals.len();
@@ -136,28 +135,26 @@ fn save_one(symbol: SymId, values: &mut Vec<Value>, saved: &mut Vec<(SymId, Valu
     }
 }
 
-/// Formals are given arguments from left to right, which are taken out of their list: missing ones are null, and extra
-/// ones are dropped.
+/// Formals are given arguments from left to right, which are moved out of their places: missing ones are null, and extra
+/// ones stay.
 #[inline(always)]
-fn give(formals: &[SymId], arguments: &mut Vec<Value>, values: &mut Vec<Value>)
-    ensures values { values.new.items ≡ with_arguments (Str []) (map (λ id. id.0) formals.now)
-        arguments.old.items values.old.items }
-    ensures taken { arguments.new.items ≡ [] }
+fn give(formals: &[SymId], arguments: &mut [Value], values: &mut Vec<Value>)
+    ensures { values.new.items ≡ with_arguments (Str []) (map (λ id. id.0) formals.now)
+        arguments.old values.old.items }
 {
     let mut place = 0;
     'formals: for formal in formals {
         give_one(*formal, arguments, place, values);
         place += 1;
     }
-    arguments.clear();
 }
 
-/// A formal is given the argument at a place, which is taken out of it. A missing one is null.
+/// A formal is given the argument at a place, which is moved out of it. A missing one is null.
 #[inline(always)]
-fn give_one(formal: SymId, arguments: &mut Vec<Value>, place: usize, values: &mut Vec<Value>)
+fn give_one(formal: SymId, arguments: &mut [Value], place: usize, values: &mut Vec<Value>)
     ensures value { values.new.items
-        ≡ slice_set values.old.items formal.0 (slice_index_or arguments.old.items place (Str [])) }
-    ensures rest { drop (place + 1) arguments.new.items ≡ drop (place + 1) arguments.old.items }
+        ≡ slice_set values.old.items formal.0 (slice_index_or arguments.old place (Str [])) }
+    ensures rest { drop (place + 1) arguments.new ≡ drop (place + 1) arguments.old }
 {
     let variable = formal.0 as usize;
     if variable < values.len() {

@@ -1,10 +1,11 @@
 //! Objects of the types that a program makes.
-ghost use Rattle.std.specs.Prelude.{◌≡◌, [], option_copied, slice_get, slice_set, IfOk};
+ghost use Rattle.std.specs.Prelude.{◌≡◌, ◌+◌, [], drop, option_copied, slice_get, slice_index_or, slice_set, IfOk};
 ghost use Rattle.sno_value.specs.declared.value.Value.TheVariants.{Str};
 ghost use Rattle.sno_store.specs.Types.{field_values};
 
 use sno_value::Value;
 use std::alloc::{AllocError, Global};
+use std::mem;
 
 /// An object of a type that the program made: the number of the type, and the values of its fields.
 #[derive(Drop)]
@@ -33,22 +34,31 @@ impl Instance {
     }
 }
 
-/// The values of so many fields: missing ones are null, and extra ones are dropped. They have their room alone.
+/// The values of so many fields, which are moved out of their places: missing ones are null, and extra ones stay. They
+/// have their room alone.
 pub(crate) fn field_values(
     alloc: Global,
     count: usize,
-    values: Vec<Value>,
+    values: &mut [Value],
 ) -> Result<Vec<Value>, AllocError>
-    ensures { IfOk result (λ fields. fields.items ≡ field_values (Str []) count values.items) }
+    ensures { IfOk result (λ fields. fields.items ≡ field_values (Str []) count values.old) }
 {
     let mut fields = Vec::with_capacity(alloc, count)?;
-    let mut values = values.into_iter();
-    'fields: for _field in 0..count {
-        let value = match values.next() {
-            Some(value) => value,
-            None => Value::null(),
-        };
+    'fields: for field in 0..count {
+        let value = take_at(values, field);
         fields.push(value).unwrap();
     }
     Ok(fields)
+}
+
+/// The value at a place, which is moved out of it. A missing one is null.
+fn take_at(values: &mut [Value], place: usize) -> Value
+    ensures value { result ≡ slice_index_or values.old place (Str []) }
+    ensures rest { drop (place + 1) values.new ≡ drop (place + 1) values.old }
+{
+    if place < values.len() {
+        mem::replace(&mut values[place], Value::null())
+    } else {
+        Value::null()
+    }
 }

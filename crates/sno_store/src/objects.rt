@@ -188,9 +188,9 @@ impl Objects {
         &mut self,
         data_type: u32,
         count: usize,
-        values: Vec<Value>,
+        values: &mut [Value],
     ) -> Result<ObjId, StoreError>
-        ensures { Does (joined (DataOf data_type (field_values (Str []) count values.items))) self.old self.new result }
+        ensures { Does (joined (DataOf data_type (field_values (Str []) count values.old))) self.old self.new result }
     {
         let room = MOST_OBJECTS - self.objects.len();
         if room == 0 {

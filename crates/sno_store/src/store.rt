@@ -371,6 +371,19 @@ impl Store {
     pub fn new_data(&mut self, data_type: u32, values: Vec<Value>) -> Result<ObjId, StoreError>
         ensures { IsDone itself (new_data (Str []) self.old.types data_type values.items) self.old self.new result }
     {
+        let mut values = values;
+        let id = self.new_data_with(data_type, values.as_mut_slice())?;
+        Ok(id)
+    }
+
+    /// The same as `new_data`, but the values are moved out of their places, which stay the caller's.
+    pub fn new_data_with(
+        &mut self,
+        data_type: u32,
+        values: &mut [Value],
+    ) -> Result<ObjId, StoreError>
+        ensures { IsDone itself (new_data (Str []) self.old.types data_type values.old) self.old self.new result }
+    {
         let count = match self.types.get(data_type as usize) {
             Some(declared) => declared.count(),
             None => 0,
@@ -418,23 +431,17 @@ impl Store {
             → IsEntered function d arguments.items self.old self.new result }
     {
         let mut arguments = arguments;
-        self.enter_with(function, &mut arguments)?;
+        self.enter_with(function, arguments.as_mut_slice())?;
         Ok(())
     }
 
-    /// The same as `enter`, but the list of the arguments stays the caller's: it is empty where the call is open, and
-    /// as it was where it is refused.
+    /// The same as `enter`, but the arguments are moved out of their places, which stay the caller's: where the call is
+    /// refused, they have them still.
     #[inline(always)]
-    pub fn enter_with(
-        &mut self,
-        function: SymId,
-        arguments: &mut Vec<Value>,
-    ) -> Result<(), StoreError>
+    pub fn enter_with(&mut self, function: SymId, arguments: &mut [Value]) -> Result<(), StoreError>
         ensures entered { (d : Shown) → definition_at self.old.functions function.0 ≡ Some d
-            → IsEntered function d arguments.old.items self.old self.new result }
-        ensures taken { (d : Shown) → definition_at self.old.functions function.0 ≡ Some d
-            → OnOk result (arguments.new.items ≡ []) }
-        ensures kept { OnErr result (arguments.new.items ≡ arguments.old.items) }
+            → IsEntered function d arguments.old self.old self.new result }
+        ensures kept { OnErr result (arguments.new ≡ arguments.old) }
     {
         let Some(definition) = self.functions.definition(function) else {
             return Ok(());

@@ -54,12 +54,6 @@ module _ (call : Caller) (f : ℕ) (xs : List Value) where
   other_call (Constructs n) none other = absurd (cc none)
   other_call IsField none other = absurd (cc other)
 
-  defined_call : (k : Function) → is_some (as_definition k) ≡ true → call_as call f xs k ≡ call f xs
-  defined_call Undefined some = absurd (cc some)
-  defined_call (Defined d) some = refl
-  defined_call (Constructs n) some = absurd (cc some)
-  defined_call IsField some = absurd (cc some)
-
   module _ (a b : Runtime) (d : Devices) (r : Result Stored Exit) where
     pub constructed_runs : (number : ℕ) → CanRun a d → as_constructor (function_at a.store.functions f) ≡ Some number
         → Does shown IsValueOf (constructs number xs) a b r → Runs shown IsValueOf (made_call call f xs) a b d d r
@@ -80,9 +74,3 @@ module _ (call : Caller) (f : ℕ) (xs : List Value) where
     defined_runs e none other p =
         runs_as shown IsValueOf (made_call call f xs) (call f xs) a b d e r
         (λ more. ap (λ (act : Action Value). act (world a more)) (other_call (function_at a.store.functions f) none other)) p
-
-    pub called_runs : (e : Devices) → is_some (as_definition (function_at a.store.functions f)) ≡ true
-        → Runs shown IsValueOf (call f xs) a b d e r → Runs shown IsValueOf (made_call call f xs) a b d e r
-    called_runs e some p =
-        runs_as shown IsValueOf (made_call call f xs) (call f xs) a b d e r
-        (λ more. ap (λ (act : Action Value). act (world a more)) (defined_call (function_at a.store.functions f) some)) p

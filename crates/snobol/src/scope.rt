@@ -29,18 +29,18 @@ pub(crate) trait Calls<R: Source, W: Sink> {
     fn code(&self) -> &Code<'_>
         ensures { result.now ≡ code self.now };
 
-    /// Does the call of a function that the program defines.
+    /// Does the call of a function that the program defines. The arguments are moved out of their places.
     fn call(
         &self,
         runtime: &mut Runtime,
         reader: &mut R,
         writer: &mut W,
         function: SymId,
-        arguments: Vec<Value>,
+        arguments: &mut [Value],
     ) -> Result<Value, Exit>
-        requires values { AllByRecursion (IsValueOf runtime.old.nodes) arguments.items }
+        requires values { AllByRecursion (IsValueOf runtime.old.nodes) arguments.old }
         requires within { CanRunIn (within self.now) runtime.old (devices (R.feed reader.old) (W.drain writer.old)) }
-        ensures { Runs shown IsValueOf (caller self.now function.0 (map (shown runtime.old.nodes) arguments.items))
+        ensures { Runs shown IsValueOf (caller self.now function.0 (map (shown runtime.old.nodes) arguments.old))
             runtime.old runtime.new (devices (R.feed reader.old) (W.drain writer.old))
             (devices (R.feed reader.new) (W.drain writer.new)) result };
 
@@ -78,7 +78,7 @@ impl<'a, 'p, R: Source, W: Sink> Calls<R, W> for Outermost<'a, 'p> {
         reader: &mut R,
         writer: &mut W,
         function: SymId,
-        arguments: Vec<Value>,
+        arguments: &mut [Value],
     ) -> Result<Value, Exit> {
         call(runtime, self.code, reader, writer, function, arguments)
     }
@@ -97,7 +97,7 @@ impl<
     'p,
     R: Source,
     W: Sink,
-    C: Fn(&mut Runtime, &mut R, &mut W, SymId, Vec<Value>) -> Result<Value, Exit>,
+    C: Fn(&mut Runtime, &mut R, &mut W, SymId, &mut [Value]) -> Result<Value, Exit>,
 > Calls<R, W> for Scope<'a, 'p, C> {
     ghost code = { λ s. s.code.now };
 
@@ -118,7 +118,7 @@ impl<
         reader: &mut R,
         writer: &mut W,
         function: SymId,
-        arguments: Vec<Value>,
+        arguments: &mut [Value],
     ) -> Result<Value, Exit> {
         (self.call)(runtime, reader, writer, function, arguments)
     }

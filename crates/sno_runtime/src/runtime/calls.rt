@@ -72,21 +72,18 @@ impl Runtime {
         self.keywords.statement()
     }
 
-    /// Begins a call of a function: the values of its variables are saved, and they are set for the call. The list of
-    /// the arguments is kept for the next evaluation. A function without a definition is error 4; beside 200 open calls
-    /// it is error 10.
+    /// Begins a call of a function: the values of its variables are saved, and they are set for the call. The arguments
+    /// are moved out of their places. A function without a definition is error 4; beside 200 open calls it is error 10.
     #[inline(always)]
-    pub fn enter(&mut self, function: SymId, arguments: Vec<Value>) -> Result<(), Exit>
-        requires { AllByRecursion (IsValueOf self.old.nodes) arguments.items }
+    pub fn enter(&mut self, function: SymId, arguments: &mut [Value]) -> Result<(), Exit>
+        requires { AllByRecursion (IsValueOf self.old.nodes) arguments.old }
         ensures { (d : Defined) → definition_at self.old.store.functions function.0 ≡ Some d
-            → Enters function.0 d (map (shown self.old.nodes) arguments.items) self.old self.new result }
+            → Enters function.0 d (map (shown self.old.nodes) arguments.old) self.old self.new result }
     {
         if self.store.definition(function).is_none() {
             return Err(error(UNDEFINED_FUNCTION));
         }
-        let mut arguments = arguments;
-        self.store.enter_with(function, &mut arguments)?;
-        self.keep_values(arguments);
+        self.store.enter_with(function, arguments)?;
         Ok(())
     }
 

@@ -63,14 +63,14 @@ impl Runtime {
         self.store.find_symbol(name)
     }
 
-    /// A new object of a type: missing fields are null, and extra ones are dropped. Beside 1,000,000 arrays, tables and
-    /// objects it is error 9.
-    pub fn new_data(&mut self, number: u32, fields: Vec<Value>) -> Result<ObjId, Exit>
-        requires { AllByRecursion (IsValueOf self.old.nodes) fields.items }
-        ensures { Does itself any (makes_object number (map (shown self.old.nodes) fields.items))
+    /// A new object of a type, into which the values of its fields are moved: missing ones are null, and extra ones are
+    /// dropped. Beside 1,000,000 arrays, tables and objects it is error 9.
+    pub fn new_data(&mut self, number: u32, fields: &mut [Value]) -> Result<ObjId, Exit>
+        requires { AllByRecursion (IsValueOf self.old.nodes) fields.old }
+        ensures { Does itself any (makes_object number (map (shown self.old.nodes) fields.old))
             self.old self.new result }
     {
-        let id = self.store.new_data(number, fields)?;
+        let id = self.store.new_data_with(number, fields)?;
         Ok(id)
     }
 

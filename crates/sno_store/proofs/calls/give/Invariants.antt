@@ -9,6 +9,6 @@ invariant-formals l =
     record {
       at : l.place ≡ l.formal-index;
       given :
-          with_arguments (Str []) (numbers (drop l.formal-index l.formals)) (drop l.formal-index l.arguments.items) l.values.items
-          ≡ with_arguments (Str []) (numbers l.formals) l.initial.arguments.items l.initial.values.items;
+          with_arguments (Str []) (numbers (drop l.formal-index l.formals)) (drop l.formal-index l.arguments) l.values.items
+          ≡ with_arguments (Str []) (numbers l.formals) l.initial.arguments l.initial.values.items;
     }

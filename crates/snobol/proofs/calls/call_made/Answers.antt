@@ -1,17 +1,30 @@
-use Rattle.std.proofs.Common.{◌≡◌, true, ap, map, sym, ◌∙◌, refl, Bor, Option, None, Some, is_some, option_copied}
-use Rattle.sno_store.specs.Definitions.{Definition}
-use Rattle.sno_runtime.specs.Values.{shown}
-use Rattle.snobol.proofs.MadeCalls.{called_runs}
+use Rattle.std.proofs.Common.{ap, map, sym, subst, ◌∙◌}
+use Rattle.sno_runtime.specs.Fields.{field_value}
+use Rattle.sno_runtime.specs.Operators.{argument}
+use Rattle.sno_runtime.specs.inner.Runtime.{Does}
+use Rattle.sno_runtime.specs.Values.{Value as Shown, shown, IsValueOf}
+use Rattle.snobol.proofs.MadeCalls.{constructed_runs, field_runs, defined_runs}
 use Rattle.snobol.proofs.calls.call_made.Goals as goal
 
--- a definition that is there
-copied_some : (o : Option (Bor Definition)) → is_some o ≡ true → is_some (option_copied o) ≡ true
-copied_some None some = absurd (cc some)
-copied_some (Some d) some = refl
+pub returns-in-Some : goal.returns-in-Some
+returns-in-Some g c =
+    constructed_runs (g.S.Calls.caller c.args.scope.now) c.args.function.0
+    (map (shown c.args.runtime.now.nodes) c.args.arguments.now)
+    c.args.runtime.now c.construct.new.runtime _ c.construct.result c.in-Some.number c.requires.within.ready
+    (sym c.constructor.ensures ∙ c.in-Some.is) c.construct.ensures
 
-pub returns-then-is_some : goal.returns-then-is_some
-returns-then-is_some g c =
-    let some : is_some (option_copied c.definition.result) ≡ true = copied_some c.definition.result (sym c.is_some.ensures ∙ c.if-is_some.true) in
-    called_runs (g.S.Calls.caller c.args.scope.now) c.args.function.0
-    (map (shown c.args.runtime.now.nodes) c.args.arguments.items) c.args.runtime.now c.call.new.runtime _ c.call.result _
-    (ap is_some (sym c.definition.ensures) ∙ some) c.call.ensures
+pub returns-then-is_field : goal.returns-then-is_field
+returns-then-is_field g c =
+    let nodes = c.args.runtime.now.nodes in
+    let object = c.argument-object.ensures.value nodes in
+    field_runs (g.S.Calls.caller c.args.scope.now) c.args.function.0 (map (shown nodes) c.args.arguments.now)
+    c.args.runtime.now c.args.runtime.now _ c.field_value.result c.requires.within.ready (sym c.is_field.ensures ∙ c.if-is_field.true)
+    (subst (λ (v : Shown). Does shown IsValueOf (field_value c.args.function.0 v) c.args.runtime.now c.args.runtime.now c.field_value.result)
+    object c.field_value.ensures)
+
+pub returns : goal.returns
+returns g c =
+    defined_runs (g.S.Calls.caller c.args.scope.now) c.args.function.0
+    (map (shown c.args.runtime.now.nodes) c.args.arguments.now)
+    c.args.runtime.now c.call.new.runtime _ c.call.result _ (sym c.constructor.ensures ∙ c.in_default.is) (sym c.is_field.ensures ∙ c.if-is_field.false)
+    c.call.ensures

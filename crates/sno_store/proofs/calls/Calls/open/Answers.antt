@@ -26,9 +26,9 @@ returns-clause-values c =
     let formals = numbers c.formals-formals.result.now in
     let locals = numbers c.locals-locals.result.now in
     let values = c.args.values.now.items in
-    c.give.ensures.values
-    ∙ ap (with_arguments (Str []) formals c.args.arguments.now.items)
+    c.give.ensures
+    ∙ ap (with_arguments (Str []) formals c.args.arguments.now)
     (c.save-2.ensures.values ∙ ap (with_nulls (Str []) locals) (c.save.ensures.values ∙ ap (with_nulls (Str []) formals) c.save_one.ensures.values))
-    ∙ given (Str []) formals locals c.args.arguments.now.items (set values c.args.function.0 (Str []))
-    ∙ (λ i. with_arguments (Str []) (c.formals-formals.ensures i) c.args.arguments.now.items
+    ∙ given (Str []) formals locals c.args.arguments.now (set values c.args.function.0 (Str []))
+    ∙ (λ i. with_arguments (Str []) (c.formals-formals.ensures i) c.args.arguments.now
     (with_nulls (Str []) (c.locals-locals.ensures i) (set values c.args.function.0 (Str []))))

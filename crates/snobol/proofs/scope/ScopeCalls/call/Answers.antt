@@ -6,4 +6,4 @@ call-requires g c =
     within.level.1.callable _ _ _ _ _ within.level.0 within.ready c.requires.values
 
 pub returns : goal.returns
-returns g c = c.requires.within.level.1.meant _ _ _ _ _ _ _ _ _ c.call.ensures
+returns g c = c.requires.within.level.1.meant _ _ _ _ _ _ _ _ _ _ c.call.ensures
