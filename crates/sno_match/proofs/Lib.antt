@@ -7,6 +7,7 @@ pub mod SearchLaws
 pub mod ReadingLaws
 pub mod PlanLaws
 pub mod MoveLaws
+pub mod PartLaws
 pub mod EntryLaws
 pub mod StartLaws
 pub mod SessionLaws

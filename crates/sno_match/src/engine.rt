@@ -8,7 +8,7 @@ ghost use Rattle.sno_match.specs.inner.State.{after};
 ghost use Rattle.sno_match.specs.inner.Running.{Advances};
 
 use crate::event::{Event, Pending};
-use crate::goal::Goal;
+use crate::goal::{Goal, Top};
 use crate::moves::{make_move, put_answer};
 use crate::points::Points;
 use crate::snapshot::Snapshot;
@@ -202,7 +202,7 @@ impl<P: Points> Engine<P> {
         ensures err { OnErr result (self.new ≡ self.old) }
         ensures counts { IsCounted self.new }
     {
-        if self.points() == 0 {
+        if let Top::Empty = self.points.top() {
             let told = self.take_start(patterns)?;
             return Ok(told);
         }

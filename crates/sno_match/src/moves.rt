@@ -1,14 +1,16 @@
 //! One move of the search: what is due at the newest resumption point is done.
-ghost use Rattle.std.specs.Prelude.{◌≡◌, ◌<◌, ◌≤◌, ◌+◌, ◌-◌, ◌*◌, length, IfOk, IfSome, OnOk, OnErr};
+ghost use Rattle.std.specs.Prelude.{◌≡◌, ℕ, List, ◌<◌, ◌≤◌, ◌+◌, ◌-◌, ◌*◌, length, IfOk, IfSome, OnOk, OnErr};
 ghost use Rattle.sno_pattern.specs.Looks.{AreTrue};
 ghost use Rattle.sno_match.specs.Point.{HasFirst};
+ghost use Rattle.sno_match.specs.Top.{IsTop};
 ghost use Rattle.sno_match.specs.inner.Remaining.{IsKnown, IsStack, HasPoint};
 ghost use Rattle.sno_match.specs.inner.State.{after_move, owed};
 ghost use Rattle.sno_match.specs.inner.Scopes.{HasCuts};
-ghost use Rattle.sno_match.specs.inner.Move.{Makes, EnteredFails, answered};
+ghost use Rattle.sno_match.specs.inner.Move.{Makes, HasStep, EnteredFails, answered};
 
 use crate::event::{Event, Pending};
 use crate::goal::{Goal, Mark, Top};
+use crate::parts::first_goal;
 use crate::points::Points;
 use crate::starts::{MOST_DEPTH, steps_in_vain};
 use crate::steps::{Due, due_at, take_step};
@@ -16,8 +18,9 @@ use sno_pattern::{Looks, Patterns, Shape};
 use sno_value::PatId;
 use std::alloc::AllocError;
 
-/// Does what is due at the newest point: at most one step, and at most one event. Where memory is refused nothing has
-/// changed. Where a step is due and none is left, the event is `Limit`.
+/// Does what is due at the newest point, and tells at most one event: a step is taken, or several where it enters a
+/// pattern's first parts. Where memory is refused nothing has changed. Where a step is due and none is left, the event
+/// is `Limit`.
 pub(crate) fn make_move<P: Points>(
     points: &mut P,
     steps: &mut u32,
@@ -66,31 +69,80 @@ pub(crate) fn make_move<P: Points>(
             if *steps == limit {
                 return Ok(Some(Event::Limit));
             }
-            let alone = points.depth() == 1;
-            let left = limit - *steps;
-            if let Some(vain) = lone_choice_in_vain(
-                alone, patterns, subject, goal, cursor, mark, left,
-            ) {
-                points.pop();
-                *steps += vain;
-                return Ok(None);
-            }
-            let left = limit - *steps - 1;
-            let mut told = None;
-            take_step(
-                points, &mut told, patterns, looks, subject, goal, cursor, mark, left,
+            let told = make_step(
+                points, steps, looks, patterns, subject, goal, cursor, mark, limit,
             )?;
-            *steps += 1;
             Ok(told)
         }
     }
 }
 
+/// Takes the step that is due at the newest point, and before it those that enter its pattern's first parts. Where
+/// memory is refused behind such a step, the next move asks for it again.
+#[inline(always)]
+fn make_step<P: Points>(
+    points: &mut P,
+    steps: &mut u32,
+    looks: &mut Looks,
+    patterns: &Patterns,
+    subject: &[u8],
+    goal: Goal,
+    cursor: usize,
+    mark: Mark,
+    limit: u32,
+) -> Result<Option<Event>, AllocError>
+    requires stack { IsStack patterns.now subject.now (P.points points.old) }
+    requires cuts { HasCuts patterns.now (limit - steps.old) (P.points points.old) }
+    requires due { HasStep patterns.now goal mark }
+    requires top { IsTop (P.points points.old) (Top.Open goal cursor mark) }
+    requires room { steps.old < limit }
+    requires looks { AreTrue patterns.now subject.now looks.old }
+    requires small { length subject.now ≤ 4294967295 }
+    ensures looks { AreTrue patterns.now subject.now looks.new }
+    ensures stack { IsStack patterns.now subject.now (P.points points.new) }
+    ensures cuts { HasCuts patterns.now (limit - steps.new) (P.points points.new) }
+    ensures ok { (start : ℕ) (way : List Pending) → IfOk result
+        (λ told. Makes patterns.now subject.now start limit (P.points points.old) steps.old way told
+        (P.points points.new) steps.new way) }
+    ensures records { IfOk result (λ told. P.records points.new + 2 * steps.old + owed (after_move told)
+        ≤ P.records points.old + 2 * steps.new) }
+    ensures err { OnErr result ((P.points points.new ≡ P.points points.old)
+        × (P.records points.new ≡ P.records points.old) × (steps.new ≡ steps.old)) }
+{
+    let before = *steps;
+    let first = first_goal(points, steps, patterns, goal, cursor, mark, limit);
+    let left = limit - *steps;
+    if let Some(vain) = lone_choice_in_vain(points, patterns, subject, first, cursor, mark, left) {
+        points.pop();
+        *steps += vain;
+        return Ok(None);
+    }
+    let mut told = None;
+    if let Err(refused) = take_step(
+        points,
+        &mut told,
+        patterns,
+        looks,
+        subject,
+        first,
+        cursor,
+        mark,
+        left - 1,
+    ) {
+        if *steps == before {
+            return Err(refused);
+        }
+        return Ok(None);
+    }
+    *steps += 1;
+    Ok(told)
+}
+
 /// How many steps a choice takes in vain that is entered at the only point, where each of its sides fails at once.
 /// Where there are more points it isn't asked, since the choices within a choice would be asked again and again.
 #[inline(always)]
-fn lone_choice_in_vain(
-    alone: bool,
+fn lone_choice_in_vain<P: Points>(
+    points: &P,
     patterns: &Patterns,
     subject: &[u8],
     goal: Goal,
@@ -103,18 +155,18 @@ fn lone_choice_in_vain(
     ensures fails { IfSome result (λ steps. EnteredFails patterns.now subject.now goal mark steps cursor) }
     ensures near { IfSome result (λ steps. steps < left) }
 {
-    if !alone {
-        return None;
-    }
-    let Goal::Match(id) = goal else {
+    let Mark::Enter = mark else {
         return None;
     };
-    let Mark::Enter = mark else {
+    let Goal::Match(id) = goal else {
         return None;
     };
     let Shape::Alt(_first, _second) = patterns.shape(id) else {
         return None;
     };
+    if points.depth() != 1 {
+        return None;
+    }
     let steps = steps_in_vain(patterns, id, subject, cursor, left, MOST_DEPTH)?;
     Some(steps)
 }

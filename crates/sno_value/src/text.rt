@@ -100,6 +100,9 @@ impl Text {
     pub fn from_slice(alloc: Global, bytes: &[u8]) -> Result<Text, AllocError>
         ensures { IfOk result (λ text. text ≡ bytes.now) }
     {
+        if bytes.len() <= MOST_HERE {
+            return Ok(here(bytes, &[]));
+        }
         Text::joined(alloc, bytes, &[])
     }
 

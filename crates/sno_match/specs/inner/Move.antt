@@ -12,6 +12,7 @@ use Rattle.sno_match.specs.declared.event.Event.TheVariants as V
 use Rattle.sno_match.specs.declared.event.Pending.{Pending}
 use Rattle.sno_match.specs.declared.engine.State.{State}
 use Rattle.sno_match.specs.declared.engine.State.TheVariants as S
+use Rattle.sno_match.specs.declared.plan.Front.TheVariants.{Two}
 use Rattle.sno_match.specs.declared.plan.Plan.{Plan}
 use Rattle.sno_match.specs.declared.plan.Plan.TheVariants as P
 use Rattle.sno_match.specs.Search.{Event, Answer, Gives, Search, emit}
@@ -21,7 +22,8 @@ use Rattle.sno_match.specs.inner.State.{verdict_of, after_move, HasAsked}
 use Rattle.sno_match.specs.declared.steps.Due.{Due}
 use Rattle.sno_match.specs.declared.steps.Due.TheVariants as D
 use Rattle.sno_match.specs.inner.Plan.{goals_in, IsPlan, KeepsScopes}
-use Rattle.sno_match.specs.inner.Remaining.{remaining, waiting}
+use Rattle.sno_match.specs.inner.Remaining.{remaining, waiting, IsStack}
+use Rattle.sno_match.specs.inner.Scopes.{HasCuts}
 use Rattle.sno_match.specs.inner.Starts.{FailsAt}
 
 -- what a move adds to the events; a last event is a verdict, and stands behind them
@@ -86,6 +88,24 @@ pub record Steps (nodes : List Node) (s : List ℕ) (goal : Goal) (c : ℕ) (mar
   pub is_plan : IsPlan nodes s goal c mark plan
   pub scopes : KeepsScopes nodes goal plan
   pub carried : CarriesOut plan c left old told new
+
+-- a pattern whose step puts its first part and a goal behind that in its place
+pub record EntersParts (nodes : List Node) (id : PatId) (c : ℕ) (first : PatId) (second : Goal) : Type 0 where
+  pub known : first.0 < length nodes
+  pub is_plan : (s : List ℕ) → c ≤ length s → IsPlan nodes s (Match id) c Enter (P.Replace (Two (Match first) second) c)
+  pub scopes : KeepsScopes nodes (Match id) (P.Replace (Two (Match first) second) c)
+
+-- steps from one stack to another that tell nothing, at most one more point for each
+pub record LeadsOn (nodes : List Node) (s : List ℕ) (limit : ℕ) (old : List Point) (steps0 : ℕ) (new : List Point)
+    (steps : ℕ) : Type 0 where
+  pub steps_in : steps ≤ limit
+  pub paid : steps0 ≤ steps
+  pub grows : length new + steps0 ≤ length old + steps
+  pub falls : 2 * (limit - steps) + length new + steps ≤ 2 * (limit - steps0) + length old + steps0
+  pub stack : IsStack nodes s new
+  pub cuts : HasCuts nodes (limit - steps) new
+  pub leads : (start : ℕ) (answers : List Answer) → remaining nodes s start old answers (limit - steps0)
+      ≡ remaining nodes s start new answers (limit - steps)
 
 -- what is due is a step: no FENCE is backed into, and no cut
 abbrev pub HasStep : List Node → Goal → Mark → Type 0

@@ -58,8 +58,8 @@ returns-in-Some-clause-counts g c =
     c.in-Some.event c.make_move.new.steps c.self.inside.start (g.P.Points.points c.make_move.new.points) c.make_move.new.way.items
     (g.P.Points.records c.make_move.new.points) (rw c.in-Some.is at l) c.state_behind-self-inside.result c.state_behind-self-inside.ensures).2
 
-pub invariant_of-self-in_default : goal.invariant_of-self-in_default
-invariant_of-self-in_default g c =
+pub invariant_of-self-in_default-told : goal.invariant_of-self-in_default-told
+invariant_of-self-in_default-told g c =
     let l = laws.made_leads c.args.self.now c.self.inside.lent.value c.self.inside.pattern c.self.inside.subject.items c.self.inside.anchored
     c.self.inside.limit c.self.inside.answers.items c.self.inside.told c.self.inside.steps c.self.inside.state c.self.inside.way.items
     (g.P.Points.points c.self.inside.points) (g.P.Points.records c.self.inside.points) c.self.inside.start c.self.view_is c.self.invariant.0
@@ -72,14 +72,14 @@ invariant_of-self-in_default g c =
           (g.P.Points.points c.self.inside.points) (g.P.Points.records c.self.inside.points) c.self.inside.start c.self.view_is c.self.invariant.0
           c.requires.going c.requires.on
           c.make_move.new.steps c.self.inside.start (g.P.Points.points c.make_move.new.points) c.make_move.new.way.items
-          (g.P.Points.records c.make_move.new.points) (rw c.in_default.is at l) (c.in_ok-told-2.ensures.ok.falls c.in_default.is)).0,
+          (g.P.Points.records c.make_move.new.points) (rw c.in_default-told.is at l) (c.in_ok-told-2.ensures.ok.falls c.in_default-told.is)).0,
       same_looks c.self.inside.lent.value c.args.patterns.now c.self.inside.subject.items c.deref.result.now c.make_move.new.looks
           (ap (λ (x : Matching). x.nodes) c.self.view_is ∙ c.requires.table) c.deref.ensures.value c.in_ok-told-2.ensures.looks,
       c.self.invariant.2,
     )
 
-pub returns-in_default-clause-ok : goal.returns-in_default-clause-ok
-returns-in_default-clause-ok g c =
+pub returns-in_default-told-clause-ok : goal.returns-in_default-told-clause-ok
+returns-in_default-told-clause-ok g c =
     let l = laws.made_leads c.args.self.now c.self.inside.lent.value c.self.inside.pattern c.self.inside.subject.items c.self.inside.anchored
     c.self.inside.limit c.self.inside.answers.items c.self.inside.told c.self.inside.steps c.self.inside.state c.self.inside.way.items
     (g.P.Points.points c.self.inside.points) (g.P.Points.records c.self.inside.points) c.self.inside.start c.self.view_is c.self.invariant.0
@@ -87,15 +87,15 @@ returns-in_default-clause-ok g c =
     c.args.patterns.now c.deref.result.now c.requires.table c.deref.ensures.value c.in_ok-told-2.told c.make_move.new.steps
     (g.P.Points.points c.make_move.new.points) c.make_move.new.way.items (g.P.Points.records c.make_move.new.points) c.in_ok-told-2.ensures.stack
     c.in_ok-told-2.ensures.cuts c.in_ok-told-2.ensures.records c.in_ok-told-2.ensures.ok in
-    rw c.in_default.is (laws.goes_all c.args.self.now c.self.inside.lent.value c.self.inside.pattern c.self.inside.subject.items c.self.inside.anchored
+    rw c.in_default-told.is (laws.goes_all c.args.self.now c.self.inside.lent.value c.self.inside.pattern c.self.inside.subject.items c.self.inside.anchored
     c.self.inside.limit c.self.inside.answers.items c.self.inside.told c.self.inside.steps c.self.inside.state c.self.inside.way.items
     (g.P.Points.points c.self.inside.points) (g.P.Points.records c.self.inside.points) c.self.inside.start c.self.view_is c.self.invariant.0
     c.requires.going c.requires.on
     c.make_move.new.steps c.self.inside.start (g.P.Points.points c.make_move.new.points) c.make_move.new.way.items (g.P.Points.records c.make_move.new.points)
-    (rw c.in_default.is at l) (c.in_ok-told-2.ensures.ok.falls c.in_default.is)).1
+    (rw c.in_default-told.is at l) (c.in_ok-told-2.ensures.ok.falls c.in_default-told.is)).1
 
-pub returns-in_default-clause-counts : goal.returns-in_default-clause-counts
-returns-in_default-clause-counts g c =
+pub returns-in_default-told-clause-counts : goal.returns-in_default-told-clause-counts
+returns-in_default-told-clause-counts g c =
     let l = laws.made_leads c.args.self.now c.self.inside.lent.value c.self.inside.pattern c.self.inside.subject.items c.self.inside.anchored
     c.self.inside.limit c.self.inside.answers.items c.self.inside.told c.self.inside.steps c.self.inside.state c.self.inside.way.items
     (g.P.Points.points c.self.inside.points) (g.P.Points.records c.self.inside.points) c.self.inside.start c.self.view_is c.self.invariant.0
@@ -107,7 +107,7 @@ returns-in_default-clause-counts g c =
     c.self.inside.answers.items c.self.inside.told c.self.inside.steps c.self.inside.state c.self.inside.way.items (g.P.Points.points c.self.inside.points)
     (g.P.Points.records c.self.inside.points) c.self.inside.start c.self.view_is c.self.invariant.0 c.requires.going c.requires.on
     c.make_move.new.steps c.self.inside.start (g.P.Points.points c.make_move.new.points) c.make_move.new.way.items (g.P.Points.records c.make_move.new.points)
-    (rw c.in_default.is at l) (c.in_ok-told-2.ensures.ok.falls c.in_default.is)).2
+    (rw c.in_default-told.is at l) (c.in_ok-told-2.ensures.ok.falls c.in_default-told.is)).2
 
 pub returns-in_err-told-2-clause-counts : goal.returns-in_err-told-2-clause-counts
 returns-in_err-told-2-clause-counts g c =

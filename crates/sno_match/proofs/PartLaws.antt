@@ -1,0 +1,117 @@
+-- Steps that tell nothing, one after another.
+use Rattle.std.proofs.Common.{◌≡◌, ℕ, ◌+◌, ◌-◌, ◌≤◌, ◌<◌, List, [], ◌∷◌, Option, None, refl, sym, ◌∙◌, ap, subst, arith}
+use Rattle.sno_value.specs.declared.ids.PatId.{PatId}
+use Rattle.sno_pattern.specs.Table.{Node}
+use Rattle.sno_match.specs.declared.event.Event.{Event as Told}
+use Rattle.sno_match.specs.declared.event.Pending.{Pending}
+use Rattle.sno_match.specs.declared.goal.Goal.{Goal as Numbered}
+use Rattle.sno_match.specs.declared.goal.Goal.TheVariants as N
+use Rattle.sno_match.specs.declared.goal.Mark.{Mark}
+use Rattle.sno_match.specs.declared.goal.Mark.TheVariants.{Enter, Next}
+use Rattle.sno_match.specs.declared.goal.Top.{Top}
+use Rattle.sno_match.specs.declared.goal.Top.TheVariants as T
+use Rattle.sno_match.specs.declared.plan.Front.TheVariants.{Two}
+use Rattle.sno_match.specs.declared.plan.Plan.TheVariants as P
+use Rattle.sno_match.specs.Point.{Point, replaced}
+use Rattle.sno_match.specs.Top.{IsTop}
+use Rattle.sno_match.specs.inner.Remaining.{remaining, IsStack, HasPoint, MarkFits}
+use Rattle.sno_match.specs.inner.Scopes.{HasCuts}
+use Rattle.sno_match.specs.inner.Move.{Makes, EntersParts, LeadsOn}
+use Rattle.sno_match.proofs.ReadingLaws.{emit-none}
+use Rattle.sno_match.proofs.MoveLaws as laws
+
+-- a stack at whose top something is read has a point
+pub has_point : (points : List Point) (top : Top) → IsTop points top → (top ≡ T.Empty → ⊥) → HasPoint points
+has_point points T.Empty h none = absurd (none refl)
+has_point points (T.Complete cursor mark) h none = subst HasPoint (sym h.2) tt
+has_point points (T.Open goal cursor mark) h none = subst HasPoint (sym h.3) tt
+
+-- what a mark asks is asked of the first goal alone
+pub fits_alone : (nodes : List Node) (s : List ℕ) (c : ℕ) (mark : Mark) (goal : Numbered) (rest : List Numbered) → MarkFits nodes s mark (goal ∷ rest) c
+    → MarkFits nodes s mark (goal ∷ []) c
+fits_alone nodes s c Enter goal rest h = tt
+fits_alone nodes s c (Next at) (N.Match id) rest h = h
+fits_alone nodes s c (Next at) (N.CloseCond target from) rest h = h
+fits_alone nodes s c (Next at) (N.CloseImm target from) rest h = h
+fits_alone nodes s c (Next at) (N.CloseRepeat id from) rest h = h
+fits_alone nodes s c (Next at) (N.CloseCut left depth) rest h = h
+
+module _ (nodes : List Node) (s : List ℕ) (limit : ℕ) where
+  pub no_step : (points : List Point) (steps : ℕ) → steps ≤ limit → IsStack nodes s points → HasCuts nodes (limit - steps) points
+      → LeadsOn nodes s limit points steps points steps
+  no_step points steps within st cuts = record {
+    steps_in = within;
+    paid = omega arith;
+    grows = omega arith;
+    falls = omega arith;
+    stack = st;
+    cuts = cuts;
+    leads = λ start answers. refl;
+  }
+
+  module _ (old mid new : List Point) (steps0 steps1 steps : ℕ) where
+    pub steps_behind : LeadsOn nodes s limit old steps0 mid steps1 → LeadsOn nodes s limit mid steps1 new steps → LeadsOn nodes s limit old steps0 new steps
+    steps_behind first second = record {
+      steps_in = second.steps_in;
+      paid = omega (arith, first.paid, second.paid);
+      grows = omega (arith, first.grows, second.grows);
+      falls = omega (arith, first.falls, second.falls);
+      stack = second.stack;
+      cuts = second.cuts;
+      leads = λ start answers. first.leads start answers ∙ second.leads start answers;
+    }
+
+    -- a move behind such steps is one move
+    pub move_behind : (start : ℕ) (was way : List Pending) (told : Option Told) → LeadsOn nodes s limit old steps0 mid steps1
+        → Makes nodes s start limit mid steps1 was told new steps way → Makes nodes s start limit old steps0 was told new steps way
+    move_behind start was way told first made = record {
+      steps_in = made.steps_in;
+      paid = omega (arith, first.paid, made.paid);
+      grows = omega (arith, first.grows, made.grows);
+      falls = λ none. let less = made.falls none in omega (arith, less, first.falls, first.paid);
+      more = made.more;
+      asked = made.asked;
+      pending = made.pending;
+      leads = λ answers. first.leads start answers ∙ made.leads answers;
+    }
+
+  -- such steps are a move, if there is one
+  pub steps_make : (old new : List Point) (steps0 steps start : ℕ) (was : List Pending) → LeadsOn nodes s limit old steps0 new steps → (steps ≡ steps0 → ⊥)
+      → Makes nodes s start limit old steps0 was None new steps was
+  steps_make old new steps0 steps start was first some = record {
+    steps_in = first.steps_in;
+    paid = omega (arith, first.paid);
+    grows = first.grows;
+    falls = λ none. omega (arith, first.falls, first.paid, some);
+    more = λ e. cc;
+    asked = tt;
+    pending = refl;
+    leads = λ answers. first.leads start answers ∙ sym (emit-none (remaining nodes s start new answers (limit - steps)));
+  }
+
+-- one step that enters the first part of the pattern at the top
+module _ (nodes : List Node) (old new : List Point) (id first : PatId) (second : Numbered) (c : ℕ)
+    (top : IsTop old (T.Open (N.Match id) c Enter)) (is : new ≡ replaced (N.Match first ∷ second ∷ []) c old) where
+  pub part_top : IsTop new (T.Open (N.Match first) c Enter)
+  part_top = (second ∷ top.0, top.1, top.2, is ∙ ap (replaced (N.Match first ∷ second ∷ []) c) top.3)
+
+  pub part_entered : (s : List ℕ) (limit steps : ℕ) → steps < limit → EntersParts nodes id c first second → IsStack nodes s old
+      → HasCuts nodes (limit - steps) old → LeadsOn nodes s limit old steps new (steps + 1)
+  part_entered s limit steps due enters st cuts =
+      let left = limit - (steps + 1) in
+      let plan = P.Replace (Two (N.Match first) second) c in
+      let inside = (laws.fits_at nodes s old (N.Match id) top.0 c top.1 Enter top.2 top.3 st).inside in
+      let right = enters.is_plan s inside in
+      let made = λ (start : ℕ). laws.made_at nodes s old (N.Match id) top.0 c top.1 Enter top.2 top.3 start limit steps [] due left refl cuts plan None new
+      right enters.scopes (refl, is) st.marked in
+      let one = made 0 in
+      record {
+        steps_in = one.steps_in;
+        paid = omega arith;
+        grows = one.grows;
+        falls = let less = one.falls refl in omega (arith, less);
+        stack = laws.stack_at nodes s old (N.Match id) top.0 c top.1 Enter top.2 top.3 left plan None new st right (refl, is);
+        cuts = laws.cuts_at nodes s old (N.Match id) top.0 c top.1 Enter top.2 top.3 0 limit steps [] due left refl cuts plan None new right enters.scopes
+            (refl, is);
+        leads = λ start answers. (made start).leads answers ∙ emit-none (remaining nodes s start new answers left);
+      }
