@@ -75,7 +75,8 @@ impl Calls {
         let (formals, locals) = (definition.formals(), definition.locals());
         let count = 1 + formals.len() + locals.len();
         self.saved.reserve(count)?;
-        self.counts.push(count)?;
+        self.counts.reserve(1)?;
+        self.counts.push_reserved(count);
         save_one(function, values, &mut self.saved);
         save(formals, values, &mut self.saved);
         save(locals, values, &mut self.saved);
@@ -104,6 +105,7 @@ impl Calls {
 }
 
 /// The values of variables go behind what is saved, and the variables become null.
+#[inline(always)]
 fn save(symbols: &[SymId], values: &mut Vec<Value>, saved: &mut Vec<(SymId, Value)>)
     requires room { vec_len saved.old + length symbols.now ≤ vec_capacity saved.old }
     ensures saved { saved.new.items ≡ saved.old.items ++ moved symbols.now values.old.items }

@@ -1,10 +1,10 @@
 -- Calls of functions that the program has made: constructors, fields and those with a definition.
-use Rattle.std.proofs.Common.{◌≡◌, ℕ, ◌++◌, true, false, List, refl, ap, sym, subst, is_some, None, Some, Result}
+use Rattle.std.proofs.Common.{◌≡◌, ℕ, ◌++◌, true, false, List, refl, ap, sym, subst, None, Some, Result}
 use Rattle.sno_value.specs.declared.value.Value.{Value as Stored}
 use Rattle.sno_pattern.specs.Table.{Node}
 use Rattle.sno_store.specs.declared.functions.Function.{Function}
 use Rattle.sno_store.specs.declared.functions.Function.TheVariants.{Undefined, Defined, Constructs, IsField}
-use Rattle.sno_store.specs.Functions.{function_at, as_constructor, as_definition, is_field}
+use Rattle.sno_store.specs.Functions.{function_at, as_constructor, is_field}
 use Rattle.sno_runtime.specs.declared.stops.Exit.{Exit}
 use Rattle.sno_runtime.specs.Action.{Action, Outcome}
 use Rattle.sno_runtime.specs.Fields.{constructs, field_value}

@@ -1,6 +1,5 @@
-use Rattle.std.proofs.Common.{ap, map, sym, subst, ◌∙◌}
+use Rattle.std.proofs.Common.{map, sym, subst, ◌∙◌}
 use Rattle.sno_runtime.specs.Fields.{field_value}
-use Rattle.sno_runtime.specs.Operators.{argument}
 use Rattle.sno_runtime.specs.inner.Runtime.{Does}
 use Rattle.sno_runtime.specs.Values.{Value as Shown, shown, IsValueOf}
 use Rattle.snobol.proofs.MadeCalls.{constructed_runs, field_runs, defined_runs}

@@ -17,7 +17,8 @@ returns-clause-ok c =
     (c.save_one.ensures.saved ∙ ap (λ ss. ss ++ (c.args.function, get_or values c.args.function.0 (Str [])) ∷ []) c.in_ok-reserve.ensures.items)
     c.save_one.ensures.values
     c.save.ensures.saved c.save.ensures.values c.save-2.ensures.saved in
-    ap (λ ks. calls_seen ks c.save-2.new.saved.items) c.in_ok-push.ensures.items ∙ did.0
+    ap (λ ks. calls_seen ks c.save-2.new.saved.items) (c.push_reserved.ensures.items ∙ ap (λ ks. ks ++ (1 + length formals + length locals) ∷ [])
+    c.in_ok-reserve-2.ensures.items) ∙ did.0
     ∙ (λ i. c.self.view_is i
     ++ map (λ t. (t, get_or values t (Str []))) (c.args.function.0 ∷ (c.formals-formals.ensures i ++ c.locals-locals.ensures i)) ∷ [])
 
