@@ -12,12 +12,12 @@ use Rattle.sno_match.specs.Point.{Point}
 use Rattle.sno_match.specs.Top.{first_point}
 use Rattle.sno_match.specs.inner.Remaining.{IsStack}
 use Rattle.sno_match.specs.inner.State.{after, after_move, waits, ended, owed}
-use Rattle.sno_match.specs.inner.Move.{Makes}
+use Rattle.sno_match.specs.inner.Move.{Makes, LeadsOn}
 use Rattle.sno_match.specs.Matching.{Matching, IsCounted}
 use Rattle.sno_match.specs.inner.Scopes.{HasCuts}
 use Rattle.sno_match.specs.inner.Starts.{Passes}
-use Rattle.sno_match.specs.inner.Running.{later_starts, seen, IsMatch, Advances}
-use Rattle.sno_match.proofs.SessionLaws.{Leads, led, led_told, led_on, move_leads, exhausted_leads, limit_leads, start_leads}
+use Rattle.sno_match.specs.inner.Running.{later_starts, seen, IsMatch, Advances, GoesOn}
+use Rattle.sno_match.proofs.SessionLaws.{Leads, led, led_told, led_on, move_leads, steps_lead, exhausted_leads, limit_leads, start_leads}
 use Rattle.sno_match.proofs.CountLaws.{match_counted}
 
 pub going_of : (state : State) → waits state ≡ false → ended state ≡ false → state ≡ S.Going
@@ -85,6 +85,12 @@ module _ (o : Matching) (nodes : List Node) (pattern : PatId) (s : List ℕ) (an
         (subst (λ (x : Matching). Advances x None (then_on S.Going)) view_going
         (led_on m start points inv_going new_steps new_start new new_way new_records l, less))
 
+    pub stays_all : IsMatch (then_on state) new_start new state × GoesOn o (then_on state) × IsCounted (then_on state)
+    stays_all =
+        let on = subst (λ (x : State). GoesOn o (then_on x)) (sym going)
+        (subst (λ (x : Matching). GoesOn x (then_on S.Going)) view_going (led_on m start points inv_going new_steps new_start new new_way new_records l)) in
+        (goes_match, on, match_counted (then_on state) new_start new state goes_match refl)
+
     pub goes_all : (2 * (limit - new_steps) + length new < 2 * (limit - steps) + length points) → IsMatch (then_on state) new_start new state
         × Advances o None (then_on state) × IsCounted (then_on state)
     goes_all less = (goes_match, goes_on less, match_counted (then_on state) new_start new state goes_match refl)
@@ -102,6 +108,15 @@ module _ (o : Matching) (nodes : List Node) (pattern : PatId) (s : List ℕ) (an
         move_leads m start points result new_steps new new_way new_records inv.start_in (of_match (λ n t. IsStack n t new) stack)
         (of_match (λ n t. HasCuts n (limit - new_steps) new) cuts) few
         (of_match (λ n t. Makes n t start limit points steps way result new new_steps new_way) made)
+
+  -- it was refused memory behind steps that tell nothing
+  module _ (lent : List Node) (text : List ℕ) (table : o.nodes ≡ lent) (same : text ≡ s) (new_steps : ℕ) (new : List Point) (new_records : ℕ)
+      (few : new_records + 2 * steps ≤ records + 2 * new_steps) (on : LeadsOn lent text limit points steps new new_steps) where
+    pub refused_leads : Leads m start points None new_steps start new way new_records
+    refused_leads =
+        steps_lead m start points new_steps new new_records inv.start_in few
+        (subst (λ (n : List Node). LeadsOn n s limit points steps new new_steps) (sym (ap (λ (x : Matching). x.nodes) view ∙ table))
+        (subst (λ (t : List ℕ). LeadsOn lent t limit points steps new new_steps) same on))
 
   -- what is seen of it
   pub counted_so : IsCounted o

@@ -99,6 +99,14 @@ stays_then o a n h k = record {
   steps = omega (arith, h.steps, k.steps);
 }
 
+-- nothing has changed
+pub goes_not : (o n : Matching) → o.waits ≡ false → o.ended ≡ false → n ≡ o → GoesOn o n
+goes_not o n asked going same = subst (GoesOn o) (sym same) (record {
+  nodes = refl;
+  same = record { pattern = refl; subject = refl; anchored = refl; limit = refl; answers = refl; trace = refl };
+  stays = record { told = refl; way = refl; waits = asked; ended = going; steps = omega arith };
+})
+
 pub goes_then : (o a n : Matching) → GoesOn o a → GoesOn a n → GoesOn o n
 goes_then o a n h k = record { nodes = k.nodes ∙ h.nodes; same = same_then o a n h.same k.same; stays = stays_then o a n h.stays k.stays }
 

@@ -75,20 +75,6 @@ module _ (nodes : List Node) (s : List ℕ) (limit : ℕ) where
       leads = λ answers. first.leads start answers ∙ made.leads answers;
     }
 
-  -- such steps are a move, if there is one
-  pub steps_make : (old new : List Point) (steps0 steps start : ℕ) (was : List Pending) → LeadsOn nodes s limit old steps0 new steps → (steps ≡ steps0 → ⊥)
-      → Makes nodes s start limit old steps0 was None new steps was
-  steps_make old new steps0 steps start was first some = record {
-    steps_in = first.steps_in;
-    paid = omega (arith, first.paid);
-    grows = first.grows;
-    falls = λ none. omega (arith, first.falls, first.paid, some);
-    more = λ e. cc;
-    asked = tt;
-    pending = refl;
-    leads = λ answers. first.leads start answers ∙ sym (emit-none (remaining nodes s start new answers (limit - steps)));
-  }
-
 -- one step that enters the first part of the pattern at the top
 module _ (nodes : List Node) (old new : List Point) (id first : PatId) (second : Numbered) (c : ℕ)
     (top : IsTop old (T.Open (N.Match id) c Enter)) (is : new ≡ replaced (N.Match first ∷ second ∷ []) c old) where

@@ -18,7 +18,7 @@ use Rattle.sno_match.specs.Point.{Point, HasFirst}
 use Rattle.sno_match.specs.Top.{first_point}
 use Rattle.sno_match.specs.inner.Remaining.{IsStack}
 use Rattle.sno_match.specs.inner.State.{after, after_move, owed, HasAsked}
-use Rattle.sno_match.specs.inner.Move.{Makes, entries, price, way_after, standing}
+use Rattle.sno_match.specs.inner.Move.{Makes, LeadsOn, entries, price, way_after, standing}
 use Rattle.sno_match.specs.inner.Scopes.{HasCuts}
 use Rattle.sno_match.specs.Matching.{Matching, answers_of, trace_of, IsTold}
 use Rattle.sno_match.specs.inner.Starts.{Passes}
@@ -276,6 +276,24 @@ move_leads m start old told steps points way records in_start stack cuts few mad
       ap (λ r. further r (later m start)) (made.leads more) ∙
       further-emit (entries told way (m.limit - steps)) (standing (after_move told) m.nodes m.subject start points more (m.limit - steps)) (later m start) ∙
       ap (emit (entries told way (m.limit - steps))) (stand m start points more (m.limit - steps) (after_move told) (not_exhausted told made.more));
+}
+
+-- steps that tell nothing are such a move
+pub steps_lead : (m : Matching) (start : ℕ) (old : List Point) (steps : ℕ) (points : List Point) (records : ℕ) → start ≤ length m.subject
+    → records + 2 * m.steps ≤ m.records + 2 * steps → LeadsOn m.nodes m.subject m.limit old m.steps points steps
+    → Leads m start old None steps start points m.way records
+steps_lead m start old steps points records in_start few on = record {
+  steps_in = on.steps_in;
+  paid = omega (arith, on.paid);
+  start_in = in_start;
+  stack = on.stack;
+  cuts = on.cuts;
+  asked = tt;
+  points_in = on.grows;
+  records_in = omega (arith, few);
+  pending = refl;
+  leads = λ more.
+      ap (λ r. further r (later m start)) (on.leads start more) ∙ sym (emit-none (to_come S.Going m start points more (m.limit - steps)));
 }
 
 -- no point is left

@@ -5,7 +5,7 @@ ghost use Rattle.sno_match.specs.Matching.{SameMatch, IsTold, StaysAt, IsCounted
 ghost use Rattle.sno_match.specs.Events.{in_trace, last_pending};
 ghost use Rattle.sno_match.specs.Within.{IsWithin};
 ghost use Rattle.sno_match.specs.inner.State.{after};
-ghost use Rattle.sno_match.specs.inner.Running.{Advances};
+ghost use Rattle.sno_match.specs.inner.Running.{Advances, GoesOn};
 
 use crate::event::{Event, Pending};
 use crate::goal::{Goal, Top};
@@ -193,13 +193,14 @@ impl<P: Points> Engine<P> {
         }
     }
 
-    /// One move or, where no point is left, the next start: the event that is told, if there is one.
+    /// One move or, where no point is left, the next start: the event that is told, if there is one. Where memory is
+    /// refused the match goes on from where it is.
     fn advance(&mut self, patterns: &Patterns) -> Result<Option<Event>, AllocError>
         requires table { self.old.nodes ≡ patterns.now }
         requires going { self.old.waits ≡ false }
         requires on { self.old.ended ≡ false }
         ensures ok { IfOk result (λ told. Advances self.old told self.new) }
-        ensures err { OnErr result (self.new ≡ self.old) }
+        ensures err { OnErr result (GoesOn self.old self.new) }
         ensures counts { IsCounted self.new }
     {
         if let Top::Empty = self.points.top() {

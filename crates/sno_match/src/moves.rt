@@ -6,7 +6,7 @@ ghost use Rattle.sno_match.specs.Top.{IsTop};
 ghost use Rattle.sno_match.specs.inner.Remaining.{IsKnown, IsStack, HasPoint};
 ghost use Rattle.sno_match.specs.inner.State.{after_move, owed};
 ghost use Rattle.sno_match.specs.inner.Scopes.{HasCuts};
-ghost use Rattle.sno_match.specs.inner.Move.{Makes, HasStep, EnteredFails, answered};
+ghost use Rattle.sno_match.specs.inner.Move.{Makes, LeadsOn, HasStep, EnteredFails, answered};
 
 use crate::event::{Event, Pending};
 use crate::goal::{Goal, Mark, Top};
@@ -19,8 +19,8 @@ use sno_value::PatId;
 use std::alloc::AllocError;
 
 /// Does what is due at the newest point, and tells at most one event: a step is taken, or several where it enters a
-/// pattern's first parts. Where memory is refused nothing has changed. Where a step is due and none is left, the event
-/// is `Limit`.
+/// pattern's first parts. Where memory is refused none is told, and nothing has changed but that such steps may have
+/// been taken. Where a step is due and none is left, the event is `Limit`.
 pub(crate) fn make_move<P: Points>(
     points: &mut P,
     steps: &mut u32,
@@ -45,8 +45,10 @@ pub(crate) fn make_move<P: Points>(
         (P.points points.new) steps.new way.new.items) }
     ensures records { IfOk result (λ told. P.records points.new + 2 * steps.old + owed (after_move told)
         ≤ P.records points.old + 2 * steps.new) }
-    ensures err { OnErr result ((P.points points.new ≡ P.points points.old)
-        × (P.records points.new ≡ P.records points.old) × (steps.new ≡ steps.old) × (way.new.items ≡ way.old.items)) }
+    ensures err { OnErr result (LeadsOn patterns.now subject.now limit (P.points points.old) steps.old
+        (P.points points.new) steps.new) }
+    ensures few { OnErr result (P.records points.new + 2 * steps.old ≤ P.records points.old + 2 * steps.new) }
+    ensures way { OnErr result (way.new.items ≡ way.old.items) }
 {
     match points.top() {
         Top::Empty => unreachable!(),
@@ -77,8 +79,7 @@ pub(crate) fn make_move<P: Points>(
     }
 }
 
-/// Takes the step that is due at the newest point, and before it those that enter its pattern's first parts. Where
-/// memory is refused behind such a step, the next move asks for it again.
+/// Takes the step that is due at the newest point, and before it those that enter its pattern's first parts.
 #[inline(always)]
 fn make_step<P: Points>(
     points: &mut P,
@@ -106,11 +107,11 @@ fn make_step<P: Points>(
         (P.points points.new) steps.new way) }
     ensures records { IfOk result (λ told. P.records points.new + 2 * steps.old + owed (after_move told)
         ≤ P.records points.old + 2 * steps.new) }
-    ensures err { OnErr result ((P.points points.new ≡ P.points points.old)
-        × (P.records points.new ≡ P.records points.old) × (steps.new ≡ steps.old)) }
+    ensures err { OnErr result (LeadsOn patterns.now subject.now limit (P.points points.old) steps.old
+        (P.points points.new) steps.new) }
+    ensures few { OnErr result (P.records points.new + 2 * steps.old ≤ P.records points.old + 2 * steps.new) }
 {
-    let before = *steps;
-    let first = first_goal(points, steps, patterns, goal, cursor, mark, limit);
+    let first = first_goal(points, steps, patterns, goal, cursor, mark, limit)?;
     let left = limit - *steps;
     if let Some(vain) = lone_choice_in_vain(points, patterns, subject, first, cursor, mark, left) {
         points.pop();
@@ -118,7 +119,7 @@ fn make_step<P: Points>(
         return Ok(None);
     }
     let mut told = None;
-    if let Err(refused) = take_step(
+    take_step(
         points,
         &mut told,
         patterns,
@@ -128,12 +129,7 @@ fn make_step<P: Points>(
         cursor,
         mark,
         left - 1,
-    ) {
-        if *steps == before {
-            return Err(refused);
-        }
-        return Ok(None);
-    }
+    )?;
     *steps += 1;
     Ok(told)
 }

@@ -1,5 +1,5 @@
 //! The first parts of a pattern, entered one in another.
-ghost use Rattle.std.specs.Prelude.{◌≡◌, ℕ, List, ◌<◌, ◌≤◌, ◌+◌, ◌-◌, ◌*◌, length, IfSome};
+ghost use Rattle.std.specs.Prelude.{◌≡◌, ℕ, List, ◌<◌, ◌≤◌, ◌+◌, ◌-◌, ◌*◌, length, IfOk, IfSome};
 ghost use Rattle.sno_match.specs.Top.{IsTop};
 ghost use Rattle.sno_match.specs.inner.Remaining.{IsStack, IsKnown};
 ghost use Rattle.sno_match.specs.inner.Scopes.{HasCuts};
@@ -9,6 +9,7 @@ use crate::goal::{Goal, Mark, Top};
 use crate::points::Points;
 use sno_pattern::{Patterns, Shape};
 use sno_value::PatId;
+use std::alloc::AllocError;
 
 /// The first part of a pattern, and the goal behind it.
 #[derive(Clone, Copy, Drop)]
@@ -18,7 +19,7 @@ struct Parts {
 }
 
 /// The first goal of the newest point behind the steps that enter its pattern's first parts, which need no look at the
-/// point again. A step is left for it.
+/// point again. A step is left for it. Where memory is refused some of these steps are taken.
 #[inline(always)]
 pub(crate) fn first_goal<P: Points>(
     points: &mut P,
@@ -28,34 +29,33 @@ pub(crate) fn first_goal<P: Points>(
     cursor: usize,
     mark: Mark,
     limit: u32,
-) -> Goal
+) -> Result<Goal, AllocError>
     requires known { IsKnown patterns.now goal }
     requires small { cursor ≤ 4294967295 }
     requires due { HasStep patterns.now goal mark }
     requires top { IsTop (P.points points.old) (Top.Open goal cursor mark) }
     requires room { steps.old < limit }
-    ensures known { IsKnown patterns.now result }
-    ensures due { HasStep patterns.now result mark }
-    ensures top { IsTop (P.points points.new) (Top.Open result cursor mark) }
+    ensures known { IfOk result (λ first. IsKnown patterns.now first) }
+    ensures due { IfOk result (λ first. HasStep patterns.now first mark) }
+    ensures top { IfOk result (λ first. IsTop (P.points points.new) (Top.Open first cursor mark)) }
     ensures room { steps.new < limit }
     ensures leads { (s : List ℕ) → IsStack patterns.now s (P.points points.old)
         → HasCuts patterns.now (limit - steps.old) (P.points points.old)
         → LeadsOn patterns.now s limit (P.points points.old) steps.old (P.points points.new) steps.new }
     ensures records { P.records points.new + 2 * steps.old ≤ P.records points.old + 2 * steps.new }
-    ensures none { steps.new ≡ steps.old → (P.points points.new ≡ P.points points.old)
-        × (P.records points.new ≡ P.records points.old) }
 {
     let Mark::Enter = mark else {
-        return goal;
+        return Ok(goal);
     };
     let Goal::Match(id) = goal else {
-        return goal;
+        return Ok(goal);
     };
-    Goal::Match(enter_parts(points, steps, patterns, id, cursor, limit))
+    let first = enter_parts(points, steps, patterns, id, cursor, limit)?;
+    Ok(Goal::Match(first))
 }
 
-/// Enters a pattern's first part, and that one's, as far as there are such parts, and steps and memory for them: the
-/// pattern that is then the first goal.
+/// Enters a pattern's first part, and that one's, as far as there are such parts and steps for them: the pattern that is
+/// then the first goal. Where memory is refused the parts before are entered.
 #[inline(always)]
 fn enter_parts<P: Points>(
     points: &mut P,
@@ -64,33 +64,29 @@ fn enter_parts<P: Points>(
     id: PatId,
     cursor: usize,
     limit: u32,
-) -> PatId
+) -> Result<PatId, AllocError>
     requires known { id.0 < length patterns.now }
     requires small { cursor ≤ 4294967295 }
     requires top { IsTop (P.points points.old) (Top.Open (Goal.Match id) cursor Mark.Enter) }
     requires room { steps.old < limit }
-    ensures known { result.0 < length patterns.now }
-    ensures top { IsTop (P.points points.new) (Top.Open (Goal.Match result) cursor Mark.Enter) }
+    ensures known { IfOk result (λ first. first.0 < length patterns.now) }
+    ensures top { IfOk result (λ first. IsTop (P.points points.new) (Top.Open (Goal.Match first) cursor Mark.Enter)) }
     ensures room { steps.new < limit }
     ensures leads { (s : List ℕ) → IsStack patterns.now s (P.points points.old)
         → HasCuts patterns.now (limit - steps.old) (P.points points.old)
         → LeadsOn patterns.now s limit (P.points points.old) steps.old (P.points points.new) steps.new }
     ensures records { P.records points.new + 2 * steps.old ≤ P.records points.old + 2 * steps.new }
-    ensures none { steps.new ≡ steps.old → (P.points points.new ≡ P.points points.old)
-        × (P.records points.new ≡ P.records points.old) }
 {
     let mut id = id;
     'parts: while limit - *steps > 1 {
         let Some(parts) = parts_of(patterns, id, cursor) else {
-            return id;
+            return Ok(id);
         };
-        if let Err(_refused) = points.replace(&[Goal::Match(parts.first), parts.second], cursor) {
-            return id;
-        }
+        points.replace(&[Goal::Match(parts.first), parts.second], cursor)?;
         id = parts.first;
         *steps += 1;
     }
-    id
+    Ok(id)
 }
 
 /// A pattern's first part and the goal behind it, where the pattern's step is to put them in its place.

@@ -1,4 +1,4 @@
-use Rattle.std.proofs.Common.{◌≡◌, ◌<◌, ◌≤◌, ◌+◌, ◌-◌, ◌*◌, ℕ, List, length}
+use Rattle.std.proofs.Common.{◌<◌, ◌≤◌, ◌+◌, ◌-◌, ◌*◌, ℕ, List, length}
 use Rattle.sno_match.specs.declared.goal.Goal.TheVariants as N
 use Rattle.sno_match.specs.declared.goal.Mark.TheVariants.{Enter}
 use Rattle.sno_match.specs.declared.goal.Top.TheVariants as T
@@ -14,13 +14,10 @@ invariant-parts g l = record {
   known : l.id.0 < length l.patterns;
   top : IsTop (g.P.Points.points l.points) (T.Open (N.Match l.id) l.cursor Enter);
   room : l.steps < l.limit;
-  paid : l.initial.steps ≤ l.steps;
   leads : (s : List ℕ) → IsStack l.patterns s (g.P.Points.points l.initial.points)
       → HasCuts l.patterns (l.limit - l.initial.steps) (g.P.Points.points l.initial.points)
       → LeadsOn l.patterns s l.limit (g.P.Points.points l.initial.points) l.initial.steps (g.P.Points.points l.points) l.steps;
   records : g.P.Points.records l.points + 2 * l.initial.steps ≤ g.P.Points.records l.initial.points + 2 * l.steps;
-  none : l.steps ≡ l.initial.steps → (g.P.Points.points l.points ≡ g.P.Points.points l.initial.points)
-      × (g.P.Points.records l.points ≡ g.P.Points.records l.initial.points);
 }
 
 abbrev pub decreases-parts : goal.decreases-parts

@@ -69,7 +69,7 @@ returns-in_err-event-clause-same g c =
     (g.P.Points.points c.self.inside.points) (g.P.Points.records c.self.inside.points) c.self.inside.start c.self.view_is c.self.invariant.0
     c.of-self-inside.result.value c.args.patterns.now c.of-self-inside.ensures c.requires.table in
     let goes = c.loop-event.invariant in
-    rw c.in_err-event.ensures.err (laws.same_then _ _ _ same goes.same)
+    laws.same_then _ _ _ (laws.same_then _ _ _ same goes.same) c.in_err-event.ensures.err.same
 
 pub returns-in_err-event-clause-err : goal.returns-in_err-event-clause-err
 returns-in_err-event-clause-err g c =
@@ -81,7 +81,7 @@ returns-in_err-event-clause-err g c =
     let goes = c.loop-event.invariant in
     let far = laws.stays_then _ _ _ stays goes.stays in
     let p = err_from_is_err_and c.from_residual.result c.from_residual.ensures.1 in
-    rw (p.1, c.in_err-event.ensures.err) far
+    rw p.1 (laws.stays_then _ _ _ far c.in_err-event.ensures.err.stays)
 
 pub returns-in_err-event-clause-again : goal.returns-in_err-event-clause-again
 returns-in_err-event-clause-again g c =
