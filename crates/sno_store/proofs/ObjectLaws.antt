@@ -1,5 +1,6 @@
 -- The list of objects, beside the list that is kept.
-use Rattle.std.proofs.Common.{◌≡◌, ℕ, zero, suc, ◌+◌, ◌<◌, ◌≤◌, ◌==◌, ◌⊎◌, inl, inr, Bool, true, false, if◌then◌else◌, List, [], ◌∷◌, ◌++◌, drop, length, map, set, get_or}
+use Rattle.std.proofs.Common.{◌≡◌, ℕ, zero, suc, ◌+◌, ◌<◌, ◌≤◌, ◌==◌, ◌⊎◌, inl, inr, Bool, true, false, if◌then◌else◌}
+use Rattle.std.proofs.Common.{List, [], ◌∷◌, ◌++◌, drop, length, map, set, get_or}
 use Rattle.std.proofs.Common.{slice_get}
 use Rattle.std.proofs.Common.{option_map, unwrap_or, Option, None, Some, Result, Ok, Err, IsErrAnd, refl, sym, ap, subst, ◌∙◌, arith}
 use Rattle.std.proofs.lemmas.Option.{unwrap_or-slice_get, slice_get-map, slice_get-get_or}
@@ -65,7 +66,8 @@ pub field_next : (null : Value) (n m : ℕ) (values : List Value) (i : ℕ) → 
     ≡ get_or values i null ∷ field_values null m (drop (i + 1) values)
 field_next null n m values i one = ap (λ k. field_values null k (drop i values)) one ∙ by (cases_lt i (length values))
   where
-    by : (i < length values) ⊎ (length values ≤ i) → field_values null (suc m) (drop i values) ≡ get_or values i null ∷ field_values null m (drop (i + 1) values)
+    by : (i < length values) ⊎ (length values ≤ i)
+        → field_values null (suc m) (drop i values) ≡ get_or values i null ∷ field_values null m (drop (i + 1) values)
     by (inl within) = ap (field_values null (suc m)) (drop_more values i null within)
     by (inr past) =
         ap (field_values null (suc m)) (drop_all i values past)

@@ -140,7 +140,8 @@ returns-in_err-told-2-clause-err g c =
     c.requires.going c.requires.on
     c.args.patterns.now c.deref.result.now c.requires.table c.deref.ensures.value c.make_move.new.steps
     (g.P.Points.points c.make_move.new.points) (g.P.Points.records c.make_move.new.points) c.in_err-told-2.ensures.few c.in_err-told-2.ensures.err in
-    rw (p.1, c.in_err-told-2.ensures.way) (laws.stays_all c.args.self.now c.self.inside.lent.value c.self.inside.pattern c.self.inside.subject.items c.self.inside.anchored
+    rw (p.1, c.in_err-told-2.ensures.way) (laws.stays_all c.args.self.now c.self.inside.lent.value c.self.inside.pattern
+    c.self.inside.subject.items c.self.inside.anchored
     c.self.inside.limit c.self.inside.answers.items c.self.inside.told c.self.inside.steps c.self.inside.state c.self.inside.way.items
     (g.P.Points.points c.self.inside.points) (g.P.Points.records c.self.inside.points) c.self.inside.start c.self.view_is c.self.invariant.0
     c.requires.going c.requires.on
@@ -155,7 +156,8 @@ returns-in_err-told-2-clause-counts g c =
     c.requires.going c.requires.on
     c.args.patterns.now c.deref.result.now c.requires.table c.deref.ensures.value c.make_move.new.steps
     (g.P.Points.points c.make_move.new.points) (g.P.Points.records c.make_move.new.points) c.in_err-told-2.ensures.few c.in_err-told-2.ensures.err in
-    rw c.in_err-told-2.ensures.way (laws.stays_all c.args.self.now c.self.inside.lent.value c.self.inside.pattern c.self.inside.subject.items c.self.inside.anchored
+    rw c.in_err-told-2.ensures.way (laws.stays_all c.args.self.now c.self.inside.lent.value c.self.inside.pattern
+    c.self.inside.subject.items c.self.inside.anchored
     c.self.inside.limit c.self.inside.answers.items c.self.inside.told c.self.inside.steps c.self.inside.state c.self.inside.way.items
     (g.P.Points.points c.self.inside.points) (g.P.Points.records c.self.inside.points) c.self.inside.start c.self.view_is c.self.invariant.0
     c.requires.going c.requires.on
