@@ -1,9 +1,9 @@
 //! Expressions and matches that a machine is asked for, call after call.
-ghost use Rattle.std.specs.Prelude.{◌≡◌, ◌≤◌, None, length};
+ghost use Rattle.std.specs.Prelude.{◌≡◌, ◌≤◌, ◌<◌, None, length, IfOk, IfSome};
 ghost use Rattle.snobol.specs.Running.{CanRun, devices};
 
 use super::rows::{Question, check_rows};
-use sno_text::read_expression;
+use sno_text::{Program, read_expression};
 use sno_value::{ExprId, PatId};
 use snobol::{Device, Limits, Machine, Outcome, Sink, Source};
 use std::alloc::Global;
@@ -26,6 +26,43 @@ fn error(code: u8) -> Outcome {
     Outcome::Error { code, statement: 0 }
 }
 
+/// The pattern of an expression. Of what `pattern` ensures this says no more than that a test may go on.
+fn pattern<R: Source, W: Sink>(
+    machine: &mut Machine<'_>,
+    reader: &mut R,
+    writer: &mut W,
+    expression: ExprId,
+) -> Result<Option<PatId>, Outcome>
+    requires ready { machine.old.stopped ≡ None
+        → CanRun machine.old.state (devices (R.feed reader.old) (W.drain writer.old)) }
+    ensures ready { machine.new.stopped ≡ None
+        → CanRun machine.new.state (devices (R.feed reader.new) (W.drain writer.new)) }
+    ensures nodes { length machine.old.state.nodes ≤ length machine.new.state.nodes }
+    ensures pattern { IfOk result (λ answer. IfSome answer (λ id. id.0 < length machine.new.state.nodes)) }
+{
+    let answer = machine.pattern(reader, writer, expression);
+    answer
+}
+
+/// Where a pattern first matches. Of what `match_first` ensures this says no more than that a test may go on.
+fn match_first<R: Source, W: Sink>(
+    machine: &mut Machine<'_>,
+    reader: &mut R,
+    writer: &mut W,
+    pattern: PatId,
+    subject: &[u8],
+) -> Found
+    requires pattern { pattern.0 < length machine.old.state.nodes }
+    requires subject { length subject.now ≤ 1_000_000 }
+    requires ready { machine.old.stopped ≡ None
+        → CanRun machine.old.state (devices (R.feed reader.old) (W.drain writer.old)) }
+    ensures ready { machine.new.stopped ≡ None
+        → CanRun machine.new.state (devices (R.feed reader.new) (W.drain writer.new)) }
+{
+    let found = machine.match_first(reader, writer, pattern, subject);
+    found
+}
+
 /// Where the pattern that an expression gives first matches.
 fn find<R: Source, W: Sink>(
     machine: &mut Machine<'_>,
@@ -40,8 +77,8 @@ fn find<R: Source, W: Sink>(
     ensures ready { machine.new.stopped ≡ None
         → CanRun machine.new.state (devices (R.feed reader.new) (W.drain writer.new)) }
 {
-    match machine.pattern(reader, writer, expression) {
-        Ok(Some(pattern)) => machine.match_first(reader, writer, pattern, subject),
+    match pattern(machine, reader, writer, expression) {
+        Ok(Some(pattern)) => match_first(machine, reader, writer, pattern, subject),
         Ok(None) => Ok(None),
         Err(outcome) => Err(outcome),
     }
@@ -64,11 +101,21 @@ impl Question for PatternNumbers {
 /// What a new machine answers for the pattern of an expression.
 fn pattern_of(alloc: Global, text: &[u8]) -> Result<Result<Option<PatId>, Outcome>, Fail> {
     let (program, expression) = read_expression(alloc, text)?;
+    let pattern = pattern_by_new(alloc, &program, expression);
+    Ok(pattern)
+}
+
+/// The same over a program that is lent.
+fn pattern_by_new(
+    alloc: Global,
+    program: &Program,
+    expression: ExprId,
+) -> Result<Option<PatId>, Outcome> {
+    let mut machine = Machine::new(alloc, program, LIMITS)?;
     let mut input = Device::new(b"".as_slice());
     let mut output = Device::new(Vec::new(alloc));
-    let mut machine = Machine::new(alloc, &program, LIMITS)?;
-    let pattern = machine.pattern(&mut input, &mut output, expression);
-    Ok(pattern)
+    let answer = pattern(&mut machine, &mut input, &mut output, expression);
+    answer
 }
 
 /// `PATTERN ; SUBJECT ; SUBJECT`: what is found of an expression's pattern in a first and in a second subject, where
@@ -106,9 +153,24 @@ fn found_in_both(
     requires second { length second.now ≤ 1_000_000 }
 {
     let (program, expression) = read_expression(alloc, pattern)?;
+    let found = found_by_new(alloc, &program, expression, first, second)?;
+    Ok(found)
+}
+
+/// The same over a program that is lent.
+fn found_by_new(
+    alloc: Global,
+    program: &Program,
+    expression: ExprId,
+    first: &[u8],
+    second: &[u8],
+) -> Result<(Found, Found, Vec<u8>), Outcome>
+    requires first { length first.now ≤ 1_000_000 }
+    requires second { length second.now ≤ 1_000_000 }
+{
+    let mut machine = Machine::new(alloc, program, LIMITS)?;
     let mut input = Device::new(b"A\nB".as_slice());
     let mut output = Device::new(Vec::new(alloc));
-    let mut machine = Machine::new(alloc, &program, LIMITS)?;
     let first = find(&mut machine, &mut input, &mut output, expression, first);
     let second = find(&mut machine, &mut input, &mut output, expression, second);
     Ok((first, second, output.into_inner()))
@@ -166,22 +228,55 @@ fn stops(rt: HostRuntime) -> Result<(), Fail> {
     check_rows::<Finds, _>(&rt, STOPS)
 }
 
+/// What a machine answers behind an error: for the expression whose pattern is the error, and for a match.
+type Refused = (Result<Option<PatId>, Outcome>, Found);
+
+/// Asks for the pattern of a part, and then for that of the whole, which is an error, and for a match of the part.
+fn asked_behind_error<R: Source, W: Sink>(
+    machine: &mut Machine<'_>,
+    reader: &mut R,
+    writer: &mut W,
+    part: ExprId,
+    whole: ExprId,
+) -> Option<Refused>
+    requires ready { machine.old.stopped ≡ None
+        → CanRun machine.old.state (devices (R.feed reader.old) (W.drain writer.old)) }
+{
+    let Ok(Some(id)) = pattern(machine, reader, writer, part) else {
+        return None;
+    };
+    let refused = pattern(machine, reader, writer, whole);
+    let again = match_first(machine, reader, writer, id, b"A");
+    Some((refused, again))
+}
+
+/// What a new machine answers behind an error, and what it has written then; None where the part has no pattern.
+fn refused_by_new(
+    alloc: Global,
+    program: &Program,
+    whole: ExprId,
+) -> Result<(Option<Refused>, Vec<u8>), Outcome> {
+    // The first four expressions are 1, LEN(1), OUTPUT and LEN(1) $ OUTPUT.
+    let part = ExprId(3);
+    let mut machine = Machine::new(alloc, program, LIMITS)?;
+    let mut input = Device::new(b"".as_slice());
+    let mut output = Device::new(Vec::new(alloc));
+    let refused = asked_behind_error(&mut machine, &mut input, &mut output, part, whole);
+    Ok((refused, output.into_inner()))
+}
+
+/// What is refused behind the error of LEN(-1), and what is written then.
+fn refused_behind_error(alloc: Global) -> Result<(Option<Refused>, Vec<u8>), Fail> {
+    let (program, whole) = read_expression(alloc, b"LEN(1) $ OUTPUT | LEN(-1)")?;
+    let refused = refused_by_new(alloc, &program, whole)?;
+    Ok(refused)
+}
+
 /// Each later call answers the error, whatever it asks, and writes nothing.
 #[test]
 fn errors_stay(rt: HostRuntime) -> Result<(), Fail> {
-    let alloc = rt.alloc();
-    let (program, whole) = read_expression(alloc, b"LEN(1) $ OUTPUT | LEN(-1)")?;
-    // The first four expressions are 1, LEN(1), OUTPUT and LEN(1) $ OUTPUT.
-    let part = ExprId(3);
-    let mut input = Device::new(b"".as_slice());
-    let mut output = Device::new(Vec::new(alloc));
-    let mut machine = Machine::new(alloc, &program, LIMITS)?;
-    let Some(pattern) = machine.pattern(&mut input, &mut output, part)? else {
-        return Err(Fail::from("no pattern"));
-    };
-    let refused = machine.pattern(&mut input, &mut output, whole);
-    let again = machine.match_first(&mut input, &mut output, pattern, b"A");
-    assert_eq!(rt; (refused, again), (Err(error(7)), Err(error(7))));
-    assert!(rt; output.into_inner().is_empty());
+    let (refused, written) = refused_behind_error(rt.alloc())?;
+    assert_eq!(rt; refused, Some((Err(error(7)), Err(error(7)))));
+    assert!(rt; written.is_empty());
     Ok(())
 }

@@ -81,12 +81,23 @@ impl Question for Forms {
     fn answer(alloc: Global, text: &[u8]) -> Result<String, Fail> {
         let (form, values) = from_utf8(text)?.split_once(" ").unwrap_or_default();
         let (x, y) = values.split_once(" ").unwrap_or((values, ""));
-        let mut runtime = new_runtime(alloc)?;
-        let given = given(&mut runtime, form, value_named(x), value_named(y));
+        let (given, patterns) = given_by_new(alloc, form, x, y)?;
         let given = given_text(alloc, given)?;
-        let patterns = runtime.patterns().len();
         Ok(format!(in alloc; "{given}, {patterns} patterns")?)
     }
+}
+
+/// What a form or a function gives of two values in a new runtime, and how many patterns there are then.
+fn given_by_new(
+    alloc: Global,
+    form: &str,
+    x: &str,
+    y: &str,
+) -> Result<(Result<Value, Exit>, u32), AllocError> {
+    let mut runtime = new_runtime(alloc)?;
+    let given = given(&mut runtime, form, value_named(x), value_named(y));
+    let patterns = runtime.patterns().len();
+    Ok((given, patterns))
 }
 
 /// The types are judged before a pattern is made.
@@ -204,13 +215,18 @@ struct Outputs;
 
 impl Question for Outputs {
     fn answer(alloc: Global, text: &[u8]) -> Result<String, Fail> {
-        let mut runtime = new_runtime(alloc)?;
-        let mut output = Device::new(Vec::new(alloc));
-        let value = value_named(from_utf8(text)?);
-        let ending = assign(&mut runtime, OUTPUT, value, &mut output);
-        let written = output.into_inner();
+        let (ending, written) = assigned_by_new(alloc, from_utf8(text)?)?;
         Ok(format!(in alloc; "{}{ending:?}", from_utf8(&written)?)?)
     }
+}
+
+/// How it ends that a new runtime gives OUTPUT a value, and what is written then.
+fn assigned_by_new(alloc: Global, word: &str) -> Result<(Result<(), Stop>, Vec<u8>), AllocError> {
+    let mut runtime = new_runtime(alloc)?;
+    let mut output = Device::new(Vec::new(alloc));
+    let value = value_named(word);
+    let ending = assign(&mut runtime, OUTPUT, value, &mut output);
+    Ok((ending, output.into_inner()))
 }
 
 /// A value without a text is error 1.

@@ -1,4 +1,4 @@
-use Rattle.test_language.proofs.tests.runtime.FormsQuestion.answer.Goals as goal
+use Rattle.test_language.proofs.tests.runtime.given_by_new.Goals as goal
 
 pub given-given-requires-clause-x : goal.given-given-requires-clause-x
 given-given-requires-clause-x c = c.value_named.ensures c.in_ok-runtime.runtime.nodes
