@@ -137,8 +137,8 @@ fn save_one(symbol: SymId, values: &mut Vec<Value>, saved: &mut Vec<(SymId, Valu
     }
 }
 
-/// Formals are given arguments from left to right, which are moved out of their places: missing ones are null, and extra
-/// ones stay.
+/// Formals are given arguments from left to right, which are moved out of their places: missing ones are null, and
+/// extra ones stay.
 #[inline(always)]
 fn give(formals: &[SymId], arguments: &mut [Value], values: &mut Vec<Value>)
     ensures { values.new.items ≡ with_arguments (Str []) (map (λ id. id.0) formals.now)
