@@ -22,7 +22,8 @@ begun_behind function d xs a b c r same has did =
 pub returns-in_err-entry : goal.returns-in_err-entry
 returns-in_err-entry g t c =
     let p = err_from_is_err_and c.from_residual.result c.from_residual.ensures.1 in
-    rw (p.1, p.2, c.in_err-entry.ensures.same) (call_refused c.args.code.now c.args.function.0 (map (shown c.args.runtime.now.nodes) c.args.arguments.now) c.args.runtime.now
+    rw (p.1, p.2, c.in_err-entry.ensures.same) (call_refused c.args.code.now c.args.function.0
+    (map (shown c.args.runtime.now.nodes) c.args.arguments.now) c.args.runtime.now
     (devices (g.R.Source.feed c.args.reader.now) (g.W.Sink.drain c.args.writer.now))
     c.in_err-entry.field-0.0 c.requires.ready c.requires.level c.in_err-entry.ensures.refused)
 
