@@ -54,8 +54,8 @@ pub(crate) fn first_goal<P: Points>(
     Ok(Goal::Match(first))
 }
 
-/// Enters a pattern's first part, and that one's, as far as there are such parts and steps for them: the pattern that is
-/// then the first goal. Where memory is refused the parts before are entered.
+/// Enters a pattern's first part, and that one's, as far as there are such parts and steps for them: the pattern that
+/// is then the first goal. Where memory is refused the parts before are entered.
 #[inline(always)]
 fn enter_parts<P: Points>(
     points: &mut P,
