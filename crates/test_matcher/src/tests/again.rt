@@ -3,10 +3,10 @@ ghost use Rattle.std.specs.Prelude.{◌≡◌, ◌<◌, false, length, OnOk};
 
 use super::drawing::drawn_events;
 use super::driver::{begin, begin_again, events_of};
-use super::forms::{Form, table_of};
+use super::forms::table_of;
 use super::generated::{Chance, SUBJECTS, check_same};
 use super::matches::{Search, search_of};
-use super::notation::table_of_words;
+use super::notation::forms_of;
 use super::reference::search_events;
 use super::rows::{Question, check_rows, parts};
 use sno_match::{CopiedGoals, Engine, Points, SharedGoals};
@@ -41,35 +41,11 @@ fn told_behind<P: Points>(
 ) -> Result<String, Fail> {
     let answers = [Some(PatId(0))];
     let mut m = left_match::<P>(alloc, before, &answers)?;
-    let text = told_again(alloc, &mut m, search_of(after)?, &answers)?;
-    Ok(text)
-}
-
-/// The events of a search by a match that begins again.
-fn told_again<P: Points>(
-    alloc: Global,
-    m: &mut Engine<P>,
-    s: Search,
-    answers: &[Option<PatId>],
-) -> Result<String, Fail> {
-    let (table, pattern) = table_of_words(alloc, s.words)?;
-    let text = drawn_again(alloc, m, &table, pattern, s, answers)?;
-    Ok(text)
-}
-
-/// The same over a table that is lent.
-fn drawn_again<P: Points>(
-    alloc: Global,
-    m: &mut Engine<P>,
-    table: &Patterns,
-    pattern: PatId,
-    s: Search,
-    answers: &[Option<PatId>],
-) -> Result<String, AllocError>
-    requires { pattern.0 < length table.now }
-{
-    begin_search(m, table, pattern, s)?;
-    let told = events_of(alloc, m, table, answers, 100)?;
+    let s = search_of(after)?;
+    let forms = forms_of(alloc, s.words)?;
+    let (table, pattern) = table_of(alloc, &forms)?;
+    begin_search(&mut m, &table, pattern, s)?;
+    let told = events_of(alloc, &mut m, &table, &answers, 100)?;
     let text = drawn_events(alloc, &told)?;
     Ok(text)
 }
@@ -81,42 +57,12 @@ fn left_match<P: Points>(
     answers: &[Option<PatId>],
 ) -> Result<Engine<P>, Fail> {
     let (count, search) = parts(text, " of ")?;
-    let count: usize = count.parse()?;
     let s = search_of(search)?;
-    let (table, pattern) = table_of_words(alloc, s.words)?;
-    let m = match_behind::<P>(alloc, &table, pattern, s, answers, count)?;
+    let forms = forms_of(alloc, s.words)?;
+    let (table, pattern) = table_of(alloc, &forms)?;
+    let mut m = begin::<P>(alloc, &table, pattern, s.subject, s.anchored, s.limit)?;
+    let _told = events_of(alloc, &mut m, &table, answers, count.parse()?)?;
     Ok(m)
-}
-
-/// A match over a table that is lent, behind so many events.
-fn match_behind<P: Points>(
-    alloc: Global,
-    table: &Patterns,
-    pattern: PatId,
-    s: Search,
-    answers: &[Option<PatId>],
-    count: usize,
-) -> Result<Engine<P>, AllocError>
-    requires { pattern.0 < length table.now }
-{
-    let mut m = begin::<P>(alloc, table, pattern, s.subject, s.anchored, s.limit)?;
-    pass(alloc, &mut m, table, answers, count)?;
-    Ok(m)
-}
-
-/// Passes so many events.
-fn pass<P: Points>(
-    alloc: Global,
-    m: &mut Engine<P>,
-    table: &Patterns,
-    answers: &[Option<PatId>],
-    count: usize,
-) -> Result<(), AllocError>
-    requires table { m.old.nodes ≡ table.now }
-    requires asked { m.old.waits ≡ false }
-{
-    let _told = events_of(alloc, m, table, answers, count)?;
-    Ok(())
 }
 
 fn begin_search<P: Points>(
@@ -166,69 +112,22 @@ fn compare<P: Points>(
 ) -> Result<usize, Fail> {
     let forms = chance.forms(alloc)?;
     let answers = chance.answers(alloc, forms.len())?;
+    let (table, pattern) = table_of(alloc, &forms)?;
     let s = Search {
         words: "",
         subject: chance.among(&SUBJECTS),
         anchored: chance.below(2) == 0,
         limit: chance.below(90) as u32,
     };
-    let events = compare_forms(rt, alloc, m, &forms, s, &answers, chance.below(8))?;
-    Ok(events)
-}
-
-/// The same of the last of some forms, where so many events are left to pass.
-fn compare_forms<P: Points>(
-    rt: &impl Abort,
-    alloc: Global,
-    m: &mut Engine<P>,
-    forms: &[Form],
-    s: Search,
-    answers: &[Option<PatId>],
-    left: usize,
-) -> Result<usize, Fail> {
-    let (table, pattern) = table_of(alloc, forms)?;
-    let events = compare_told(rt, alloc, m, &table, pattern, s, answers, forms)?;
-    leave(alloc, m, &table, pattern, s, answers, left)?;
-    Ok(events)
-}
-
-/// Compares what a match that begins again and the plain search tell, and gives the number of events.
-fn compare_told<P: Points>(
-    rt: &impl Abort,
-    alloc: Global,
-    m: &mut Engine<P>,
-    table: &Patterns,
-    pattern: PatId,
-    s: Search,
-    answers: &[Option<PatId>],
-    forms: &[Form],
-) -> Result<usize, AllocError>
-    requires { pattern.0 < length table.now }
-{
-    begin_search(m, table, pattern, s)?;
-    let told = events_of(alloc, m, table, answers, 100_000)?;
+    begin_search(m, &table, pattern, s)?;
+    let told = events_of(alloc, m, &table, &answers, 100_000)?;
     let want = search_events(
-        alloc, forms, pattern, s.subject, s.anchored, s.limit, answers,
+        alloc, &forms, pattern, s.subject, s.anchored, s.limit, &answers,
     )?;
     check_same(rt, &told, &want);
+    begin_search(m, &table, pattern, s)?;
+    let _told = events_of(alloc, m, &table, &answers, chance.below(8))?;
     Ok(want.len())
-}
-
-/// Begins again, and leaves the match behind so many events.
-fn leave<P: Points>(
-    alloc: Global,
-    m: &mut Engine<P>,
-    table: &Patterns,
-    pattern: PatId,
-    s: Search,
-    answers: &[Option<PatId>],
-    left: usize,
-) -> Result<(), AllocError>
-    requires { pattern.0 < length table.now }
-{
-    begin_search(m, table, pattern, s)?;
-    pass(alloc, m, table, answers, left)?;
-    Ok(())
 }
 
 /// Begins one match over a stack of this type again and again, and gives the number of events.

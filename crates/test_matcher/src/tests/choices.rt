@@ -1,12 +1,13 @@
 //! Choices whose first bytes are known: starts and cursors at which each of their sides fails are passed, with their
 //! steps.
-use super::driver::Told;
-use super::forms::{Form, table_of};
-use super::generated::{Bounds, check_stacks, check_told, wanted};
+use super::driver::all_events;
+use super::forms::table_of;
+use super::generated::check_same;
 use super::matches::Matches;
-use super::notation::{forms_of, table_of_words};
+use super::notation::forms_of;
+use super::reference::search_events;
 use super::rows::check_rows;
-use sno_match::SharedGoals;
+use sno_match::{CopiedGoals, SharedGoals};
 use std::alloc::Global;
 use std::process::Abort;
 use std::test::Fail;
@@ -107,39 +108,17 @@ fn compare(
     anchored: bool,
     limit: u32,
 ) -> Result<(), Fail> {
-    let bounds = Bounds {
-        subject,
-        anchored,
-        limit,
-    };
     let forms = forms_of(alloc, words.0)?;
-    compare_pair(rt, alloc, &forms, words.1, bounds)
-}
-
-/// The same of these forms and of other words.
-fn compare_pair(
-    rt: &impl Abort,
-    alloc: Global,
-    forms: &[Form],
-    others: &'static str,
-    bounds: Bounds<'_>,
-) -> Result<(), Fail> {
-    let (table, pattern) = table_of(alloc, forms)?;
-    let want = wanted(alloc, forms, pattern, bounds, &[])?;
-    check_stacks(rt, alloc, &table, pattern, bounds, &[], &want)?;
-    check_other(rt, alloc, others, bounds, &want)
-}
-
-/// Compares what the matcher tells of another pattern with what is wanted.
-fn check_other(
-    rt: &impl Abort,
-    alloc: Global,
-    words: &'static str,
-    bounds: Bounds<'_>,
-    want: &[Told],
-) -> Result<(), Fail> {
-    let (table, pattern) = table_of_words(alloc, words)?;
-    check_told::<SharedGoals>(rt, alloc, &table, pattern, bounds, &[], want)?;
+    let (table, pattern) = table_of(alloc, &forms)?;
+    let told = all_events::<SharedGoals>(alloc, &table, pattern, subject, anchored, limit, &[])?;
+    let copied = all_events::<CopiedGoals>(alloc, &table, pattern, subject, anchored, limit, &[])?;
+    let want = search_events(alloc, &forms, pattern, subject, anchored, limit, &[])?;
+    check_same(rt, &told, &want);
+    check_same(rt, &copied, &want);
+    let forms = forms_of(alloc, words.1)?;
+    let (table, pattern) = table_of(alloc, &forms)?;
+    let others = all_events::<SharedGoals>(alloc, &table, pattern, subject, anchored, limit, &[])?;
+    check_same(rt, &told, &others);
     Ok(())
 }
 

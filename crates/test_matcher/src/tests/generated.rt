@@ -1,11 +1,10 @@
 //! The engine beside the plain search, over generated patterns.
-ghost use Rattle.std.specs.Prelude.{◌<◌, length};
+ghost use Rattle.std.specs.Prelude.{◌<◌};
 
 use super::driver::{Told, all_events};
 use super::forms::{Form, table_of};
 use super::reference::search_events;
-use sno_match::{CopiedGoals, Points, SharedGoals};
-use sno_pattern::Patterns;
+use sno_match::{CopiedGoals, SharedGoals};
 use sno_value::{ExprId, PatId, Prim};
 use std::alloc::{AllocError, Global};
 use std::process::Abort;
@@ -143,120 +142,25 @@ pub fn check_same(rt: &impl Abort, got: &[Told], want: &[Told]) {
     }
 }
 
-/// Where and how long a search goes.
-#[derive(Clone, Copy, Drop)]
-pub struct Bounds<'a> {
-    pub subject: &'a [u8],
-    pub anchored: bool,
-    pub limit: u32,
-}
-
-/// Compares what the matcher over a stack of this type tells with what is wanted.
-pub fn check_told<P: Points>(
-    rt: &impl Abort,
-    alloc: Global,
-    table: &Patterns,
-    pattern: PatId,
-    bounds: Bounds<'_>,
-    answers: &[Option<PatId>],
-    want: &[Told],
-) -> Result<(), AllocError>
-    requires { pattern.0 < length table.now }
-{
-    let told = all_events::<P>(
-        alloc,
-        table,
-        pattern,
-        bounds.subject,
-        bounds.anchored,
-        bounds.limit,
-        answers,
-    )?;
-    check_same(rt, &told, want);
-    Ok(())
-}
-
-/// What the plain search tells.
-pub fn wanted(
-    alloc: Global,
-    forms: &[Form],
-    pattern: PatId,
-    bounds: Bounds<'_>,
-    answers: &[Option<PatId>],
-) -> Result<Vec<Told>, AllocError> {
-    let want = search_events(
-        alloc,
-        forms,
-        pattern,
-        bounds.subject,
-        bounds.anchored,
-        bounds.limit,
-        answers,
-    )?;
-    Ok(want)
-}
-
-/// The same of the matcher over either stack.
-pub fn check_stacks(
-    rt: &impl Abort,
-    alloc: Global,
-    table: &Patterns,
-    pattern: PatId,
-    bounds: Bounds<'_>,
-    answers: &[Option<PatId>],
-    want: &[Told],
-) -> Result<(), AllocError>
-    requires { pattern.0 < length table.now }
-{
-    check_told::<SharedGoals>(rt, alloc, table, pattern, bounds, answers, want)?;
-    check_told::<CopiedGoals>(rt, alloc, table, pattern, bounds, answers, want)?;
-    Ok(())
-}
-
-/// Compares what the matcher over either stack and the plain search tell of the last of these forms, whose table this
-/// is, and gives the number of events.
-pub fn check_pattern(
-    rt: &impl Abort,
-    alloc: Global,
-    forms: &[Form],
-    table: &Patterns,
-    pattern: PatId,
-    bounds: Bounds<'_>,
-    answers: &[Option<PatId>],
-) -> Result<usize, AllocError>
-    requires { pattern.0 < length table.now }
-{
-    let want = wanted(alloc, forms, pattern, bounds, answers)?;
-    check_stacks(rt, alloc, table, pattern, bounds, answers, &want)?;
-    Ok(want.len())
-}
-
-/// The same of forms whose table is made here.
-pub fn check_forms(
-    rt: &impl Abort,
-    alloc: Global,
-    forms: &[Form],
-    bounds: Bounds<'_>,
-    answers: &[Option<PatId>],
-) -> Result<usize, Fail> {
-    let (table, pattern) = table_of(alloc, forms)?;
-    let events = check_pattern(rt, alloc, forms, &table, pattern, bounds, answers)?;
-    Ok(events)
-}
-
-/// Compares what is told of one pattern, and gives the number of events.
+/// Compares what the matcher over either stack and the plain search tell of one pattern, and gives the number of
+/// events.
 fn compare(rt: &impl Abort, alloc: Global, chance: &mut Chance) -> Result<usize, Fail> {
     let forms = chance.forms(alloc)?;
     let answers = chance.answers(alloc, forms.len())?;
     let anchored = chance.below(2) == 0;
     let limit = chance.below(90) as u32;
-    let bounds = Bounds {
-        subject: chance.among(&SUBJECTS),
-        anchored,
-        limit,
-    };
-    let events = check_forms(rt, alloc, &forms, bounds, &answers)?;
-    Ok(events)
+    let subject = chance.among(&SUBJECTS);
+    let (table, pattern) = table_of(alloc, &forms)?;
+    let shared = all_events::<SharedGoals>(
+        alloc, &table, pattern, subject, anchored, limit, &answers,
+    )?;
+    let copied = all_events::<CopiedGoals>(
+        alloc, &table, pattern, subject, anchored, limit, &answers,
+    )?;
+    let want = search_events(alloc, &forms, pattern, subject, anchored, limit, &answers)?;
+    check_same(rt, &shared, &want);
+    check_same(rt, &copied, &want);
+    Ok(want.len())
 }
 
 #[test]

@@ -1,9 +1,9 @@
 //! Worked rows on a subject of a thousand bytes: the events in order, their steps, and how few goals are kept.
-ghost use Rattle.std.specs.Prelude.{◌≡◌, ◌<◌, false, length};
+ghost use Rattle.std.specs.Prelude.{◌<◌, length};
 
 use super::driver::{begin, next_event};
 use super::forms::variable;
-use sno_match::{CopiedGoals, Engine, Event, Points, SharedGoals};
+use sno_match::{CopiedGoals, Event, Points, SharedGoals};
 use sno_pattern::{Arg, Patterns};
 use sno_value::{PatId, Prim};
 use std::alloc::Global;
@@ -35,22 +35,14 @@ fn check_repetitions<P: Points>(
 {
     let subject = vec![in alloc; b'A'; BYTES]?;
     let mut m = begin::<P>(alloc, table, pattern, &subject, true, 1_000_000)?;
-    check_ways(rt, &mut m, table)
-}
-
-/// The same of a match that has begun.
-fn check_ways<P: Points>(rt: &impl Abort, m: &mut Engine<P>, table: &Patterns) -> Result<(), Fail>
-    requires table { m.old.nodes ≡ table.now }
-    requires asked { m.old.waits ≡ false }
-{
     'ways: for end in 0..=BYTES {
-        let told = next_event(m, table)?;
+        let told = next_event(&mut m, table)?;
         assert_eq!(rt; told, Event::Way { start: 0, end });
         if m.is_waiting() {
             return Err(Fail::from("a value is wanted"));
         }
     }
-    let last = next_event(m, table)?;
+    let last = next_event(&mut m, table)?;
     assert_eq!(rt; last, Event::Exhausted);
     assert_eq!(rt; m.steps(), STEPS_OF_REPETITIONS);
     Ok(())
@@ -76,16 +68,8 @@ fn check_assignments<P: Points>(
 {
     let subject = vec![in alloc; b'A'; BYTES]?;
     let mut m = begin::<P>(alloc, table, pattern, &subject, false, 1_000_000)?;
-    check_starts(rt, &mut m, table)
-}
-
-/// The same of a match that has begun.
-fn check_starts<P: Points>(rt: &impl Abort, m: &mut Engine<P>, table: &Patterns) -> Result<(), Fail>
-    requires table { m.old.nodes ≡ table.now }
-    requires asked { m.old.waits ≡ false }
-{
     'starts: for start in 0..BYTES {
-        let told = next_event(m, table)?;
+        let told = next_event(&mut m, table)?;
         let assigned = Event::Assign {
             target: variable(9),
             start,
@@ -97,7 +81,7 @@ fn check_starts<P: Points>(rt: &impl Abort, m: &mut Engine<P>, table: &Patterns)
             return Err(Fail::from("a value is wanted"));
         }
     }
-    let last = next_event(m, table)?;
+    let last = next_event(&mut m, table)?;
     assert_eq!(rt; last, Event::Exhausted);
     assert_eq!(rt; m.steps(), STEPS_OF_ASSIGNMENTS);
     assert!(rt; m.records() <= MOST_RECORDS);

@@ -1,15 +1,17 @@
 //! What a match remembers of its looks: it tells what the plain search tells, and runs are looked through once.
-ghost use Rattle.std.specs.Prelude.{◌≡◌, ◌<◌, false, length};
+ghost use Rattle.std.specs.Prelude.{◌<◌, length};
 ghost use Rattle.sno_pattern.specs.Looks.{AreTrue};
 
-use super::driver::{begin, give_new, next_event};
-use super::generated::{Bounds, check_forms};
-use super::notation::{forms_of, table_of_words};
+use super::driver::{all_events, begin, give_new, next_event};
+use super::forms::table_of;
+use super::generated::check_same;
+use super::notation::forms_of;
+use super::reference::search_events;
 use super::rows::parts;
-use sno_match::{Event, Matcher};
+use sno_match::{CopiedGoals, Event, Matcher, SharedGoals};
 use sno_pattern::{Arg, Looks, Patterns, Shape};
 use sno_value::{ExprId, PatId, Prim};
-use std::alloc::{AllocError, Global};
+use std::alloc::Global;
 use std::process::Abort;
 use std::test::Fail;
 
@@ -26,14 +28,19 @@ fn compare(
     limit: u32,
 ) -> Result<(), Fail> {
     let (subject, words) = parts(row, ": ")?;
-    let bounds = Bounds {
-        subject: subject.as_bytes(),
-        anchored,
-        limit,
-    };
+    let subject = subject.as_bytes();
     let answers = [Some(PatId(0)), None, Some(PatId(0))];
     let forms = forms_of(alloc, words)?;
-    let _events = check_forms(rt, alloc, &forms, bounds, &answers)?;
+    let (table, pattern) = table_of(alloc, &forms)?;
+    let want = search_events(alloc, &forms, pattern, subject, anchored, limit, &answers)?;
+    let shared = all_events::<SharedGoals>(
+        alloc, &table, pattern, subject, anchored, limit, &answers,
+    )?;
+    check_same(rt, &shared, &want);
+    let copied = all_events::<CopiedGoals>(
+        alloc, &table, pattern, subject, anchored, limit, &answers,
+    )?;
+    check_same(rt, &copied, &want);
     Ok(())
 }
 
@@ -120,21 +127,7 @@ fn check_no_way(
     requires { pattern.0 < length table.now }
 {
     let mut m: Matcher = begin(alloc, table, pattern, subject, false, 1_000_000)?;
-    check_exhausted(rt, &mut m, table, steps)?;
-    Ok(())
-}
-
-/// A match has no event but the last, behind so many steps.
-fn check_exhausted(
-    rt: &impl Abort,
-    m: &mut Matcher,
-    table: &Patterns,
-    steps: u32,
-) -> Result<(), AllocError>
-    requires table { m.old.nodes ≡ table.now }
-    requires asked { m.old.waits ≡ false }
-{
-    let last = next_event(m, table)?;
+    let last = next_event(&mut m, table)?;
     assert_eq!(rt; last, Event::Exhausted);
     assert_eq!(rt; m.steps(), steps);
     Ok(())
@@ -147,7 +140,8 @@ fn check_long_run(
     words: &'static str,
     steps: u32,
 ) -> Result<(), Fail> {
-    let (table, pattern) = table_of_words(alloc, words)?;
+    let forms = forms_of(alloc, words)?;
+    let (table, pattern) = table_of(alloc, &forms)?;
     let mut subject = vec![in alloc; b'A'; LONG]?;
     subject.push(b',')?;
     check_no_way(rt, alloc, &table, pattern, &subject, steps)

@@ -3,9 +3,10 @@ ghost use Rattle.std.specs.Prelude.{◌≡◌, ◌<◌, false, length, IfOk};
 
 use super::drawing::{drawn_event, drawn_events, push_number};
 use super::driver::{all_events, begin, give, give_new, next_event};
-use super::notation::table_of_words;
+use super::forms::table_of;
+use super::notation::forms_of;
 use super::rows::{Question, check_rows, parts};
-use sno_match::{CopiedGoals, Engine, Event, Matcher, Points, SharedGoals};
+use sno_match::{CopiedGoals, Event, Matcher, Points, SharedGoals};
 use sno_pattern::Patterns;
 use sno_value::{ExprId, PatId};
 use std::alloc::{AllocError, Global};
@@ -58,7 +59,8 @@ pub struct Matches;
 impl Question for Matches {
     fn answer(alloc: Global, text: &'static str) -> Result<String, Fail> {
         let s = search_of(text)?;
-        let (table, pattern) = table_of_words(alloc, s.words)?;
+        let forms = forms_of(alloc, s.words)?;
+        let (table, pattern) = table_of(alloc, &forms)?;
         let text = events_over::<SharedGoals>(alloc, &table, pattern, s)?;
         let copied = events_over::<CopiedGoals>(alloc, &table, pattern, s)?;
         if text.as_str() != copied.as_str() {
@@ -261,32 +263,18 @@ struct FirstEvents;
 impl Question for FirstEvents {
     fn answer(alloc: Global, text: &'static str) -> Result<String, Fail> {
         let s = search_of(text)?;
-        let (table, pattern) = table_of_words(alloc, s.words)?;
+        let forms = forms_of(alloc, s.words)?;
+        let (table, pattern) = table_of(alloc, &forms)?;
         let mut m = match_over(alloc, &table, pattern, s)?;
         let mut text = String::new(alloc);
-        push_first(alloc, &mut text, &mut m, &table)?;
+        push_next(alloc, &mut text, &mut m, &table)?;
+        if m.is_waiting() {
+            give(&mut m, &table, Some(PatId(0)))?;
+            text.push_str("; ")?;
+            push_next(alloc, &mut text, &mut m, &table)?;
+        }
         Ok(text)
     }
-}
-
-/// Adds the first event, and where it is a value the next one.
-fn push_first(
-    alloc: Global,
-    text: &mut String,
-    m: &mut Matcher,
-    table: &Patterns,
-) -> Result<(), AllocError>
-    requires table { m.old.nodes ≡ table.now }
-    requires known { 0 < length table.now }
-    requires asked { m.old.waits ≡ false }
-{
-    push_next(alloc, text, m, table)?;
-    if m.is_waiting() {
-        give(m, table, Some(PatId(0)))?;
-        text.push_str("; ")?;
-        push_next(alloc, text, m, table)?;
-    }
-    Ok(())
 }
 
 fn match_over(
@@ -440,18 +428,12 @@ fn has_part(m: &Matcher, start: usize, end: usize, part: &[u8]) -> bool {
 
 #[test]
 fn parts_of_the_subject(rt: HostRuntime) -> Result<(), Fail> {
-    let m = begin_none(rt.alloc())?;
+    let mut table = Patterns::new(rt.alloc());
+    let none = table.fail()?;
+    let m: Matcher = begin(rt.alloc(), &table, none, b"AB", true, 10)?;
     assert!(rt; has_part(&m, 0, 1, b"A"));
     assert!(rt; has_part(&m, 1, 2, b"B"));
     Ok(())
-}
-
-/// FAIL on AB.
-fn begin_none(alloc: Global) -> Result<Matcher, Fail> {
-    let mut table = Patterns::new(alloc);
-    let none = table.fail()?;
-    let m: Matcher = begin(alloc, &table, none, b"AB", true, 10)?;
-    Ok(m)
 }
 
 /// How many concatenations a long chain has.
@@ -469,27 +451,16 @@ fn a_long_chain(rt: HostRuntime) -> Result<(), Fail> {
     for _part in 0..LONG {
         chain = table.cat(chain, null)?;
     }
-    check_chain::<SharedGoals>(&rt, rt.alloc(), &table, chain)?;
-    check_chain::<CopiedGoals>(&rt, rt.alloc(), &table, chain)
-}
-
-/// Compares the events of the chain over a stack of this type.
-fn check_chain<P: Points>(
-    rt: &impl Abort,
-    alloc: Global,
-    table: &Patterns,
-    chain: PatId,
-) -> Result<(), Fail>
-    requires { chain.0 < length table.now }
-{
     let search = Search {
         words: "",
         subject: b"",
         anchored: true,
         limit: 1_000_000,
     };
-    let told = events_over::<P>(alloc, table, chain, search)?;
-    assert_eq!(rt; told.as_str(), LONG_EVENTS);
+    let shared = events_over::<SharedGoals>(rt.alloc(), &table, chain, search)?;
+    assert_eq!(rt; shared.as_str(), LONG_EVENTS);
+    let copied = events_over::<CopiedGoals>(rt.alloc(), &table, chain, search)?;
+    assert_eq!(rt; copied.as_str(), LONG_EVENTS);
     Ok(())
 }
 
@@ -499,39 +470,11 @@ const RUN: usize = 50_000;
 /// ARBNO(FENCE('A' | 'AA')) RPOS(0): a cut that was closed leaves no point, so that the stack doesn't grow with the
 /// run.
 fn repeat_cuts<P: Points>(rt: &impl Abort, alloc: Global) -> Result<(), Fail> {
-    let (table, pattern) = table_of_words(
-        alloc,
-        "TEXT:A TEXT:AA |:0,1 CUT:2 ARBNO:3 RPOS:0 &:4,5",
-    )?;
-    check_run::<P>(rt, alloc, &table, pattern)?;
-    Ok(())
-}
-
-/// Matches a pattern with a long run.
-fn check_run<P: Points>(
-    rt: &impl Abort,
-    alloc: Global,
-    table: &Patterns,
-    pattern: PatId,
-) -> Result<(), AllocError>
-    requires { pattern.0 < length table.now }
-{
+    let forms = forms_of(alloc, "TEXT:A TEXT:AA |:0,1 CUT:2 ARBNO:3 RPOS:0 &:4,5")?;
+    let (table, pattern) = table_of(alloc, &forms)?;
     let run = vec![in alloc; b'A'; RUN]?;
-    let mut m = begin::<P>(alloc, table, pattern, &run, true, 1_000_000)?;
-    check_whole(rt, &mut m, table)?;
-    Ok(())
-}
-
-/// The first way is the whole run, and few goals are kept.
-fn check_whole<P: Points>(
-    rt: &impl Abort,
-    m: &mut Engine<P>,
-    table: &Patterns,
-) -> Result<(), AllocError>
-    requires table { m.old.nodes ≡ table.now }
-    requires asked { m.old.waits ≡ false }
-{
-    let way = next_event(m, table)?;
+    let mut m = begin::<P>(alloc, &table, pattern, &run, true, 1_000_000)?;
+    let way = next_event(&mut m, &table)?;
     assert_eq!(rt; way, Event::Way { start: 0, end: RUN });
     assert!(rt; m.points() <= 2);
     assert!(rt; m.records() <= 10);
@@ -552,35 +495,21 @@ fn name_itself(rt: &impl Abort, alloc: Global, table: &Patterns, pattern: PatId)
     requires { pattern.0 < length table.now }
 {
     let mut m: Matcher = begin(alloc, table, pattern, b"A", true, 3 * LEVELS)?;
-    check_levels(rt, &mut m, table, pattern)
-}
-
-/// The same of a match that has begun.
-fn check_levels(
-    rt: &impl Abort,
-    m: &mut Matcher,
-    table: &Patterns,
-    pattern: PatId,
-) -> Result<(), Fail>
-    requires table { m.old.nodes ≡ table.now }
-    requires asked { m.old.waits ≡ false }
-    requires pattern { pattern.0 < length table.now }
-{
     let value = Event::Value {
         prim: None,
         expr: ExprId(4),
     };
     'levels: for level in 0..LEVELS {
-        let told = next_event(m, table)?;
+        let told = next_event(&mut m, table)?;
         assert_eq!(rt; told, value);
         assert_eq!(rt; m.steps(), 3 * level + 3);
         assert!(rt; m.records() <= 2 * m.steps() as usize + 2);
         if !m.is_waiting() {
             return Err(Fail::from("no value is wanted"));
         }
-        give(m, table, Some(pattern))?;
+        give(&mut m, table, Some(pattern))?;
     }
-    let last = next_event(m, table)?;
+    let last = next_event(&mut m, table)?;
     assert_eq!(rt; last, Event::Limit);
     assert_eq!(rt; m.points(), LEVELS as usize + 1);
     Ok(())

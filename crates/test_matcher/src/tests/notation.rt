@@ -1,9 +1,6 @@
 //! A notation for forms: words as `TEXT:A LEN:1 |:0,1`. A part is named by the place of its word, counted from 0, and a
 //! variable or an expression by its number. `CUT:0` is FENCE(P).
-ghost use Rattle.std.specs.Prelude.{◌<◌, length, IfOk};
-
-use super::forms::{Form, table_of};
-use sno_pattern::Patterns;
+use super::forms::Form;
 use sno_value::{ExprId, PatId, Prim};
 use std::alloc::Global;
 use std::test::Fail;
@@ -16,15 +13,6 @@ pub fn forms_of(alloc: Global, words: &'static str) -> Result<Vec<Form>, Fail> {
         forms.push(form_of(name, argument)?)?;
     }
     Ok(forms)
-}
-
-/// The table of the forms that words stand for, and the number of the last.
-pub fn table_of_words(alloc: Global, words: &'static str) -> Result<(Patterns, PatId), Fail>
-    ensures { IfOk result (λ made. made.1.0 < length made.0) }
-{
-    let forms = forms_of(alloc, words)?;
-    let made = table_of(alloc, &forms)?;
-    Ok(made)
 }
 
 fn form_of(name: &'static str, argument: &'static str) -> Result<Form, Fail> {

@@ -189,23 +189,9 @@ fn asked_again<P: Points>(
     requires { pattern.0 < length table.now }
 {
     let mut m = begin::<P>(alloc, table, pattern, b"AAA", true, 1000)?;
-    let refused = ask_all(rt, &mut m, table, expected);
-    Ok(refused)
-}
-
-/// Asks a match that has begun for all its events, and gives the number of refusals.
-fn ask_all<P: Points>(
-    rt: &impl Abort,
-    m: &mut Engine<P>,
-    table: &Patterns,
-    expected: Expected,
-) -> u32
-    requires table { m.old.nodes ≡ table.now }
-    requires asked { m.old.waits ≡ false }
-{
     let mut refused = 0u32;
     'ways: for (end, steps) in expected.ways {
-        let told = ask_again(rt, m, table, *steps, &mut refused);
+        let told = ask_again(rt, &mut m, table, *steps, &mut refused);
         let way = Event::Way {
             start: 0,
             end: *end,
@@ -214,11 +200,11 @@ fn ask_all<P: Points>(
         assert_eq!(rt; m.steps(), *steps);
         assert!(rt; !m.is_waiting());
     }
-    let told = ask_again(rt, m, table, expected.steps, &mut refused);
+    let told = ask_again(rt, &mut m, table, expected.steps, &mut refused);
     assert_eq!(rt; told, Some(Event::Exhausted));
     assert_eq!(rt; m.steps(), expected.steps);
     assert_eq!(rt; m.told(), expected.ways.len() as u64 + 1);
-    refused
+    Ok(refused)
 }
 
 /// The number of refusals, also where the first is in `new`.
