@@ -1,36 +1,21 @@
 -- The answer to a deferred part, from what its expression gave.
-use Rattle.std.proofs.Common.{◌≡◌, refl, Option, None, Some, Ok, Err}
+use Rattle.std.proofs.Common.{refl, Option, None, Some, Ok, Err}
 use Rattle.sno_value.specs.declared.ids.PatId.{PatId}
 use Rattle.sno_value.specs.declared.kind.PrimitiveKind.{PrimitiveKind}
 use Rattle.sno_value.specs.declared.value.Value.{Value as Stored}
-use Rattle.sno_value.specs.declared.ids.ExprId.{ExprId}
-use Rattle.sno_text.specs.declared.node.UnaryOperator.{UnaryOperator}
-use Rattle.sno_text.specs.declared.node.UnaryOperator.TheVariants.{Plus, Minus, Indirect, NameOf, Defer, Cursor, Query, Not}
 use Rattle.sno_runtime.specs.declared.stops.Exit.{Exit}
 use Rattle.sno_runtime.specs.declared.stops.Exit.TheVariants.{Failure, Halt}
 use Rattle.sno_runtime.specs.declared.stops.Stop.{Stop}
 use Rattle.sno_runtime.specs.Action.{Action, gives, settles}
-use Rattle.sno_runtime.specs.Operators.{answer, unary}
+use Rattle.sno_runtime.specs.Operators.{answer}
 use Rattle.sno_runtime.specs.Runtime.{Runtime, tree_of, IsPatternOf}
 use Rattle.sno_runtime.specs.inner.Runtime.{Does}
 use Rattle.sno_runtime.specs.Values.{Value, shown, IsValueOf}
 use Rattle.sno_runtime.proofs.Outcomes.{gives_does, then_got, then_err}
-use Rattle.snobol.specs.Evaluate.{unary_value}
 use Rattle.snobol.specs.inner.Given.{given_of, IsGivenOf}
 use Rattle.snobol.specs.Running.{Devices, Runs}
 use Rattle.snobol.specs.Turns.{answer_of}
 use Rattle.snobol.proofs.RunningLaws.{does_runs, runs_got, runs_failed, runs_halt}
-
--- an operator that isn't `*` is applied
-pub unary_applied : (operator : UnaryOperator) (e : ExprId) (x : Value) → (operator ≡ Defer → ⊥) → unary_value operator e x ≡ unary operator x
-unary_applied Plus e x other = refl
-unary_applied Minus e x other = refl
-unary_applied Indirect e x other = refl
-unary_applied NameOf e x other = refl
-unary_applied Defer e x other = absurd (other refl)
-unary_applied Cursor e x other = refl
-unary_applied Query e x other = refl
-unary_applied Not e x other = refl
 
 -- the pattern of what an expression gave
 

@@ -10,7 +10,7 @@ use Rattle.sno_text.specs.declared.node.Node.{Node}
 use Rattle.sno_text.specs.declared.node.Node.TheVariants as nodes
 use Rattle.sno_text.specs.declared.node.Span.{Span}
 use Rattle.sno_text.specs.Program.{Program, IsTable, IsNamed, SpansWithin}
-use Rattle.snobol.specs.Forms.{token}
+use Rattle.sno_expression.specs.Forms.{token}
 use Rattle.sno_runtime.specs.declared.stops.Exit.{Exit}
 use Rattle.sno_runtime.specs.declared.stops.Exit.TheVariants.{Failure, Halt}
 use Rattle.sno_runtime.specs.declared.stops.Stop.TheVariants.{Error as HasError, ErrorIn as HasErrorIn, NoMemory, ReadFault, WriteFault, Ended as HasEnded}

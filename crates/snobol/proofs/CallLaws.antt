@@ -30,10 +30,10 @@ use Rattle.sno_runtime.specs.Values.{Value, Str, shown, IsValueOf}
 use Rattle.sno_runtime.specs.Variables.{variable_named, symbol, joins}
 use Rattle.sno_runtime.proofs.Calls.{saved_shown}
 use Rattle.sno_runtime.proofs.Outcomes.{gives_does, no_memory_does, grows_none, then_got, then_err, saved_shown_stay}
-use Rattle.snobol.specs.declared.forms.Wanted.{Wanted}
-use Rattle.snobol.specs.declared.forms.Wanted.TheVariants as wanted
-use Rattle.snobol.specs.Evaluate.{Caller, made_function, function_of, function_called}
-use Rattle.snobol.specs.Forms.{token}
+use Rattle.sno_expression.specs.declared.forms.Wanted.{Wanted}
+use Rattle.sno_expression.specs.declared.forms.Wanted.TheVariants as wanted
+use Rattle.sno_expression.specs.Evaluate.{Caller, made_function, function_of, function_called}
+use Rattle.sno_expression.specs.Forms.{token}
 use Rattle.snobol.specs.Meaning.{label_number, chain, leaves, performs_function, performs_call, call_at}
 use Rattle.snobol.specs.Running.{Devices, CanRun, Goes, Runs, MeetsRunning, HasFault}
 use Rattle.snobol.proofs.RunningLaws.{does_runs, runs_halt}

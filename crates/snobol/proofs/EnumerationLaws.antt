@@ -23,9 +23,9 @@ use Rattle.sno_runtime.specs.declared.stops.Stop.{Stop}
 use Rattle.sno_runtime.specs.declared.stops.Stop.TheVariants.{Error as HasError, ErrorIn as HasErrorIn, NoMemory, ReadFault, WriteFault, Ended as HasEnded}
 use Rattle.sno_runtime.specs.World.{World, Keywords, new_world, listing_keywords}
 use Rattle.sno_runtime.specs.Action.{Error, Outcome, Action, gives, settles, stops, and_then}
-use Rattle.snobol.specs.Forms.{value}
+use Rattle.sno_expression.specs.Forms.{value}
 use Rattle.sno_runtime.specs.Operators.{as_pattern}
-use Rattle.snobol.specs.Evaluate.{expression}
+use Rattle.sno_expression.specs.Evaluate.{expression}
 use Rattle.snobol.specs.Meaning.{calls}
 use Rattle.sno_runtime.specs.Runtime.{Runtime, world, tree_of, IsPatternOf, itself}
 use Rattle.sno_runtime.specs.inner.Runtime.{new_runtime, any}

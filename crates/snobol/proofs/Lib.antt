@@ -1,13 +1,5 @@
-pub mod Expressions
-pub mod FlatLaws
-pub mod NumeralLaws
-pub mod QuickLaws
-pub mod ExaminingLaws
 pub mod Leads
-pub mod InPlaceLaws
 pub mod ApplyLaws
-pub mod Holders
-pub mod Ordered
 pub mod ListingLaws
 pub mod EnumerationLaws
 pub mod RunningLaws

@@ -12,7 +12,7 @@ use Rattle.sno_runtime.specs.Operators.{argument}
 use Rattle.sno_runtime.specs.Runtime.{Runtime, world}
 use Rattle.sno_runtime.specs.inner.Runtime.{Does}
 use Rattle.sno_runtime.specs.Values.{Value, shown, IsValueOf}
-use Rattle.snobol.specs.Evaluate.{Caller, call_as, made_call}
+use Rattle.sno_expression.specs.Evaluate.{Caller, call_as, made_call}
 use Rattle.snobol.specs.Running.{Devices, CanRun, Runs, MeetsRunning}
 use Rattle.snobol.proofs.RunningLaws.{does_runs}
 

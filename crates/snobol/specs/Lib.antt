@@ -1,5 +1,3 @@
-pub mod Forms
-pub mod Evaluate
 pub mod Reading
 pub mod Turns
 pub mod Matches

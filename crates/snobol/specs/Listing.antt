@@ -11,9 +11,9 @@ use Rattle.snobol.specs.declared.enumeration.WaysOutcome.TheVariants.{WriteFault
 use Rattle.sno_runtime.specs.World.{new_world, listing_keywords}
 use Rattle.sno_runtime.specs.Action.{Error, ErrorIn, Ended, Ending, Got, Fails, Stops, Outcome, Action, gives, stops}
 use Rattle.sno_runtime.specs.Action.{settles, either, and_then}
-use Rattle.snobol.specs.Forms.{value}
+use Rattle.sno_expression.specs.Forms.{value}
 use Rattle.sno_runtime.specs.Operators.{as_pattern}
-use Rattle.snobol.specs.Evaluate.{expression}
+use Rattle.sno_expression.specs.Evaluate.{expression}
 use Rattle.snobol.specs.Meaning.{calls}
 use Rattle.snobol.specs.Reading.{IsRead, IsRefusal}
 use Rattle.sno_runtime.specs.Variables.{writes}

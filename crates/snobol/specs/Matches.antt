@@ -9,7 +9,7 @@ use Rattle.sno_runtime.specs.Variables.{assigns}
 use Rattle.sno_runtime.specs.Keywords.{is_anchored}
 use Rattle.sno_runtime.specs.Effects.{part_of, effect}
 use Rattle.sno_text.specs.Program.{Program}
-use Rattle.snobol.specs.Evaluate.{Caller}
+use Rattle.sno_expression.specs.Evaluate.{Caller}
 use Rattle.snobol.specs.Turns.{answers, session, most_events}
 
 -- the assignments that waited for the end of the match, in their order

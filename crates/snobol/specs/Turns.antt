@@ -7,8 +7,8 @@ use Rattle.sno_match.specs.Search.{Event, Value, Answer}
 use Rattle.sno_runtime.specs.Values.{Value as Given}
 use Rattle.sno_runtime.specs.Action.{Action, gives, settles, either, and_then}
 use Rattle.sno_runtime.specs.Operators.{answer}
-use Rattle.snobol.specs.Forms.{value}
-use Rattle.snobol.specs.Evaluate.{Caller, expression}
+use Rattle.sno_expression.specs.Forms.{value}
+use Rattle.sno_expression.specs.Evaluate.{Caller, expression}
 
 abbrev pub numbered : ℕ → ExprId
 numbered e = record { 0 = e }

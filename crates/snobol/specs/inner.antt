@@ -1,10 +1,7 @@
 pub mod Begun
 pub mod Calling
 pub mod Endings
-pub mod Flat
-pub mod Forms
 pub mod Given
-pub mod InPlace
 pub mod Running
 pub mod Targets
 pub mod Told

@@ -15,8 +15,8 @@ ghost use Rattle.snobol.specs.Turns.{most_events};
 
 use crate::answers::answer_of;
 use crate::evaluate::evaluate;
-use crate::forms::value_of;
 use crate::scope::Calls;
+use sno_expression::value_of;
 use sno_io::{Sink, Source, put};
 use sno_match::{Event, Matcher, Pending};
 use sno_runtime::{Exit, Runtime, Stop, line_of, take_effect};

@@ -3,11 +3,11 @@ ghost use Rattle.std.specs.Prelude.{◌≡◌, ◌-◌, ℕ, map};
 ghost use Rattle.std.specs.List.{AllByRecursion};
 ghost use Rattle.sno_text.specs.Program.{Program};
 ghost use Rattle.sno_runtime.specs.Values.{shown, IsValueOf};
-ghost use Rattle.snobol.specs.Evaluate.{Caller};
+ghost use Rattle.sno_expression.specs.Evaluate.{Caller};
 ghost use Rattle.snobol.specs.Meaning.{call_at, calls};
 ghost use Rattle.snobol.specs.Running.{Runs, devices};
 ghost use Rattle.snobol.specs.inner.Calling.{Calling, CanRunIn};
-ghost use Rattle.snobol.specs.inner.Forms.{IsOrdered};
+ghost use Rattle.sno_expression.specs.inner.Forms.{IsOrdered};
 
 use crate::calls::call;
 use crate::code::Code;

@@ -178,6 +178,29 @@ fn compared_strings_of_digits(rt: HostRuntime) -> Result<(), Fail> {
     check_rows::<Values, _>(&rt, COMPARED_DIGITS)
 }
 
+const ALONE: &str = r"
+ OUTPUT = 3 + 4\n OUTPUT = 3 - 4\n OUTPUT = 3 * 4\n OUTPUT = '7' - 3\n OUTPUT = 7 - '3'\nEND\n => 7\n-1\n12\n4\n4\n
+ OUTPUT = 9223372036854775807 + 1\nEND\n => status 1: snobol4: error 2 in statement 1\n
+ OUTPUT = 'A' + 1\nEND\n => status 1: snobol4: error 1 in statement 1\n
+ OUTPUT = 7 / 2\n OUTPUT = 7 / 0\nEND\n => 3\nstatus 1: snobol4: error 3 in statement 2\n
+ OUTPUT = '<' LT(1,2) '>'\n X = LT(1,2) :F(END)\n OUTPUT = DATATYPE(X) SIZE(X)\nEND\n => <>\nSTRING0\n
+ X = 'kept'\n X = LT(2,1) :F(M)\n OUTPUT = 'in vain'\nM OUTPUT = X\nEND\n => kept\n
+ GT(1,2) :S(END)\n GT(2,1) :F(END)\n OUTPUT = 'greater'\nEND\n => greater\n
+ ~GT(1,2) :F(END)\n ~GT(2,1) :S(END)\n OUTPUT = 'greater'\nEND\n => greater\n
+ DEFINE('LT(A,B)') :(M)\nLT LT = A '-' B :(RETURN)\nM OUTPUT = LT(2,1)\nEND\n => 2-1\n
+ A = ARRAY(3,7)\n A<2> = 8\n OUTPUT = A<2>\n OUTPUT = A<3>\n OUTPUT = A<4> :S(END)\n OUTPUT = 'out'\nEND\n => 8\n7\nout\n
+ A = ARRAY('-1:1',0)\n I = -1\n A<I> = 'low'\n OUTPUT = A<I>\n OUTPUT = A<1>\n I = 2\n A<I> = 'out' :F(M)\n OUTPUT = 'in vain'\nM I = '0'\n A<I> = 'middle'\n OUTPUT = A<I>\nEND\n => low\n0\nmiddle\n
+ T = TABLE()\n I = 7\n T<I> = 'seven'\n OUTPUT = T<I>\n OUTPUT = '<' T<8> '>'\n OUTPUT = I<1>\nEND\n => seven\n<>\nstatus 1: snobol4: error 1 in statement 6\n
+ N = 5\n OUTPUT = N 1\n OUTPUT = 1 N\n OUTPUT = X 5\nEND\n => 51\n15\n5\n
+ OUTPUT = ~F()\n OUTPUT = ~G() :S(END)\n OUTPUT = 'end' :(END)\nF :(FRETURN)\nG :(RETURN)\nEND\n => status 1: snobol4: error 4 in statement 1\n
+ DEFINE('F()')\n DEFINE('G()')\n X = ~F() :F(END)\n X = ~G() :S(END)\n OUTPUT = 'end' :(END)\nF :(FRETURN)\nG :(RETURN)\nEND\n => end\n
+";
+
+#[test]
+fn operations_that_stand_alone(rt: HostRuntime) -> Result<(), Fail> {
+    check_rows::<Programs, _>(&rt, ALONE)
+}
+
 const PROGRAMS: &str = r"
  I = 0\nL I = LT(I,3) I + 1 :S(L)\n OUTPUT = I\nEND\n => 3\n
  I = '0'\nL I = LT(I,3) I + 1 :S(L)\n OUTPUT = I\nEND\n => 3\n

@@ -1,5 +1,5 @@
 use Rattle.std.proofs.Common.{refl}
-use Rattle.snobol.specs.Forms.{node_at}
+use Rattle.sno_expression.specs.Forms.{node_at}
 use Rattle.snobol.proofs.CallLaws.{named}
 use Rattle.snobol.proofs.calls.called_function.Goals as goal
 

@@ -1,9 +1,9 @@
 use Rattle.std.proofs.Common.{◌≡◌, refl, arith}
 use Rattle.std.proofs.lemmas.Result.{err_from_is_err_and}
-use Rattle.snobol.specs.declared.forms.Wanted.TheVariants.{Value}
-use Rattle.snobol.specs.Forms.{node_at}
+use Rattle.sno_expression.specs.declared.forms.Wanted.TheVariants.{Value}
+use Rattle.sno_expression.specs.Forms.{node_at}
 use Rattle.snobol.proofs.CallLaws.{no_value_wanted, calls_none, unnamed, named, named_or_error}
-use Rattle.snobol.proofs.Holders.{no_form}
+use Rattle.sno_expression.proofs.FormLaws.{no_form}
 use Rattle.snobol.proofs.calls.searched_function.Goals as goal
 use Rattle.snobol.proofs.calls.searched_function.Goals.{then-not-matches-via-then-not-matches, then-not-matches-via-else-not-matches+then-part-nodes, in-Value}
 use Rattle.snobol.proofs.calls.searched_function.Goals.{in_default}

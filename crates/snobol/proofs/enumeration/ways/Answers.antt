@@ -1,5 +1,5 @@
 use Rattle.std.proofs.Common.{[], arith}
-use Rattle.snobol.proofs.Ordered.{table_ordered}
+use Rattle.sno_expression.proofs.Ordered.{table_ordered}
 use Rattle.snobol.proofs.EnumerationLaws.{is_listing, is_read, too_long}
 use Rattle.sno_runtime.proofs.Performing.{appends_nothing}
 use Rattle.snobol.proofs.enumeration.ways.Goals as goal

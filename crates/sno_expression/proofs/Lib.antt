@@ -1,0 +1,9 @@
+pub mod Expressions
+pub mod FlatLaws
+pub mod Instructions
+pub mod NumeralLaws
+pub mod QuickLaws
+pub mod ExaminingLaws
+pub mod InPlaceLaws
+pub mod FormLaws
+pub mod Ordered
