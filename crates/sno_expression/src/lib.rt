@@ -19,7 +19,7 @@ mod names;
 mod numerals;
 mod quick;
 
-pub use alone::{only_item, only_name, only_operation, only_token};
+pub use alone::{only_item, only_name, only_operation, only_token, token_value};
 pub use apply::apply_form;
 pub use compile::Compiler;
 pub use flat::{Flat, Roots};

@@ -191,6 +191,9 @@ const ALONE: &str = r"
  A = ARRAY(3,7)\n A<2> = 8\n OUTPUT = A<2>\n OUTPUT = A<3>\n OUTPUT = A<4> :S(END)\n OUTPUT = 'out'\nEND\n => 8\n7\nout\n
  A = ARRAY('-1:1',0)\n I = -1\n A<I> = 'low'\n OUTPUT = A<I>\n OUTPUT = A<1>\n I = 2\n A<I> = 'out' :F(M)\n OUTPUT = 'in vain'\nM I = '0'\n A<I> = 'middle'\n OUTPUT = A<I>\nEND\n => low\n0\nmiddle\n
  T = TABLE()\n I = 7\n T<I> = 'seven'\n OUTPUT = T<I>\n OUTPUT = '<' T<8> '>'\n OUTPUT = I<1>\nEND\n => seven\n<>\nstatus 1: snobol4: error 1 in statement 6\n
+ X = 'abc'\n N = SIZE(X)\n OUTPUT = N\n N = -N\n OUTPUT = N\n Y = 'X'\n OUTPUT = $Y\n $Y = 'new'\n OUTPUT = X\n N = SIZE(7)\n OUTPUT = N\n N = -X :S(END)\nEND\n => 3\n-3\nabc\nnew\n1\nstatus 1: snobol4: error 1 in statement 12\n
+ DEFINE('F(A)') :(M)\nF F = A A :(RETURN)\nM X = F('ab')\n OUTPUT = X\n X = F(X)\n OUTPUT = X\n OUTPUT = F(&STNO)\n X = F(NOTSET)\n OUTPUT = '<' X '>'\nEND\n => abab\nabababab\n77\n<>\n
+ DEFINE('F(A)') :(M)\nF F = A :(FRETURN)\nM X = 'kept'\n X = F(1) :F(N)\n OUTPUT = 'in vain'\nN X = ~F(1)\n OUTPUT = '<' X '>'\nEND\n => <>\n
  N = 5\n OUTPUT = N 1\n OUTPUT = 1 N\n OUTPUT = X 5\nEND\n => 51\n15\n5\n
  OUTPUT = ~F()\n OUTPUT = ~G() :S(END)\n OUTPUT = 'end' :(END)\nF :(FRETURN)\nG :(RETURN)\nEND\n => status 1: snobol4: error 4 in statement 1\n
  DEFINE('F()')\n DEFINE('G()')\n X = ~F() :F(END)\n X = ~G() :S(END)\n OUTPUT = 'end' :(END)\nF :(FRETURN)\nG :(RETURN)\nEND\n => end\n
