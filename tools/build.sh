@@ -2,7 +2,7 @@
 # Read behind program.sh.
 
 # What it takes from nothing, as README.md has it.
-takes='up to half an hour on 4 processors, and 5 GB of disk'
+takes='half an hour or more on 4 processors, and 5 GB of disk'
 
 # Proves and builds the program that is meant, and sets `program` to it. `why` says why, where there is a reason to tell.
 # Another call that is building it is waited for, and what it built is taken, where that is not older than the sources.
