@@ -204,6 +204,43 @@ fn operations_that_stand_alone(rt: HostRuntime) -> Result<(), Fail> {
     check_rows::<Programs, _>(&rt, ALONE)
 }
 
+const OPERANDS: &str = r"
+ OUTPUT = 1 + (2 + (3 + (4 + (5 + (6 + (7 + 8))))))\n OUTPUT = 1 + (2 + (3 + (4 + (5 + (6 + (7 + (8 + 9)))))))\nEND\n => 36\n45\n
+ S = '2'\n OUTPUT = S + (S + (S + (S + (S + (S + (S + (S + (S + (S + S)))))))))\nEND\n => 22\n
+ A = ARRAY(2)\n A<1> = 'one'\n A<2> = 2\n OUTPUT = SIZE(A<1>) + A<2>\n OUTPUT = IDENT(A<1>,'one') 'same'\n OUTPUT = A<A<2>> + 1\n A<A<2> - 1> = A<2> * A<2>\n OUTPUT = A<1> - SIZE(A<1>)\nEND\n => 5\nsame\n3\n3\n
+ X = .Y\n $X = 'held'\n OUTPUT = Y\n OUTPUT = IDENT(X,.Y) 'same'\n OUTPUT = DIFFER(X,.Z) 'other'\nEND\n => held\nsame\nother\n
+ N = 3\n N = ~LT(N,2) N + 1\n OUTPUT = N\n N = ~LT(N,9) N + 1 :S(END)\n OUTPUT = N\nEND\n => 4\n4\n
+ DEFINE('F()') :(M)\nF S = 'new'\n F = 1 :(RETURN)\nM S = 'old'\n OUTPUT = SIZE(S) F() S\n S = 'old'\n OUTPUT = S F()\nEND\n => 31new\nold1\n
+ I = 5\n S = 'text'\n OUTPUT = IDENT(I,5) 'i'\n OUTPUT = DIFFER(S,I) SIZE(I) + 1\n OUTPUT = LGT(S,'a') 'm'\n OUTPUT = INTEGER(I) SIZE(S) + 9\nEND\n => i\n2\nm\n13\n
+ DEFINE('SIZE(X)') :(M)\nSIZE SIZE = X X :(RETURN)\nM OUTPUT = SIZE(1) - 8\n OUTPUT = SIZE('abc')\nEND\n => 3\nabcabc\n
+ OUTPUT = EQ(E,0) 'zero'\n OUTPUT = E + 1\n OUTPUT = '<' IDENT(E) IDENT(E,E) '>'\n OUTPUT = DIFFER(E) 'no' :S(END)\n OUTPUT = 'end'\nEND\n => zero\n1\n<>\nend\n
+ T = TABLE()\n T<1> = 5\n T<5> = 7\n OUTPUT = T<1> + 5\n OUTPUT = T<T<1>> - T<1>\n OUTPUT = SIZE(T<T<1>>)\nEND\n => 10\n2\n1\n
+";
+
+#[test]
+fn operands_of_operations(rt: HostRuntime) -> Result<(), Fail> {
+    check_rows::<Programs, _>(&rt, OPERANDS)
+}
+
+const CONDITIONS: &str = r"
+ I = 3\n OUTPUT = LT(I,4) I\n OUTPUT = LT(I,3) I :S(END)\n OUTPUT = LE(I,3) I * I\n OUTPUT = GE(I,4) I - 1 :S(END)\n OUTPUT = NE(I,0) EQ(I,3)\n OUTPUT = '<' NE(I,0) EQ(I,4) '>' :S(END)\n OUTPUT = 'end'\nEND\n => 3\n9\n\nend\n
+ S = 'text'\n N = '07'\n OUTPUT = GT(2,1) S\n OUTPUT = GT(2,1) 'literal'\n OUTPUT = GT(N,1) N\n OUTPUT = GT(N,1) N + 1\n OUTPUT = GT(N,1) S + 1\nEND\n => text\nliteral\n07\n8\nstatus 1: snobol4: error 1 in statement 7\n
+ OUTPUT = LT(1,2) 9223372036854775807 + 1\nEND\n => status 1: snobol4: error 2 in statement 1\n
+ OUTPUT = LT(2,1) 9223372036854775807 + 1 :S(END)\n OUTPUT = LT(1,2) 7 / 2\n OUTPUT = LT(2,1) 7 / 0 :F(M)\nM OUTPUT = LT(1,2) 7 / 0\nEND\n => 3\nstatus 1: snobol4: error 3 in statement 4\n
+ OUTPUT = LT('a',2) 5\nEND\n => status 1: snobol4: error 1 in statement 1\n
+ OUTPUT = LT('a',2) 5 + 1\nEND\n => status 1: snobol4: error 1 in statement 1\n
+ DEFINE('LT(A,B)') :(M)\nLT LT = A B :(RETURN)\nM OUTPUT = LT(2,1) 5\n OUTPUT = LT(1,2) 5 + 1\nEND\n => 215\n126\n
+ N = 4\n OUTPUT = N LT(1,2)\n OUTPUT = (N + 1) LT(1,2)\n OUTPUT = N LT(2,1) :S(END)\n OUTPUT = (N + 1) N\n OUTPUT = (N + 1) N - 1\nEND\n => 4\n5\n54\n53\n
+ N = 4\n OUTPUT = (LT(1,2) 3) + N * 2\n OUTPUT = LT(1,2) + N\n OUTPUT = LT(1,2) - N * 2\nEND\n => 11\n4\n-8\n
+ N = 3\n X = ~LT(N,2) N :F(END)\n OUTPUT = X\n X = ~(LT(N,9) N) :S(END)\n X = ~(LT(N,2) N) 'none'\n OUTPUT = X\nEND\n => 3\nnone\n
+ OUTPUT = LT(INPUT,5) INPUT + 1\n OUTPUT = LT(INPUT,5) INPUT + 1 :S(END)\n OUTPUT = INPUT\nEND\n <- 3\n4\n9\n2\n => 5\n2\n
+";
+
+#[test]
+fn conditions(rt: HostRuntime) -> Result<(), Fail> {
+    check_rows::<Programs, _>(&rt, CONDITIONS)
+}
+
 const PROGRAMS: &str = r"
  I = 0\nL I = LT(I,3) I + 1 :S(L)\n OUTPUT = I\nEND\n => 3\n
  I = '0'\nL I = LT(I,3) I + 1 :S(L)\n OUTPUT = I\nEND\n => 3\n
