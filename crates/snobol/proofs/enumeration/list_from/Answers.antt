@@ -1,5 +1,4 @@
 use Rattle.std.proofs.Common.{◌≡◌, ◌∙◌, ap, length, refl, codes, Result, Ok, Err}
-use Rattle.sno_runtime.specs.declared.stops.Exit.TheVariants.{Halt}
 use Rattle.sno_runtime.specs.declared.stops.Stop.{Stop}
 use Rattle.sno_runtime.specs.declared.stops.Stop.TheVariants.{WriteFault}
 use Rattle.sno_runtime.specs.World.{listing_keywords}
