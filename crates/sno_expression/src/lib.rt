@@ -3,9 +3,10 @@
 //! `forms` says which operands each form of expression has. `compile` makes the code of one expression, instruction by
 //! instruction (`instruction`), and `flat` that of all expressions of a program; `names` are those that stand in it,
 //! each with the symbol that it is likely to be. `in_place` reads tokens and runs the operation behind them at once,
-//! `alone` tells what code gives that is no more than that, or that behind a comparison, `quick` does what two numbers
-//! (`numerals`), an array or a function that examines its arguments (`examining`) need, and `apply` any form. The loop
-//! over the instructions stands in `snobol`, since a call in their midst performs statements.
+//! `told` tells what instructions give of numbers alone, and `alone` what some code gives that is a token or is told
+//! so; `quick` does what two numbers (`numerals`), an array or a function that examines its arguments (`examining`)
+//! need, and `apply` any form. The loop over the instructions stands in `snobol`, since a call in their midst performs
+//! statements.
 #![tactic(auto)]
 
 mod alone;
@@ -19,10 +20,9 @@ mod instruction;
 mod names;
 mod numerals;
 mod quick;
+mod told;
 
-pub use alone::{
-    ends_in_join, only_conditional, only_item, only_name, only_operation, only_token, token_value,
-};
+pub use alone::{calculated, ends_in_item, only_item, only_name, only_token, token_value};
 pub use apply::apply_form;
 pub use compile::Compiler;
 pub use flat::{Flat, Roots};
