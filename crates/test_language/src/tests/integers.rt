@@ -222,6 +222,31 @@ fn operands_of_operations(rt: HostRuntime) -> Result<(), Fail> {
     check_rows::<Programs, _>(&rt, OPERANDS)
 }
 
+const ELEMENTS: &str = r"
+ A = ARRAY(3,4)\n I = 2\n OUTPUT = EQ(A<I> + A<I + 1> - A<I - 1>,4) 'four'\n OUTPUT = LT(A<I> * A<I>,16) 'less' :S(END)\n OUTPUT = A<I + 1> * 2 - 1\nEND\n => four\n7\n
+ A = ARRAY(3,0)\n I = 3\n EQ(A<I + 1>,0) :S(END)\n EQ(A<I> + A<I + 1>,0) :S(END)\n OUTPUT = 'out'\nEND\n => out\n
+ A = ARRAY(2,'5')\n I = 1\n OUTPUT = A<I> + 1\n OUTPUT = EQ(A<I + 1>,5) 'five'\n A<I> = 'x'\n OUTPUT = A<I + 1> + A<I>\nEND\n => 6\nfive\nstatus 1: snobol4: error 1 in statement 6\n
+ A = ARRAY(2,9223372036854775807)\n I = 1\n OUTPUT = A<I> + A<I + 1>\nEND\n => status 1: snobol4: error 2 in statement 3\n
+ A = ARRAY(2,3)\n I = 1\n X = ~EQ(A<I> + A<I + 1>,7) A<I> + 1\n OUTPUT = X\n X = ~EQ(A<I> + A<I + 1>,6) A<I> + 1 :F(M)\n OUTPUT = 'in vain'\nM OUTPUT = ~A<I + 2> + 1\nEND\n => 4\n1\n
+ DEFINE('EQ(A,B)') :(M)\nEQ EQ = A '=' B :(RETURN)\nM A = ARRAY(2,3)\n I = 1\n OUTPUT = EQ(A<I> + 1,A<I + 1>)\nEND\n => 4=3\n
+ DEFINE('SIZE(X)') :(M)\nSIZE SIZE = X X :(RETURN)\nM A = ARRAY(2,3)\n I = 1\n OUTPUT = SIZE(A<I>) - 1\nEND\n => 32\n
+ T = TABLE()\n K = 'k'\n J = 'j'\n T<K> = T<K> + 1\n T<K> = T<K> + 1\n OUTPUT = T<K>\n OUTPUT = EQ(T<K>,2) 'two'\n OUTPUT = T<K> * T<K> - SIZE(K)\n OUTPUT = DIFFER(T<K>) 'some'\n OUTPUT = IDENT(T<J>) 'none'\n OUTPUT = EQ(T<J>,0) T<J> + 1\nEND\n => 2\ntwo\n3\nsome\nnone\n1\n
+ T = TABLE()\n K = 'k'\n T<K> = 'text'\n OUTPUT = SIZE(T<K>) + 1\n OUTPUT = INTEGER(T<K>) 'integer' :S(END)\n T<K> = '12'\n OUTPUT = INTEGER(T<K>) T<K> + 1\n OUTPUT = IDENT(T<K>,K) 'same' :S(END)\n OUTPUT = LGT(K,T<K>) 'after'\nEND\n => 5\n13\nafter\n
+ DEFINE('F()') :(M)\nF A = ARRAY(2,9)\n F = 1 :(RETURN)\nM A = ARRAY(2,1)\n I = 1\n OUTPUT = A<I> + F()\n A = ARRAY(2,1)\n OUTPUT = F() + A<I>\nEND\n => 2\n10\n
+ A = ARRAY('2,2',1)\n I = 1\n OUTPUT = A<I,2> + 1\n OUTPUT = EQ(A<I>,1) 'one'\nEND\n => 2\nstatus 1: snobol4: error 12 in statement 4\n
+ A = ARRAY(3,0)\n I = 1\n A<I + 1> = 5\n A<A<I + 1> - 2> = 6\n A<I + 3> = 7 :F(M)\n OUTPUT = 'in vain'\nM OUTPUT = A<1> A<2> A<3>\nEND\n => 056\n
+ DEFINE('F()') :(M)\nF A = ARRAY(2,'new')\n I = 2\n F = 'f' :(RETURN)\nM A = ARRAY(2,'old')\n B = A\n I = 1\n A<I> = F()\n OUTPUT = A<1> B<1>\nEND\n => newf\n
+ A = ARRAY(2,'abc')\n I = 1\n A<I + 1> 'b' = '-'\n OUTPUT = A<1> A<2>\nEND\n => abca-c\n
+ A = ARRAY(2,3)\n I = 1\n A<2> = 8\n OUTPUT = LT(A<I>,A<I + 1>) A<I + 1> - A<I>\n OUTPUT = GT(A<I>,A<I + 1>) A<I> :S(END)\n OUTPUT = LT(A<I>,9) GT(A<I>,1) A<I> + 1\nEND\n => 5\n4\n
+ N = 1\n OUTPUT = N + N + N + N + N + N + N + N + N + N + N + N + N + N + N + N + N + N + N + N + N + N + N + N + N + N + N + N + N + N + N + N + N + N + N + N + N + N + N + N\n OUTPUT = EQ(N + N + N + N + N + N + N + N + N + N + N + N + N + N + N + N + N + N + N + N,20) N + N + N + N + N + N + N + N + N + N + N + N + N + N + N + N + N + N + N + N\nEND\n => 40\n20\n
+ I = 1\n OUTPUT = EQ(I<1>,0) 'item'\nEND\n => status 1: snobol4: error 1 in statement 2\n
+";
+
+#[test]
+fn elements_and_entries(rt: HostRuntime) -> Result<(), Fail> {
+    check_rows::<Programs, _>(&rt, ELEMENTS)
+}
+
 const CONDITIONS: &str = r"
  I = 3\n OUTPUT = LT(I,4) I\n OUTPUT = LT(I,3) I :S(END)\n OUTPUT = LE(I,3) I * I\n OUTPUT = GE(I,4) I - 1 :S(END)\n OUTPUT = NE(I,0) EQ(I,3)\n OUTPUT = '<' NE(I,0) EQ(I,4) '>' :S(END)\n OUTPUT = 'end'\nEND\n => 3\n9\n\nend\n
  S = 'text'\n N = '07'\n OUTPUT = GT(2,1) S\n OUTPUT = GT(2,1) 'literal'\n OUTPUT = GT(N,1) N\n OUTPUT = GT(N,1) N + 1\n OUTPUT = GT(N,1) S + 1\nEND\n => text\nliteral\n07\n8\nstatus 1: snobol4: error 1 in statement 7\n
