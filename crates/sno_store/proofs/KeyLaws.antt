@@ -1,23 +1,57 @@
--- Keys stay those of their symbols where the last ones go.
-use Rattle.std.proofs.Common.{◌≡◌, ℕ, ◌<◌, ◌≤◌, List, [], length, take, slice_index_or, ap, sym, ◌∙◌, arith, ⊎_elim}
+-- Keys stay those of their symbols where the last ones go, and where one joins.
+use Rattle.std.proofs.Common.{◌≡◌, ℕ, ◌<◌, ◌≤◌, ◌++◌, ◌∷◌, List, [], length, take, slice_index_or, sym, subst, ◌∙◌, arith, ⊎_elim}
+use Rattle.std.proofs.Common.{Bool, true, false, if◌then◌else◌}
 use Rattle.std.proofs.lemmas.Bool.{cases_lt}
 use Rattle.std.proofs.Math.Nat.{min-le_left}
-use Rattle.std.proofs.lemmas.List.{get_or-take, get_or_past, length-take}
-use Rattle.sno_value.specs.Keys.{name_of}
+use Rattle.std.proofs.Math.Seq.{get_or-append_seam}
+use Rattle.std.proofs.lemmas.List.{get_or_append_left, get_or-take, get_or_past, length-append, length-take}
+use Rattle.sno_store.specs.Symbols.{HasKey}
 use Rattle.sno_store.specs.inner.Symbols.{AreKeysOf}
 
+-- by 1 no name is known
+pub none_known : (i : ℕ) (symbols : List (List ℕ)) → HasKey i 1 symbols
+none_known i symbols = (omega arith, λ some. absurd (omega (arith, some)))
+
 pub cut : (count : ℕ) (symbols : List (List ℕ)) (keys : List ℕ) → AreKeysOf symbols keys → AreKeysOf (take count symbols) (take count keys)
-cut count symbols keys known i some = ⊎_elim here nowhere (cases_lt i count) where
+cut count symbols keys known i = ⊎_elim here nowhere (cases_lt i count) where
   Goal : Type 0
-  Goal = (slice_index_or (take count symbols) i [] ≡ name_of (slice_index_or (take count keys) i 0))
-      × (1 ≤ length (slice_index_or (take count symbols) i []))
+  Goal = HasKey i (slice_index_or (take count keys) i 1) (take count symbols)
 
   here : i < count → Goal
   here h =
-      let text = get_or-take count symbols i [] h in
-      let key = get_or-take count keys i 0 h in
-      let kept = known i (rw (sym key) some) in
-      (text ∙ kept.0 ∙ ap name_of (sym key), rw text (kept.1))
+      rw (get_or-take count keys i 1 h) (rw (get_or-take count symbols i [] h) (known i))
 
   nowhere : count ≤ i → Goal
-  nowhere h = absurd (omega (arith, get_or_past (take count keys) i 0 (omega (arith, length-take count keys, min-le_left count (length keys))), some))
+  nowhere h =
+      subst (λ key. HasKey i key (take count symbols))
+      (sym (get_or_past (take count keys) i 1 (omega (arith, h, length-take count keys, min-le_left count (length keys)))))
+      (none_known i (take count symbols))
+
+pub joined : (symbols : List (List ℕ)) (keys : List ℕ) (key : ℕ)
+    → AreKeysOf symbols keys → HasKey (length keys) key symbols → AreKeysOf symbols (keys ++ key ∷ [])
+joined symbols keys key known last i = ⊎_elim before behind (cases_lt i (length keys)) where
+  Goal : Type 0
+  Goal = HasKey i (slice_index_or (keys ++ key ∷ []) i 1) symbols
+
+  before : i < length keys → Goal
+  before h = subst (λ k. HasKey i k symbols) (sym (get_or_append_left keys (key ∷ []) 1 i h)) (known i)
+
+  at : i ≡ length keys → Goal
+  at here =
+      rw here
+      (subst (λ k. HasKey (length keys) k symbols) (sym (get_or-append_seam keys key [] 1)) last)
+
+  past : length keys < i → Goal
+  past h =
+      subst (λ k. HasKey i k symbols)
+      (sym (get_or_past (keys ++ key ∷ []) i 1 (omega (arith, h, length-append keys (key ∷ [])))))
+      (none_known i symbols)
+
+  behind : length keys ≤ i → Goal
+  behind h = ⊎_elim past (λ least. at (omega (arith, h, least))) (cases_lt (length keys) i)
+
+-- where memory is refused, none joins
+pub joined_if : (ok : Bool) (symbols : List (List ℕ)) (keys : List ℕ) (key : ℕ)
+    → AreKeysOf symbols keys → HasKey (length keys) key symbols → AreKeysOf symbols (if ok then keys ++ key ∷ [] else keys)
+joined_if true symbols keys key known last = joined symbols keys key known last
+joined_if false _ _ _ known _ = known

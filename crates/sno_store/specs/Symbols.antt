@@ -9,10 +9,10 @@ use Rattle.sno_store.specs.Store.{Store, place, is_symbol}
 abbrev pub found : List ℕ → List (List ℕ) → Option ℕ
 found name symbols = if is_symbol name symbols then Some (place name symbols) else None
 
--- a symbol is the name that has a key
+-- a symbol is the name that has a key, where one has it, and isn't INPUT
 abbrev pub HasKey : ℕ → ℕ → List (List ℕ) → Type 0
 HasKey symbol key symbols =
-    (1 ≤ key) × (slice_index_or symbols symbol [] ≡ name_of key) × (1 ≤ length (name_of key))
+    (1 ≤ key) × (1 ≤ length (name_of key) → (slice_index_or symbols symbol [] ≡ name_of key) × (symbol ≡ 7 → ⊥))
 
 -- nothing but some symbols more, whose variables begin with null
 pub record HasMore (old new : Store) : Type 0 where

@@ -70,6 +70,7 @@ impl Objects {
     }
 
     /// The value of an element, if there is one.
+    #[inline(always)]
     pub(crate) fn element_value(&self, id: ObjId, element: u32) -> Option<&Value>
         ensures { unwrap_or (option_copied result) (Str []) ≡ element_value (Str []) (array_at self.now id) element }
     {
@@ -107,7 +108,7 @@ impl Objects {
     }
 
     /// An element is given a value. Nothing changes where there is no such element.
-    #[inline(never)]
+    #[inline(always)]
     pub(crate) fn set_element(&mut self, id: ObjId, element: u32, value: Value)
         ensures { self.new ≡ changed (with_element element value) self.old id }
     {
@@ -119,7 +120,7 @@ impl Objects {
     }
 
     /// An entry is given a value. Nothing changes where there is no such entry.
-    #[inline(never)]
+    #[inline(always)]
     pub(crate) fn set_entry(&mut self, id: ObjId, entry: u32, value: Value)
         ensures { self.new ≡ changed (with_entry_value entry value) self.old id }
     {
@@ -131,7 +132,7 @@ impl Objects {
     }
 
     /// A field is given a value. Nothing changes where there is no such field.
-    #[inline(never)]
+    #[inline(always)]
     pub(crate) fn set_field(&mut self, id: ObjId, field: u32, value: Value)
         ensures { self.new ≡ changed (with_field field value) self.old id }
     {

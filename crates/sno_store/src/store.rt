@@ -1,6 +1,6 @@
 //! The store: symbols, variables, arrays, tables and objects of a program's own types, and functions with their calls.
 ghost use Rattle.std.specs.Prelude.{◌≡◌, ◌<◌, ◌≤◌, ℕ, List, [], ◌∷◌, ◌++◌, length, take, nat_lt, true, false};
-ghost use Rattle.std.specs.Prelude.{slice_index_or, Some, option_copied, option_map, IfOk, OnOk, OnErr, IsOkAnd};
+ghost use Rattle.std.specs.Prelude.{slice_index_or, Some, option_copied, option_map, IfSome, IfOk, OnOk, OnErr, IsOkAnd};
 ghost use Rattle.std.specs.List.{list_all};
 ghost use Rattle.sno_value.specs.declared.value.Value.TheVariants.{Str};
 ghost use Rattle.sno_store.specs.Arrays.{new_array, element_name, prototype_of};
@@ -141,12 +141,24 @@ impl Store {
     }
 
     /// Whether a symbol is known to be the name with this key (`sno_value::name_key`). The keys of the first symbols
-    /// are kept.
+    /// are kept, but for that of INPUT.
     #[inline(always)]
     pub fn has_key(&self, symbol: SymId, key: u64) -> bool
         ensures { result ≡ true → HasKey symbol.0 key self.now.symbols }
     {
         self.symbols.has_key(symbol, key)
+    }
+
+    /// The value of a variable, where its symbol is known to be the name with this key.
+    #[inline(always)]
+    pub fn value_by_key(&self, symbol: SymId, key: u64) -> Option<&Value>
+        ensures key { IfSome result (λ value. HasKey symbol.0 key self.now.symbols) }
+        ensures value { IfSome result (λ value. value.now ≡ value_of self.now (Name.Var symbol)) }
+    {
+        if !self.symbols.has_key(symbol, key) {
+            return None;
+        }
+        self.values.get(symbol.0 as usize)
     }
 
     /// The value of the variable that a symbol names. It is null where the store has no symbol with this number.
@@ -161,6 +173,7 @@ impl Store {
     }
 
     /// The value of what is named. It is null where the store has no such name.
+    #[inline(always)]
     pub fn get(&self, name: Name) -> &Value
         ensures { result.now ≡ value_of self.now name }
     {

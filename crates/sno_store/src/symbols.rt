@@ -3,6 +3,7 @@ ghost use Rattle.std.specs.Prelude.{◌≡◌, ◌+◌, ◌||◌, ◌≤◌, ◌
 ghost use Rattle.std.specs.Prelude.{option_map, true, IfOk, OnOk, OnErr};
 ghost use Rattle.std.specs.List.{list_any};
 ghost use Rattle.std.specs.Str.{bytes_eq};
+ghost use Rattle.sno_value.specs.Keys.{name_of};
 ghost use Rattle.sno_store.specs.Store.{is_symbol};
 ghost use Rattle.sno_store.specs.Definitions.{listed, names, with_names};
 ghost use Rattle.sno_store.specs.inner.Seen.{prototype_seen};
@@ -19,6 +20,12 @@ pub(crate) const MOST_SYMBOLS: usize = 1_000_000;
 
 /// Of how many symbols the keys are kept: a program's own names are the first ones.
 const MOST_KEYS: usize = 4096;
+
+/// The number of INPUT among the symbols.
+const INPUT: u32 = 7;
+
+/// What is kept of a symbol without a key. It is no name's key.
+const NO_KEY: u64 = 1;
 
 /// The symbols, which contracts see as the list of their texts.
 #[derive(Drop)]
@@ -159,7 +166,7 @@ impl Symbols {
     {
         let place = symbol.0 as usize;
         if self.keys.len() == place && place < MOST_KEYS {
-            let _kept = self.keys.push(name_key(name));
+            let _kept = self.keys.push(kept_key(symbol, name));
         }
     }
 
@@ -169,7 +176,7 @@ impl Symbols {
         ensures { result ≡ true → HasKey symbol.0 key self.now }
     {
         match self.keys.get(symbol.0 as usize) {
-            Some(kept) => key != 0 && *kept == key,
+            Some(kept) => *kept == key,
             None => false,
         }
     }
@@ -190,5 +197,18 @@ impl Symbols {
             Some(text) => text.as_slice(),
             None => b"",
         }
+    }
+}
+
+/// The key that is kept of a symbol. By none is INPUT found, which is read from the reader.
+fn kept_key(symbol: SymId, name: &[u8]) -> u64
+    ensures some { 1 ≤ result }
+    ensures known { 1 ≤ length (name_of result) → (name.now ≡ name_of result) × (symbol.0 ≡ 7 → ⊥) }
+{
+    let key = name_key(name);
+    if key == 0 || symbol.0 == INPUT {
+        NO_KEY
+    } else {
+        key
     }
 }

@@ -7,7 +7,7 @@ mod types;
 
 use sno_pattern::Patterns;
 use sno_store::{Definition, Store, StoreError};
-use sno_value::{ExprId, Name, ObjId, PatId, SymId, Text, Value, int_text};
+use sno_value::{ExprId, Name, ObjId, PatId, SymId, Text, Value, int_text, name_key};
 use std::alloc::{AllocError, Global};
 use std::process::Abort;
 use std::test::Fail;
@@ -47,6 +47,8 @@ enum Step {
     Symbol(&'static str, Result<u32, u32>),
     SymbolText(u32, &'static str),
     Get(Name, Row),
+    // the symbol, and the name by whose key its variable is looked for
+    ByKey(u32, &'static str, Option<Row>),
     Set(Name, Row),
     NewArray(&'static str, Row, Result<u32, u32>),
     NewTable(Result<u32, u32>),
@@ -278,6 +280,14 @@ fn reads(store: &Store, alloc: Global, step: Step) -> Result<bool, AllocError> {
     Ok(match step {
         Step::SymbolText(number, want) => store.symbol_text(SymId(number)) == want.as_bytes(),
         Step::Get(name, want) => *store.get(name) == want.value(alloc)?,
+        Step::ByKey(symbol, name, want) => {
+            let found = store.value_by_key(SymId(symbol), name_key(name.as_bytes()));
+            match (found, want) {
+                (Some(value), Some(row)) => *value == row.value(alloc)?,
+                (None, None) => true,
+                _ => false,
+            }
+        }
         Step::Element(id, subscripts, want) => {
             place_of(id, store.element(ObjId(id), subscripts)) == want
         }

@@ -90,10 +90,8 @@ impl Runtime {
         ensures { IfSome result (λ value. (name : List ℕ) → IsKeyOf name key
             → Does shown IsValueOf (and_then (variable_named name) reads) self.now self.now (Ok value.now)) }
     {
-        if !self.has_key(symbol, key) || is_input(Name::Var(symbol)) {
-            return None;
-        }
-        Some(self.store.variable(symbol))
+        let value = self.store.value_by_key(symbol, key)?;
+        Some(value)
     }
 
     /// What the variable of such a name holds, where it was found there before and isn't INPUT.
@@ -161,7 +159,7 @@ impl Runtime {
     }
 
     /// The same, where it lies.
-    #[inline]
+    #[inline(always)]
     pub fn held(&self, name: Name) -> &Value
         ensures { Does shown IsValueOf (holds name) self.now self.now (Ok result.now) }
     {

@@ -1,6 +1,5 @@
 -- Words of private clauses: symbols and variables that join.
 use Rattle.std.specs.Prelude.{◌≡◌, ℕ, ◌<◌, ◌≤◌, List, [], ◌∷◌, ◌++◌, codes, length, map, slice_index_or, Vec}
-use Rattle.sno_value.specs.Keys.{IsKeyOf}
 use Rattle.std.specs.Prelude.{Result, Ok, Err}
 use Rattle.std.specs.declared.alloc.Global.{Global}
 use Rattle.sno_value.specs.declared.ids.SymId.{SymId}
@@ -12,11 +11,11 @@ use Rattle.sno_store.specs.declared.functions.Function.TheVariants.{Constructs, 
 use Rattle.sno_store.specs.Definitions.{Prototype, names, with_names, definition}
 use Rattle.sno_store.specs.Functions.{with_function}
 use Rattle.sno_store.specs.Types.{data_type, with_fields}
-use Rattle.sno_store.specs.Symbols.{HasMore}
+use Rattle.sno_store.specs.Symbols.{HasKey, HasMore}
 
--- keys are those of the symbols in the same places; no more is known where there is none
+-- keys are those of the symbols in the same places; 1, which no name has, where none is kept
 abbrev pub AreKeysOf : List (List ℕ) → List ℕ → Type 0
-AreKeysOf symbols keys = (i : ℕ) → IsKeyOf (slice_index_or symbols i []) (slice_index_or keys i 0)
+AreKeysOf symbols keys = (i : ℕ) → HasKey i (slice_index_or keys i 1) symbols
 
 -- a name joins with a value
 abbrev pub appended : List ℕ → Value → Store → Store

@@ -59,3 +59,30 @@ const VALUES: &[Step] = &[
 fn keeps_values(rt: HostRuntime) -> Result<(), Fail> {
     check(&rt, rt.alloc(), VALUES)
 }
+
+const KEYED: &[Step] = &[
+    Step::Symbol("X", Ok(9)),
+    Step::Symbol("SEVENTH", Ok(10)),
+    Step::Symbol("EIGHTEEN", Ok(11)),
+    Step::Set(X, Row::Int(5)),
+    Step::Set(Y, Row::Str("seven letters")),
+    Step::Set(NONE, Row::Str("eight letters")),
+    Step::ByKey(9, "X", Some(Row::Int(5))),
+    Step::ByKey(10, "SEVENTH", Some(Row::Str("seven letters"))),
+    Step::ByKey(8, "OUTPUT", Some(Row::Str(""))),
+    // another name's key
+    Step::ByKey(9, "Y", None),
+    Step::ByKey(10, "X", None),
+    Step::ByKey(12, "X", None),
+    // a name of eight bytes has no key
+    Step::ByKey(11, "EIGHTEEN", None),
+    Step::ByKey(11, "SIXTEENS", None),
+    Step::ByKey(11, "", None),
+    // INPUT is read from the reader
+    Step::ByKey(7, "INPUT", None),
+];
+
+#[test]
+fn finds_values_by_keys(rt: HostRuntime) -> Result<(), Fail> {
+    check(&rt, rt.alloc(), KEYED)
+}
