@@ -22,7 +22,10 @@ mod numerals;
 mod quick;
 mod told;
 
-pub use alone::{calculated, ends_in_item, only_item, only_name, only_token, token_value};
+pub use alone::{
+    calculated, first_operand, is_call, last_form, only_item, only_name, only_token, token_value,
+    told_integer,
+};
 pub use apply::apply_form;
 pub use compile::Compiler;
 pub use flat::{Flat, Roots};
@@ -31,3 +34,4 @@ pub use in_place::{instruction_at, run_in_place};
 pub use instruction::{Failing, Instruction};
 pub use names::Known;
 pub use quick::{Calculated, Form, Quick, attempt};
+pub use told::{Operand, calculate_alone};

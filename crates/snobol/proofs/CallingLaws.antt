@@ -6,10 +6,7 @@ use Rattle.sno_runtime.specs.Action.{Action}
 use Rattle.sno_runtime.specs.Runtime.{Runtime}
 use Rattle.snobol.specs.Running.{Devices, CanRun, Runs}
 use Rattle.snobol.specs.inner.Calling.{CanRunIn}
-
--- what the other action does from there on, the first one does from here on
-abbrev pub Leads : {X A : Type 0} → (List Node → X → A) → (List Node → X → Type 0) → Action A → Action A → Runtime → Runtime → Devices → Devices → Type 0
-Leads {X} see fits act other a b d e = (c : Runtime) (f : Devices) (r : Result X Exit) → Runs see fits other b c e f r → Runs see fits act a c d f r
+pub use Rattle.snobol.specs.inner.Operands.{Leads}
 
 -- the run can go on where no other calls are open
 pub still_in : (within : ℕ → Type 0) (a b : Runtime) (d e : Devices) → CanRunIn within a d → b.store.calls ≡ a.store.calls → CanRun b e → CanRunIn within b e

@@ -1,4 +1,5 @@
 pub mod Leads
+pub mod OperandLaws
 pub mod ApplyLaws
 pub mod ListingLaws
 pub mod EnumerationLaws
