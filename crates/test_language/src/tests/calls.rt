@@ -89,6 +89,34 @@ fn calls_in_matches(rt: HostRuntime) -> Result<(), Fail> {
     check_rows::<Programs, _>(&rt, CALLS_IN_MATCHES)
 }
 
+/// Calls as operands, whose arguments are told or aren't.
+const OPERANDS: &str = r"
+ DEFINE('F(N)') :(M)\nF F = LT(N,2) 1 :S(RETURN)\n F = N * F(N - 1) :(RETURN)\nM OUTPUT = F(5)\n OUTPUT = F(3 + 3) - F(N + 1)\nEND\n => 120\n719\n
+ DEFINE('F(N)') :(M)\nF F = LT(N,2) 1 :S(RETURN)\n F = F(N - 1) * N :(RETURN)\nM OUTPUT = F(6)\nEND\n => 720\n
+ DEFINE('F(X)') :(M)\nF N = N + 1\n F = X * 10 + N :(RETURN)\nM N = 1\n OUTPUT = F(N) - F(N)\n N = 1\n OUTPUT = F(N) * (N + 1)\n N = 1\n OUTPUT = (N + 1) * F(N)\nEND\n => -11\n36\n24\n
+ DEFINE('F(X)') :(M)\nF S = S X\n F = X :(RETURN)\nM OUTPUT = F(1) + F(2) * F(3)\n OUTPUT = F(4) + (F(5) - 1)\n OUTPUT = S\nEND\n => 7\n8\n12345\n
+ DEFINE('F(X)') :(M)\nF S = S X\n F = NE(X,2) X :S(RETURN)F(FRETURN)\nM X = F(1) + F(2) :S(N)\n OUTPUT = 'failed'\nN X = F(2) + F(1) :S(END)\n OUTPUT = S X\nEND\n => failed\n122\n
+ DEFINE('F(X)') :(M)\nF N = 'text'\n F = 1 :(RETURN)\nM N = 1\n OUTPUT = F(N + 1) + (N + 2)\nEND\n => status 1: snobol4: error 1 in statement 5\n
+ DEFINE('F(X)') :(M)\nF N = '5'\n F = X :(RETURN)\nM N = 1\n OUTPUT = F(N + 1) + (N + 2)\n OUTPUT = F(N + 1) + N\nEND\n => 9\n11\n
+ DEFINE('F(X)') :(M)\nF F = X '0' :(RETURN)\nM N = 1\n OUTPUT = F(N) - F(N + 1)\n OUTPUT = F(N + 1) + 5\n OUTPUT = F(N + 1) F(N)\nEND\n => -10\n25\n2010\n
+ DEFINE('F(X)') :(M)\nF F = X 'a' :(RETURN)\nM OUTPUT = F(1 + 1)\n OUTPUT = F(1) - F(2)\nEND\n => 2a\nstatus 1: snobol4: error 1 in statement 4\n
+ DEFINE('F(X)') :(M)\nF F = EQ(X,1) X :S(RETURN)F(FRETURN)\nM N = 1\n OUTPUT = 5 + ~F(N + 1)\n OUTPUT = ~F(N + 1) - 3\n OUTPUT = 5 + ~F(N) :S(END)\n OUTPUT = 'fails'\nEND\n => 5\n-3\nfails\n
+ DEFINE('F(X)') :(M)\nF F = 9223372036854775807 - X :(RETURN)\nM OUTPUT = F(1) + F(9223372036854775806)\n OUTPUT = F(0) + F(9223372036854775806)\nEND\n => 9223372036854775807\nstatus 1: snobol4: error 2 in statement 4\n
+ DEFINE('F(A,B)') :(M)\nF F = A + B + 1 :(RETURN)\nM OUTPUT = F(1 + 1) + 0\n OUTPUT = F(2,3) * F(1)\nEND\n => 3\n12\n
+ DEFINE('F(X)')\n DEFINE('G(X)') :(M)\nF DEFINE('G(X)','H')\n F = X :(RETURN)\nG G = X + 1 :(RETURN)\nH G = X + 100 :(RETURN)\nM OUTPUT = G(1) + F(1)\n DEFINE('G(X)','G')\n OUTPUT = F(1) + G(1)\nEND\n => 3\n102\n
+ DEFINE('F(X)') :(M)\nF DEFINE('SIZE(X)','H')\n F = X :(RETURN)\nH SIZE = 50 :(RETURN)\nM OUTPUT = SIZE(7 + 5) + F(3)\n OUTPUT = F(3) + SIZE(7 + 5)\nEND\n => 5\n53\n
+ DEFINE('F(X)') :(M)\nF F = X * 10 :(RETURN)\nM OUTPUT = F(INPUT) + F(INPUT)\n OUTPUT = F(1) + INPUT\n OUTPUT = INPUT + F(1) :S(END)\n OUTPUT = 'none'\nEND\n <- 3\n4\n5\n => 70\n15\nnone\n
+ DEFINE('F(X)') :(M)\nF F = X * 2 :(RETURN)\nM A = ARRAY(2,3)\n I = 1\n A<I> = F(A<I> + 1) + F(A<I + 1>)\n OUTPUT = A<1>\n OUTPUT = A<F(I)> - A<I>\nEND\n => 14\n-11\n
+ DATA('BOX(V)') DATA('PAIR(X,Y)')\n B = BOX(2 + 3)\n OUTPUT = V(B) + 1\n P = PAIR(3,4)\n OUTPUT = X(P) * Y(P)\n OUTPUT = V(BOX(V(B) - 1))\nEND\n => 6\n12\n4\n
+ N = 1\n 'abcdef' LEN(N + 1) . X\n OUTPUT = X\n OUTPUT = TRIM(N + 11)\n X = G(N - 1) * 2\nEND\n => ab\n12\nstatus 1: snobol4: error 4 in statement 5\n
+ DEFINE('F(X)') :(M)\nF F = LT(X,199) F(X + 1) + 1 :S(RETURN)\n F = &FNCLEVEL :(RETURN)\nM OUTPUT = F(1)\n OUTPUT = F(0)\n OUTPUT = 1 + F(-1)\nEND\n => 397\n399\nstatus 1: snobol4: error 10 in statement 2\n
+";
+
+#[test]
+fn calls_as_operands(rt: HostRuntime) -> Result<(), Fail> {
+    check_rows::<Programs, _>(&rt, OPERANDS)
+}
+
 /// A listing has no statements, so that a function that it defines has no label to begin at.
 const CALLS_IN_LISTINGS: &str = r"
 DEFINE('F()') F() ; A => status 1: snobol4: error 5\n
