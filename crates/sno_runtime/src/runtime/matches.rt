@@ -12,6 +12,9 @@ use std::alloc::AllocError;
 /// steps can have put there.
 const KEPT_STEPS: u32 = 1_000;
 
+/// The same where no other matcher is kept, as in a program that begins no match inside another.
+const KEPT_ALONE: u32 = 10_000;
+
 /// The longest subject of a match whose matcher is kept, since the matcher keeps it too.
 const KEPT_BYTES: usize = 10_000;
 
@@ -64,7 +67,12 @@ impl Runtime {
     pub fn keep_matcher(&mut self, matcher: Box<Matcher>)
         ensures { self.new ≡ self.old }
     {
-        if matcher.steps() <= KEPT_STEPS && matcher.subject().len() <= KEPT_BYTES {
+        let most = if self.idle.is_empty() {
+            KEPT_ALONE
+        } else {
+            KEPT_STEPS
+        };
+        if matcher.steps() <= most && matcher.subject().len() <= KEPT_BYTES {
             let _kept = self.idle.push(matcher);
         }
     }
