@@ -1,3 +1,4 @@
 pub mod Flat
 pub mod Forms
 pub mod InPlace
+pub mod Told

@@ -34,4 +34,4 @@ pub use in_place::{instruction_at, run_in_place};
 pub use instruction::{Failing, Instruction};
 pub use names::Known;
 pub use quick::{Calculated, Form, Quick, attempt};
-pub use told::{Operand, calculate_alone};
+pub use told::calculate_alone;

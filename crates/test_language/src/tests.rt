@@ -18,6 +18,7 @@ mod items;
 mod keywords;
 mod machine;
 mod names;
+mod nested;
 mod primitives;
 mod programs;
 mod rows;
