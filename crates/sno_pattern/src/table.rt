@@ -1,5 +1,6 @@
 //! The table of patterns: its builders and look-ups.
-ghost use Rattle.std.specs.Prelude.{◌≡◌, ℕ, ◌+◌, ◌<◌, ◌≤◌, ◌↔◌, ◌⊎◌, [], ◌∷◌, ◌++◌, length, List, Some, None, IfOk, IfErr};
+ghost use Rattle.std.specs.Prelude.{◌≡◌, ℕ, ◌+◌, ◌<◌, ◌≤◌, ◌↔◌, ◌⊎◌, [], ◌∷◌, ◌++◌, length, List};
+ghost use Rattle.std.specs.Prelude.{Some, None, IfOk, IfErr};
 ghost use Rattle.std.specs.Prelude.{IfSome, OnOk, OnErr, IsErrOf, IsTrue, Contains, false};
 ghost use Rattle.sno_pattern.specs.Pattern.{Text, Arb, Bal, Rem, Fail, Leaf, Fence, Cut, Abort, Succeed, Arbno, Alt};
 ghost use Rattle.sno_pattern.specs.Pattern.{Cat, Cond, Imm, Place, Defer};

@@ -21,6 +21,7 @@ mod instance;
 mod object;
 mod objects;
 mod prototype;
+mod spelling;
 mod store;
 mod symbols;
 mod type_prototype;

@@ -10,8 +10,9 @@ ghost use Rattle.sno_store.specs.inner.Seen.{prototype_seen};
 ghost use Rattle.sno_store.specs.Symbols.{found, HasKey};
 
 use crate::function_prototype::{FunctionPrototype, count, is_among};
+use crate::spelling::Spelling;
 use indexmap::IndexSet;
-use sno_value::{SymId, name_key};
+use sno_value::{SymId, Text, name_key};
 use std::alloc::{AllocError, Global};
 use std::marker::Model;
 
@@ -31,21 +32,20 @@ const NO_KEY: u64 = 1;
 #[derive(Drop)]
 pub(crate) struct Symbols {
     alloc: Global,
-    texts: IndexSet<Vec<u8>>,
+    texts: IndexSet<Text>,
     // the keys of the first of them
     keys: Vec<u64>,
 }
 
 impl Model for Symbols {
-    ghost use Rattle.std.specs.Prelude.{List, ℕ, ◌≤◌, map, length};
+    ghost use Rattle.std.specs.Prelude.{List, ℕ, ◌≤◌, length};
     ghost use Rattle.sno_store.specs.inner.Symbols.{AreKeysOf};
 
     ghost Value = { List (List ℕ) };
 
-    ghost view = { λ s. map (λ text. text.items) s.texts.keys };
+    ghost view = { λ s. s.texts.keys };
 
-    ghost invariant = { λ s. (length s.texts.keys ≤ 1_000_000)
-        × AreKeysOf (map (λ text. text.items) s.texts.keys) s.keys.items };
+    ghost invariant = { λ s. (length s.texts.keys ≤ 1_000_000) × AreKeysOf s.texts.keys s.keys.items };
 }
 
 impl Symbols {
@@ -72,7 +72,7 @@ impl Symbols {
     pub(crate) fn find(&self, name: &[u8]) -> Option<SymId>
         ensures { option_map (λ id. id.0) result ≡ found name.now self.now }
     {
-        let place = self.texts.get_index_of(name)?;
+        let place = self.texts.get_index_of(Spelling { bytes: name })?;
         Some(SymId(place as u32))
     }
 
@@ -153,7 +153,7 @@ impl Symbols {
         ensures err { OnErr result (self.new ≡ self.old) }
     {
         let id = SymId(self.texts.len() as u32);
-        let text = Vec::from_slice(self.alloc, name)?;
+        let text = Text::from_slice(self.alloc, name)?;
         self.texts.insert(text)?;
         self.keep_key(id, name);
         Ok(id)

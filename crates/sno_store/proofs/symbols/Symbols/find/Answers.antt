@@ -5,9 +5,10 @@ use Rattle.sno_store.proofs.symbols.Symbols.find.Goals as goal
 
 pub returns-in_err-place : goal.returns-in_err-place
 returns-in_err-place c =
-    ap (λ o. option_map (λ id. id.0) o) c.from_residual.ensures ∙ sym c.in_err-place.was ∙ c.get_index_of.ensures.index ∙
-    sym (found_at c.args.name.now c.self.inside.texts.keys) ∙ ap (found c.args.name.now) c.self.view_is
+    ap (λ o. option_map (λ id. id.0) o) c.from_residual.ensures ∙ sym c.in_err-place.was ∙ c.get_index_of.ensures.index
+    ∙ sym (found_at c.args.name.now c.self.inside.texts.keys) ∙ ap (found c.args.name.now) c.self.view_is
 
 pub returns : goal.returns
 returns c =
-    sym c.in_ok-place.was ∙ c.get_index_of.ensures.index ∙ sym (found_at c.args.name.now c.self.inside.texts.keys) ∙ ap (found c.args.name.now) c.self.view_is
+    sym c.in_ok-place.was ∙ c.get_index_of.ensures.index ∙ sym (found_at c.args.name.now c.self.inside.texts.keys)
+    ∙ ap (found c.args.name.now) c.self.view_is

@@ -2,12 +2,11 @@ use Rattle.std.proofs.Common.{◌≡◌, ◌∙◌, ◌≤◌, ℕ, [], length, 
 use Rattle.sno_store.specs.Symbols.{HasKey}
 use Rattle.sno_store.specs.inner.Symbols.{AreKeysOf}
 use Rattle.sno_store.proofs.KeyLaws.{joined_if}
-use Rattle.sno_store.proofs.SymbolLaws.{texts}
 use Rattle.sno_store.proofs.symbols.Symbols.keep_key.Goals as goal
 
 pub invariant_of-self : goal.invariant_of-self
 invariant_of-self c =
-    let symbols = texts c.self.inside.texts.keys in
+    let symbols = c.self.inside.texts.keys in
     let keys = c.self.inside.keys.items in
     let name : slice_index_or symbols c.args.symbol.0 [] ≡ c.args.name.now =
     ap (λ ts. slice_index_or ts c.args.symbol.0 []) c.self.view_is ∙ c.requires in
