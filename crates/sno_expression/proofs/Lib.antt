@@ -3,6 +3,7 @@ pub mod FlatLaws
 pub mod Instructions
 pub mod NumeralLaws
 pub mod QuickLaws
+pub mod StringLaws
 pub mod ToldLaws
 pub mod ExaminingLaws
 pub mod InPlaceLaws

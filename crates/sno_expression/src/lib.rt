@@ -4,9 +4,9 @@
 //! instruction (`instruction`), and `flat` that of all expressions of a program; `names` are those that stand in it,
 //! each with the symbol that it is likely to be. `in_place` reads tokens and runs the operation behind them at once,
 //! `told` tells what instructions give of numbers alone, and `alone` what some code gives that is a token or is told
-//! so; `quick` does what two numbers (`numerals`), an array or a function that examines its arguments (`examining`)
-//! need, and `apply` any form. The loop over the instructions stands in `snobol`, since a call in their midst performs
-//! statements.
+//! so, where `joined` joins strings; `quick` does what two numbers (`numerals`), an array or a function that examines
+//! its arguments (`examining`) need, and `apply` any form. The loop over the instructions stands in `snobol`, since a
+//! call in their midst performs statements.
 #![tactic(auto)]
 
 mod alone;
@@ -17,14 +17,15 @@ mod flat;
 mod forms;
 mod in_place;
 mod instruction;
+mod joined;
 mod names;
 mod numerals;
 mod quick;
 mod told;
 
 pub use alone::{
-    calculated, first_operand, is_call, last_form, only_item, only_name, only_token, token_value,
-    told_integer,
+    calculated, first_operand, is_call, is_null_literal, last_form, only_item, only_name,
+    only_token, token_value, told_integer,
 };
 pub use apply::apply_form;
 pub use compile::Compiler;
@@ -32,6 +33,7 @@ pub use flat::{Flat, Roots};
 pub use forms::{Part, Wanted, name_of, value_of};
 pub use in_place::{instruction_at, run_in_place};
 pub use instruction::{Failing, Instruction};
+pub use joined::only_joined;
 pub use names::Known;
 pub use quick::{Calculated, Form, Quick, attempt};
 pub use told::calculate_alone;

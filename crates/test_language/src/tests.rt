@@ -15,6 +15,7 @@ mod hostile;
 mod input;
 mod integers;
 mod items;
+mod joining;
 mod keywords;
 mod machine;
 mod names;

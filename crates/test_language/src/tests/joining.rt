@@ -1,0 +1,49 @@
+//! Strings that are joined, worked out by hand.
+use super::asking::Programs;
+use super::rows::check_rows;
+use std::test::Fail;
+
+/// Literals and variables that hold strings, and what else may stand among them.
+const OPERANDS: &str = r"
+ A = 'ab'\n B = 'cd'\n OUTPUT = A B\n OUTPUT = A '-' B\n OUTPUT = 'x' A 'y' B 'z'\nEND\n => abcd\nab-cd\nxabycdz\n
+ A = 'ab'\n OUTPUT = A N\n OUTPUT = N A\n OUTPUT = A '' A\n X = N M\n OUTPUT = SIZE(X) DATATYPE(X)\nEND\n => ab\nab\nabab\n0STRING\n
+ N = 12\n OUTPUT = 'n' N\n OUTPUT = N 'n'\n OUTPUT = 'a' N 'b' 3\n OUTPUT = N 3 + 1\n OUTPUT = DATATYPE('1' '2')\nEND\n => n12\n12n\na12b3\n124\nSTRING\n
+ A = 'a'\n OUTPUT = A ('b' 'c') 'd'\n OUTPUT = (A 'b') (A 'c')\nEND\n => abcd\nabac\n
+ OUTPUT = '<' INPUT '>'\n OUTPUT = '<' INPUT '>' :S(END)\n OUTPUT = 'none'\nEND\n <- x\n => <x>\nnone\n
+ P = LEN(1)\n 'abc' 'a' P . X\n OUTPUT = X\n P = 'a' 'b'\n 'xab' P :F(END)\n OUTPUT = 'ab'\nEND\n => b\nab\n
+ X = 'kept'\n X = 'a' LT(2,1) 'b' :S(END)\n OUTPUT = X 'still'\nEND\n => keptstill\n
+ A = 'a'\n A = A 'b'\n A = 'c' A A\n OUTPUT = A\nEND\n => cabab\n
+ DEFINE('F()') :(M)\nF A = 'new'\n F = '!' :(RETURN)\nM A = 'old'\n OUTPUT = A F() A\nEND\n => old!new\n
+ A = ARRAY(2,'q')\n OUTPUT = 'x' A<1> 'y'\n OUTPUT = 'a' &ANCHOR 'b'\nEND\n => xqy\na0b\n
+ LONGNAMED = 'l'\n LONGERNAME = 'm'\n OUTPUT = LONGNAMED LONGERNAME LONGNAMED\nEND\n => lml\n
+";
+
+/// Strings of 22 bytes and more, and of as many as a string may have.
+const LENGTHS: &str = r"
+ A = '12345678901'\n B = A A\n OUTPUT = SIZE(B) ' ' B 'x'\n C = B 'x' B\n OUTPUT = SIZE(C) C\nEND\n => 22 1234567890112345678901x\n451234567890112345678901x1234567890112345678901\n
+ A = DUPL('a',500000)\n B = A A\n OUTPUT = SIZE(B)\n C = B 'a'\nEND\n => 1000000\nstatus 1: snobol4: error 8 in statement 4\n
+ A = DUPL('a',999999)\n B = A 'b'\n OUTPUT = SIZE(B)\n C = 'x' A 'b'\nEND\n => 1000000\nstatus 1: snobol4: error 8 in statement 4\n
+ A = DUPL('a',1000000)\n B = A N\n OUTPUT = SIZE(B)\n B = N A\n OUTPUT = SIZE(B)\nEND\n => 1000000\n1000000\n
+";
+
+/// Arguments that are absent, and literals in their place.
+const ARGUMENTS: &str = r"
+ DEFINE('F(A)') :(M)\nF F = '<' A '>' :(RETURN)\nM OUTPUT = F() F('') F('x') F(5)\nEND\n => <><><x><5>\n
+ DEFINE('F(A,B)') :(M)\nF F = DATATYPE(A) SIZE(A) SIZE(B) :(RETURN)\nM X = F()\n OUTPUT = X\n X = F(' ')\n OUTPUT = X\n X = F(,'ab')\n OUTPUT = X\nEND\n => STRING00\nSTRING10\nSTRING02\n
+ DEFINE('F()') :(M)\nF N = N + 1 :(RETURN)\nM F()\n F()\n F('x')\n OUTPUT = N\nEND\n => 3\n
+";
+
+#[test]
+fn operands_are_joined(rt: HostRuntime) -> Result<(), Fail> {
+    check_rows::<Programs, _>(&rt, OPERANDS)
+}
+
+#[test]
+fn long_strings_are_joined(rt: HostRuntime) -> Result<(), Fail> {
+    check_rows::<Programs, _>(&rt, LENGTHS)
+}
+
+#[test]
+fn arguments_are_absent(rt: HostRuntime) -> Result<(), Fail> {
+    check_rows::<Programs, _>(&rt, ARGUMENTS)
+}
