@@ -46,7 +46,7 @@ fn main(rt: HostRuntime) -> ExitCode {
 
 /// The words of the command line as they are read: the program's name, however it was called, and those behind it.
 fn words_of<'a>(alloc: Global, args: &'a [String]) -> Result<Vec<&'a str>, AllocError> {
-    let mut words = Vec::new(alloc);
+    let mut words = Vec::with_capacity(alloc, args.len())?;
     words.push("snobol4")?;
     for arg in args.iter().skip(1) {
         words.push(arg.as_str())?;
