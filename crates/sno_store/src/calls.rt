@@ -161,7 +161,7 @@ fn give_one(formal: SymId, arguments: &mut [Value], place: usize, values: &mut V
     let variable = formal.0 as usize;
     if variable < values.len() {
         if place < arguments.len() {
-            values[variable] = mem::replace(&mut arguments[place], Value::null());
+            mem::swap(&mut arguments[place], &mut values[variable]);
         } else {
             values[variable] = Value::null();
         }

@@ -159,7 +159,7 @@ impl Store {
         if !self.symbols.has_key(symbol, key) {
             return None;
         }
-        self.values.get(symbol.0 as usize)
+        Some(&self.values[symbol.0 as usize])
     }
 
     /// The value of the variable that a symbol names. It is null where the store has no symbol with this number.

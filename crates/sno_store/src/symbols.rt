@@ -45,7 +45,8 @@ impl Model for Symbols {
 
     ghost view = { λ s. s.texts.keys };
 
-    ghost invariant = { λ s. (length s.texts.keys ≤ 1_000_000) × AreKeysOf s.texts.keys s.keys.items };
+    ghost invariant = { λ s. (length s.texts.keys ≤ 1_000_000) × AreKeysOf s.texts.keys s.keys.items
+        × (length s.keys.items ≤ length s.texts.keys) };
 }
 
 impl Symbols {
@@ -165,7 +166,7 @@ impl Symbols {
         ensures { self.new ≡ self.old }
     {
         let place = symbol.0 as usize;
-        if self.keys.len() == place && place < MOST_KEYS {
+        if self.keys.len() == place && place < self.texts.len() && place < MOST_KEYS {
             let _kept = self.keys.push(kept_key(symbol, name));
         }
     }
@@ -173,7 +174,8 @@ impl Symbols {
     /// Whether a symbol is known to be the name with this key.
     #[inline(always)]
     pub(crate) fn has_key(&self, symbol: SymId, key: u64) -> bool
-        ensures { result ≡ true → HasKey symbol.0 key self.now }
+        ensures key { result ≡ true → HasKey symbol.0 key self.now }
+        ensures within { result ≡ true → symbol.0 < length self.now }
     {
         match self.keys.get(symbol.0 as usize) {
             Some(kept) => *kept == key,

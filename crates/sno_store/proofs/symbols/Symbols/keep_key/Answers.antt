@@ -16,4 +16,5 @@ invariant_of-self c =
       c.self.invariant.0,
       rw c.push-kept.ensures.items
           (joined_if _ symbols keys c.kept_key.result c.self.invariant.1 (rw place last)),
+      search rules,
     )

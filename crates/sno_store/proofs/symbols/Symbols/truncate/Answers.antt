@@ -12,6 +12,7 @@ invariant_of-self c =
       subst (λ ts. AreKeysOf ts c.truncate-2.new.self.items) (sym c.truncate.ensures.keys)
           (subst (AreKeysOf (take c.args.count symbols)) (sym keys)
           (cut c.args.count symbols c.self.inside.keys.items (c.self.invariant.1))),
+      search rules,
     )
 
 pub returns : goal.returns
