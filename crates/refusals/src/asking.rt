@@ -1,6 +1,6 @@
 //! A machine that is asked for patterns and for a match.
 ghost use Rattle.std.specs.Prelude.{◌≡◌, ◌<◌, ◌≤◌, length, None, OnErr};
-ghost use Rattle.snobol.specs.Running.{CanRun, devices};
+ghost use Rattle.sno_statement.specs.Running.{CanRun, devices};
 
 use sno_text::{Program, ReadError, read_expression};
 use sno_value::{ExprId, PatId};

@@ -21,7 +21,8 @@ use Rattle.sno_runtime.specs.Variables.{variable_named}
 use Rattle.snobol.specs.Meaning.{name_in, joins_name, joins_names}
 use Rattle.sno_runtime.specs.Runtime.{Runtime, Grows, OnAnswer, OnGoing, itself}
 use Rattle.sno_runtime.specs.inner.Runtime.{new_runtime, Does, any}
-use Rattle.snobol.specs.Running.{Devices, HasFault, ran_in}
+use Rattle.sno_statement.specs.Running.{Devices, HasFault}
+use Rattle.snobol.specs.Running.{ran_in}
 use Rattle.snobol.specs.Machine.{answered, stopped_by, IsTooMuch, IsRefusal}
 
 -- what a call answers

@@ -37,12 +37,12 @@ use Rattle.snobol.specs.declared.enumeration.WaysOutcome.{WaysOutcome}
 use Rattle.snobol.specs.Reading.{IsRead}
 use Rattle.snobol.specs.declared.enumeration.WaysOutcome.TheVariants as ways
 use Rattle.snobol.specs.Listing.{lists_event, lists_events, lists_ways, listing, IsListed, IsListing}
-use Rattle.snobol.specs.Running.{Devices, CanRun, Runs, MeetsRunning, HasFault}
-use Rattle.snobol.specs.Turns.{after_one, answers, most_events}
-use Rattle.snobol.specs.inner.Given.{given_of, IsGivenOf}
+use Rattle.sno_statement.specs.Running.{Devices, CanRun, Runs, MeetsRunning, HasFault}
+use Rattle.sno_statement.specs.Turns.{after_one, answers, most_events}
+use Rattle.sno_statement.specs.inner.Given.{given_of, IsGivenOf}
 use Rattle.snobol.specs.inner.Told.{Tells, outcome_told}
-use Rattle.snobol.proofs.RunningLaws.{does_runs, runs_got, runs_failed, runs_halt, then_runs, then_ended}
-use Rattle.snobol.proofs.SessionLaws.{IsTurn, left, left_next, left_first, left_over, answer_then, answer_ended}
+use Rattle.sno_statement.proofs.RunningLaws.{does_runs, runs_got, runs_failed, runs_halt, then_runs, then_ended}
+use Rattle.sno_statement.proofs.SessionLaws.{IsTurn, left, left_next, left_first, left_over, answer_then, answer_ended}
 use Rattle.sno_runtime.proofs.Outcomes.{grows_none, gives_does, no_memory_does}
 
 -- the pattern that is listed

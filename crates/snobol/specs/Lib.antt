@@ -1,7 +1,4 @@
 pub mod Reading
-pub mod Turns
-pub mod Matches
-pub mod Statements
 pub mod Meaning
 pub mod Running
 pub mod Machine

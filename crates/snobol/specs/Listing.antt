@@ -18,7 +18,7 @@ use Rattle.snobol.specs.Meaning.{calls}
 use Rattle.snobol.specs.Reading.{IsRead, IsRefusal}
 use Rattle.sno_runtime.specs.Variables.{writes}
 use Rattle.sno_runtime.specs.Effects.{listed}
-use Rattle.snobol.specs.Turns.{answers, session, most_events}
+use Rattle.sno_statement.specs.Turns.{answers, session, most_events}
 
 -- an event's line is written and the event takes effect, and then the next ones do; a deferred part has no line
 abbrev pub lists_event : List ℕ → Event → Action Unit → Action Unit

@@ -11,7 +11,8 @@ use Rattle.sno_runtime.specs.World.{new_world, new_keywords}
 use Rattle.sno_runtime.specs.Action.{Error, Got, Stops, Outcome, Action}
 use Rattle.snobol.specs.Meaning.{joins_names}
 use Rattle.sno_runtime.specs.Runtime.{Runtime, world}
-use Rattle.snobol.specs.Running.{Devices, Runs, ran_in}
+use Rattle.sno_statement.specs.Running.{Devices, Runs}
+use Rattle.snobol.specs.Running.{ran_in}
 
 -- what contracts see of such a machine: the program that its expressions are of, what they can change, and the stop
 -- that it has answered

@@ -7,19 +7,17 @@ ghost use Rattle.sno_runtime.specs.Effects.{listed};
 ghost use Rattle.sno_runtime.specs.inner.Performs.{Performs};
 ghost use Rattle.sno_runtime.specs.Runtime.{itself};
 ghost use Rattle.sno_runtime.specs.inner.Runtime.{any};
-ghost use Rattle.snobol.specs.inner.Calling.{CanRunIn};
+ghost use Rattle.sno_statement.specs.inner.Calling.{CanRunIn};
 ghost use Rattle.snobol.specs.Listing.{lists_events};
 ghost use Rattle.snobol.specs.Meaning.{calls};
-ghost use Rattle.snobol.specs.Running.{Runs, devices};
-ghost use Rattle.snobol.specs.Turns.{most_events};
+ghost use Rattle.sno_statement.specs.Running.{Runs, devices};
+ghost use Rattle.sno_statement.specs.Turns.{most_events};
 
-use crate::answers::answer_of;
-use crate::evaluate::evaluate;
-use crate::scope::Calls;
 use sno_expression::value_of;
 use sno_io::{Sink, Source, put};
 use sno_match::{Event, Matcher, Pending};
 use sno_runtime::{Exit, Runtime, Stop, line_of, take_effect};
+use sno_statement::{Calls, answer_of, evaluate};
 use sno_value::PatId;
 
 /// Lists the events of a match, up to the last: each event's line is written, and then it takes effect. A deferred part

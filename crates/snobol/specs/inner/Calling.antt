@@ -1,5 +1,4 @@
--- What functions owe whose parts may call functions of the program, and what a closure does of such a call. These words
--- are private to the interpreter.
+-- What a closure does of a call of the program's functions. These words are private to the interpreter.
 use Rattle.std.specs.Prelude.{◌≡◌, ℕ, ◌-◌, List, length, map, Result}
 use Rattle.std.specs.Borrow.{MutBor}
 use Rattle.std.specs.List.{AllByRecursion}
@@ -11,12 +10,7 @@ use Rattle.sno_runtime.specs.declared.stops.Exit.{Exit}
 use Rattle.sno_runtime.specs.Runtime.{Runtime}
 use Rattle.sno_runtime.specs.Values.{shown, IsValueOf}
 use Rattle.snobol.specs.Meaning.{call_at}
-use Rattle.snobol.specs.Running.{Devices, CanRun, Runs, devices}
-
--- The run can go on, and calls can be done where so many are open.
-pub record CanRunIn (within : ℕ → Type 0) (s : Runtime) (d : Devices) : Type 0 where
-  pub level : within (length s.store.calls)
-  pub ready : CanRun s d
+use Rattle.sno_statement.specs.Running.{CanRun, Runs, devices}
 
 -- A closure does calls that stand inside so many open ones: what it owes of a call, and what that did. `feed` and
 -- `drain` say what a reader and a writer tell.

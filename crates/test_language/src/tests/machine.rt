@@ -1,6 +1,6 @@
 //! Expressions and matches that a machine is asked for, call after call.
 ghost use Rattle.std.specs.Prelude.{◌≡◌, ◌≤◌, ◌<◌, None, length, IfOk, IfSome};
-ghost use Rattle.snobol.specs.Running.{CanRun, devices};
+ghost use Rattle.sno_statement.specs.Running.{CanRun, devices};
 
 use super::rows::{Question, check_rows};
 use sno_text::{Program, read_expression};

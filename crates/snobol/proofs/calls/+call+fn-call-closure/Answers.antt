@@ -7,7 +7,7 @@ use Rattle.sno_runtime.specs.Runtime.{Runtime}
 use Rattle.sno_runtime.specs.inner.Calls.{Enters}
 use Rattle.std.proofs.lemmas.Result.{err_from_is_err_and}
 use Rattle.sno_runtime.specs.Values.{shown}
-use Rattle.snobol.specs.Running.{devices}
+use Rattle.sno_statement.specs.Running.{devices}
 use Rattle.snobol.proofs.CallLaws.{call_runs, call_ended, not_begun, call_refused}
 use Rattle.snobol.proofs.calls.+call+fn-call-closure.Goals as goal
 

@@ -2,7 +2,7 @@ use Rattle.std.proofs.Common.{◌≡◌, ◌∙◌, ap, length, refl, codes, Res
 use Rattle.sno_runtime.specs.declared.stops.Stop.{Stop}
 use Rattle.sno_runtime.specs.declared.stops.Stop.TheVariants.{WriteFault}
 use Rattle.sno_runtime.specs.World.{listing_keywords}
-use Rattle.snobol.proofs.RunningLaws.{performs_runs}
+use Rattle.sno_statement.proofs.RunningLaws.{performs_runs}
 use Rattle.snobol.proofs.EnumerationLaws.{new_closed, new_runs, built_listed, failed_listed, stopped_listed, line_put, line_cut, listed_as, fault_told}
 use Rattle.snobol.proofs.enumeration.list_from.Goals as goal
 

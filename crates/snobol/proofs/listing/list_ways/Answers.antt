@@ -3,11 +3,11 @@ use Rattle.std.proofs.lemmas.Result.{err_from_is_err_and}
 use Rattle.sno_pattern.specs.Table.{tree}
 use Rattle.sno_match.specs.Search.{Answer, trace}
 use Rattle.sno_match.specs.Matching.{Matching}
-use Rattle.snobol.specs.inner.Given.{given_of}
-use Rattle.snobol.proofs.RunningLaws.{performs_runs}
+use Rattle.sno_statement.specs.inner.Given.{given_of}
+use Rattle.sno_statement.proofs.RunningLaws.{performs_runs}
 use Rattle.snobol.proofs.EnumerationLaws.{whole_listing, value_then, value_ended, unlisted, last_told, line_told, events_over, event_then, event_ended}
-use Rattle.snobol.proofs.SessionLaws.{turn_of, trace_followed, given_to, follows_on, follows_answer, given_same, given_answer}
-use Rattle.snobol.proofs.CallingLaws.{still_in}
+use Rattle.sno_statement.proofs.SessionLaws.{turn_of, trace_followed, given_to, follows_on, follows_answer, given_same, given_answer}
+use Rattle.sno_statement.proofs.CallingLaws.{still_in}
 use Rattle.snobol.proofs.listing.list_ways.Goals as goal
 
 pub evaluate-value-requires : goal.evaluate-value-requires

@@ -3,10 +3,10 @@ use Rattle.sno_pattern.specs.Table.{tree}
 use Rattle.sno_runtime.specs.declared.stops.Exit.{Exit}
 use Rattle.sno_runtime.specs.Runtime.{Runtime, itself}
 use Rattle.sno_runtime.specs.inner.Runtime.{any}
-use Rattle.snobol.specs.Running.{Devices, CanRun, Runs, devices}
-use Rattle.snobol.specs.Turns.{most_events}
+use Rattle.sno_statement.specs.Running.{Devices, CanRun, Runs, devices}
+use Rattle.sno_statement.specs.Turns.{most_events}
 use Rattle.snobol.proofs.EnumerationLaws.{to_end}
-use Rattle.snobol.proofs.SessionLaws.{Follows, given_to}
+use Rattle.sno_statement.proofs.SessionLaws.{Follows, given_to}
 use Rattle.snobol.proofs.listing.list_ways.Given as goal
 
 -- what is left of the events is still to be listed

@@ -1,0 +1,15 @@
+pub mod AnswerLaws
+pub mod ApplyLaws
+pub mod AssignLaws
+pub mod CallingLaws
+pub mod FunctionLaws
+pub mod GotoLaws
+pub mod Leads
+pub mod MadeCalls
+pub mod MatchLaws
+pub mod OperandLaws
+pub mod RunningLaws
+pub mod SessionLaws
+pub mod StatementLaws
+pub mod StepLaws
+pub mod TargetLaws

@@ -1,0 +1,29 @@
+use Rattle.std.proofs.Common.{map, sym, subst, ◌∙◌}
+use Rattle.sno_runtime.specs.Fields.{field_value}
+use Rattle.sno_runtime.specs.inner.Runtime.{Does}
+use Rattle.sno_runtime.specs.Values.{Value as Shown, shown, IsValueOf}
+use Rattle.sno_statement.proofs.MadeCalls.{constructed_runs, field_runs, defined_runs}
+use Rattle.sno_statement.proofs.made.call_made.Goals as goal
+
+pub returns-in-Some : goal.returns-in-Some
+returns-in-Some g c =
+    constructed_runs (g.S.Calls.caller c.args.scope.now) c.args.function.0
+    (map (shown c.args.runtime.now.nodes) c.args.arguments.now)
+    c.args.runtime.now c.construct.new.runtime _ c.construct.result c.in-Some.number c.requires.within.ready
+    (sym c.constructor.ensures ∙ c.in-Some.is) c.construct.ensures
+
+pub returns-then-is_field : goal.returns-then-is_field
+returns-then-is_field g c =
+    let nodes = c.args.runtime.now.nodes in
+    let object = c.argument-object.ensures.value nodes in
+    field_runs (g.S.Calls.caller c.args.scope.now) c.args.function.0 (map (shown nodes) c.args.arguments.now)
+    c.args.runtime.now c.args.runtime.now _ c.field_value.result c.requires.within.ready (sym c.is_field.ensures ∙ c.if-is_field.true)
+    (subst (λ (v : Shown). Does shown IsValueOf (field_value c.args.function.0 v) c.args.runtime.now c.args.runtime.now c.field_value.result)
+    object c.field_value.ensures)
+
+pub returns : goal.returns
+returns g c =
+    defined_runs (g.S.Calls.caller c.args.scope.now) c.args.function.0
+    (map (shown c.args.runtime.now.nodes) c.args.arguments.now)
+    c.args.runtime.now c.call.new.runtime _ c.call.result _ (sym c.constructor.ensures ∙ c.in_default.is) (sym c.is_field.ensures ∙ c.if-is_field.false)
+    c.call.ensures

@@ -1,0 +1,63 @@
+use Rattle.std.proofs.Common.{ap, ◌∙◌, ◌≡◌, ◌≤◌, ℕ, List, [], length, refl, subst, None, Err, arith, rules}
+use Rattle.std.proofs.lemmas.Result.{err_from_is_err_and}
+use Rattle.sno_value.specs.declared.value.Value.TheVariants as stored
+use Rattle.sno_runtime.specs.Values.{Str, shown, IsValueOf}
+use Rattle.sno_runtime.proofs.Outcomes.{gives_does}
+use Rattle.sno_statement.specs.Statements.{assigns_text, with_part}
+use Rattle.sno_statement.proofs.RunningLaws.{answered, does_runs}
+use Rattle.sno_statement.proofs.StatementLaws.{part_runs, part_ended, text_runs}
+use Rattle.sno_statement.proofs.CallingLaws.{still_in}
+use Rattle.sno_statement.proofs.replacement.replace_first.Goals as goal
+
+pub returns-in_err-span : goal.returns-in_err-span
+returns-in_err-span g c =
+    let p = err_from_is_err_and c.from_residual.result c.from_residual.ensures.1 in
+    answered (p.1 ∙ ap Err p.2) (part_ended _ c.in_err-span.ensures.does)
+
+pub object_of-requires : goal.object_of-requires
+object_of-requires g c = still_in _ _ _ _ _ c.requires.within c.in_ok-span.ensures.does.calls c.in_ok-span.ensures.does.ready
+
+pub returns-in_err-value : goal.returns-in_err-value
+returns-in_err-value g c =
+    let p = err_from_is_err_and c.from_residual-in_err-value.result c.from_residual-in_err-value.ensures.1 in
+    let lost = c.in_err-value.ensures in
+    answered (p.1 ∙ ap Err p.2) (part_runs _ c.in_ok-span.ensures.does (part_ended _ lost))
+
+pub put_value-requires-clause-order : goal.put_value-requires-clause-order
+put_value-requires-clause-order g c = c.in_ok-span.ensures.does.answer.0
+
+pub put_value-requires-clause-within : goal.put_value-requires-clause-within
+put_value-requires-clause-within g c = subst (λ (text : List ℕ). c.in_ok-span.span.1 ≤ length text) c.requires.text c.in_ok-span.ensures.does.answer.1
+
+pub put_value-requires-clause-short : goal.put_value-requires-clause-short
+put_value-requires-clause-short g c = subst (λ (text : List ℕ). length text ≤ 1_000_000) c.requires.text c.requires.subject
+
+pub put_value-requires-clause-value : goal.put_value-requires-clause-value
+put_value-requires-clause-value g c = c.in_ok-value.ensures.answer
+
+pub put_value-requires-clause-sound : goal.put_value-requires-clause-sound
+put_value-requires-clause-sound g c = c.in_ok-value.ensures.ready.writes
+
+pub returns : goal.returns
+returns g c =
+    let object = c.in_ok-value.ensures in
+    let put = rw (← c.requires.text) at (c.put_value.ensures _ object.ready.reads) in
+    part_runs _ c.in_ok-span.ensures.does (part_runs _ object put)
+
+pub put_text-requires-clause-order : goal.put_text-requires-clause-order
+put_text-requires-clause-order g c = c.in_ok-span.ensures.does.answer.0
+
+pub put_text-requires-clause-within : goal.put_text-requires-clause-within
+put_text-requires-clause-within g c = subst (λ (text : List ℕ). c.in_ok-span.span.1 ≤ length text) c.requires.text c.in_ok-span.ensures.does.answer.1
+
+pub put_text-requires-clause-sound : goal.put_text-requires-clause-sound
+put_text-requires-clause-sound g c = c.in_ok-span.ensures.does.ready.writes
+
+pub returns-then-is_none : goal.returns-then-is_none
+returns-then-is_none g c =
+    let found = c.in_ok-span.ensures.does in
+    let given = gives_does shown IsValueOf c.find_first.new.runtime (stored.Str []) (Str []) refl (omega arith) in
+    let put = rw (← c.requires.text) at (c.put_text.ensures _ found.ready.reads) in
+    let next = λ (new : List ℕ). assigns_text c.args.target (with_part c.args.matcher.now.subject c.in_ok-span.span new) in
+    let absent : c.args.object ≡ None = search rules in
+    rw absent (part_runs _ found (part_runs _ (does_runs shown IsValueOf _ _ _ _ _ found.ready given) (text_runs next (Str []) [] refl put)))

@@ -1,0 +1,33 @@
+//! Statements: what each does, and where it goes on.
+//!
+//! A program's `code` is what is known of it before its first statement begins: what its statements do and where they go
+//! on (`steps`, `targets`), and the instructions of each expression, which `sno_expression` makes. `perform` does one
+//! statement and finds the next one (`gotos`); `statements` does the parts of one. `evaluation` runs the instructions of an
+//! expression, over a list of values where `operands` can't do without, and `made` calls the functions that the program
+//! has made. `matching` runs a match up to its first way, `answers` gives it what its deferred parts stand for, and
+//! `replacement` puts a text in the place of what matched. How a call of a function that the program defines is done
+//! comes from above (`calls`), since it performs statements in its turn.
+#![tactic(auto)]
+
+mod answers;
+mod calls;
+mod code;
+mod evaluation;
+mod gotos;
+mod made;
+mod matching;
+mod operands;
+mod perform;
+mod replacement;
+mod statements;
+mod steps;
+mod targets;
+
+pub use answers::answer_of;
+pub use calls::Calls;
+pub use code::Code;
+pub use evaluation::{evaluate, pattern_of};
+pub use matching::match_first;
+pub use perform::perform_step;
+pub use steps::{Step, Subject};
+pub use targets::{Branches, Goto, Next};
