@@ -1,10 +1,10 @@
 //! The interpreter: programs that run, the listing of the ways in which a pattern matches, and a machine that does
 //! either for its caller.
 //!
-//! `job` does what the command line asks for, and `endings` tells how it ended. `execution` goes through the statements
-//! of a run, each of which `sno_statement` performs. `calls` performs the statements of a function that the program has
-//! made, and `scope` is what statements are performed in: the program itself, or a call. `enumeration` is the listing of a
-//! pattern, and `listing` its loop over events; `machine` evaluates and matches, call after call.
+//! `job` does what the command line asks for, and `endings` tells how it ended. `execution` goes through the
+//! statements of a run, each of which `sno_statement` performs. `calls` performs the statements of a function that the
+//! program defines, and `scope` is what statements are performed in: the program itself, or a call. `enumeration` is
+//! the listing of a pattern, and `listing` its loop over events; `machine` evaluates and matches, call after call.
 #![tactic(auto)]
 
 mod calls;

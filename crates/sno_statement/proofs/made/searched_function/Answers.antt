@@ -5,7 +5,8 @@ use Rattle.sno_expression.specs.Forms.{node_at}
 use Rattle.sno_statement.proofs.FunctionLaws.{no_value_wanted, calls_none, unnamed, named, named_or_error}
 use Rattle.sno_expression.proofs.FormLaws.{no_form}
 use Rattle.sno_statement.proofs.made.searched_function.Goals as goal
-use Rattle.sno_statement.proofs.made.searched_function.Goals.{then-not-matches-via-then-not-matches, then-not-matches-via-else-not-matches+then-part-nodes, in-Value}
+use Rattle.sno_statement.proofs.made.searched_function.Goals.{then-not-matches-via-then-not-matches, then-not-matches-via-else-not-matches+then-part-nodes}
+use Rattle.sno_statement.proofs.made.searched_function.Goals.{in-Value}
 use Rattle.sno_statement.proofs.made.searched_function.Goals.{in_default}
 
 -- a call without a value wanted, or a number beyond the table
