@@ -18,6 +18,17 @@ const OPERANDS: &str = r"
  LONGNAMED = 'l'\n LONGERNAME = 'm'\n OUTPUT = LONGNAMED LONGERNAME LONGNAMED\nEND\n => lml\n
 ";
 
+/// Integers among the strings. Where one of two values is null, the other one stays what it is.
+const INTEGERS: &str = r"
+ N = 12\n A = 'ab'\n OUTPUT = A N\n OUTPUT = N A\n OUTPUT = A N A N\n OUTPUT = N A N A\nEND\n => ab12\n12ab\nab12ab12\n12ab12ab\n
+ N = -7\n OUTPUT = '<' N '>' 0\n OUTPUT = 5 ' ' N\n OUTPUT = N N\n OUTPUT = N N 'x' N\nEND\n => <-7>0\n5 -7\n-7-7\n-7-7x-7\n
+ N = 5\n X = '' N\n OUTPUT = DATATYPE(X) X\n X = N ''\n OUTPUT = DATATYPE(X) X\n X = M N\n OUTPUT = DATATYPE(X) X\nEND\n => INTEGER5\nINTEGER5\nINTEGER5\n
+ N = 5\n X = '' N 'a'\n OUTPUT = DATATYPE(X) X\n X = N '' 6\n OUTPUT = DATATYPE(X) X\n X = '' '' N\n OUTPUT = DATATYPE(X) X\nEND\n => STRING5a\nSTRING56\nINTEGER5\n
+ N = -9223372036854775807 - 1\n OUTPUT = '[' N ']'\n OUTPUT = 9223372036854775807 '!'\nEND\n => [-9223372036854775808]\n9223372036854775807!\n
+ A = DUPL('a',999998)\n N = 12\n B = A N\n OUTPUT = SIZE(B)\n B = N A\n OUTPUT = SIZE(B)\n N = 123\n B = A N\nEND\n => 1000000\n1000000\nstatus 1: snobol4: error 8 in statement 8\n
+ A = DUPL('a',999998)\n N = -12\n B = N A\nEND\n => status 1: snobol4: error 8 in statement 3\n
+";
+
 /// Strings of 22 bytes and more, and of as many as a string may have.
 const LENGTHS: &str = r"
  A = '12345678901'\n B = A A\n OUTPUT = SIZE(B) ' ' B 'x'\n C = B 'x' B\n OUTPUT = SIZE(C) C\nEND\n => 22 1234567890112345678901x\n451234567890112345678901x1234567890112345678901\n
@@ -32,6 +43,11 @@ const ARGUMENTS: &str = r"
  DEFINE('F(A,B)') :(M)\nF F = DATATYPE(A) SIZE(A) SIZE(B) :(RETURN)\nM X = F()\n OUTPUT = X\n X = F(' ')\n OUTPUT = X\n X = F(,'ab')\n OUTPUT = X\nEND\n => STRING00\nSTRING10\nSTRING02\n
  DEFINE('F()') :(M)\nF N = N + 1 :(RETURN)\nM F()\n F()\n F('x')\n OUTPUT = N\nEND\n => 3\n
 ";
+
+#[test]
+fn integers_are_joined(rt: HostRuntime) -> Result<(), Fail> {
+    check_rows::<Programs, _>(&rt, INTEGERS)
+}
 
 #[test]
 fn operands_are_joined(rt: HostRuntime) -> Result<(), Fail> {
