@@ -8,10 +8,10 @@ use Rattle.sno_match.specs.declared.event.Pending.{Pending}
 use Rattle.sno_match.specs.declared.engine.State.{State}
 use Rattle.sno_match.specs.declared.engine.State.TheVariants as S
 use Rattle.sno_match.specs.Search.{Event, Ended, whole, all_events}
-use Rattle.sno_match.specs.Events.{pending_after, last_pending, last_count}
+use Rattle.sno_match.specs.Matching.{pending_after, last_pending, last_count, Matching, answers_of, trace_of, told_of}
+use Rattle.sno_match.specs.Matching.{IsCounted}
 use Rattle.sno_match.specs.Point.{Point}
 use Rattle.sno_match.specs.inner.State.{verdict_of, over}
-use Rattle.sno_match.specs.Matching.{Matching, answers_of, trace_of, told_of, IsCounted}
 use Rattle.sno_match.specs.inner.Running.{to_come, counted, IsMatch}
 use Rattle.sno_match.proofs.WeightLaws.{few_told}
 use Rattle.sno_match.proofs.LateLaws.{AllLeft, coming-within}

@@ -4,7 +4,7 @@ use Rattle.sno_match.specs.declared.event.Event.{Event as Told}
 use Rattle.sno_match.specs.declared.event.Event.TheVariants as V
 use Rattle.sno_match.specs.declared.event.Pending.{Pending}
 use Rattle.sno_match.specs.Search.{Event, SearchResult, Gives, emit, all_events, last_event}
-use Rattle.sno_match.specs.Events.{is_last, is_value, pending_after, last_pending, last_count}
+use Rattle.sno_match.specs.Matching.{is_last, is_value, pending_after, last_pending, last_count}
 use Rattle.sno_match.specs.inner.State.{after, after_move, waits, ended, over, LastIn}
 use Rattle.sno_match.specs.inner.Move.{entries, way_after}
 use Rattle.sno_match.specs.inner.Running.{counted}

@@ -9,10 +9,10 @@ use Rattle.sno_match.specs.declared.event.Pending.{Pending}
 use Rattle.sno_match.specs.declared.engine.State.{State}
 use Rattle.sno_match.specs.declared.engine.State.TheVariants as S
 use Rattle.sno_match.specs.Search.{Event, Ended}
-use Rattle.sno_match.specs.Events.{in_trace, is_last, is_value, cost, pending_after}
+use Rattle.sno_match.specs.Matching.{in_trace, is_last, is_value, cost, pending_after, Matching, trace_of, SameMatch}
+use Rattle.sno_match.specs.Matching.{IsTold, StaysAt, Begins}
 use Rattle.sno_match.specs.Point.{Point}
 use Rattle.sno_match.specs.inner.State.{verdict_of, waits, ended}
-use Rattle.sno_match.specs.Matching.{Matching, trace_of, SameMatch, IsTold, StaysAt, Begins}
 use Rattle.sno_match.specs.inner.Running.{counted, seen, IsMatch, GoesOn}
 use Rattle.sno_match.proofs.EntryLaws.{at_place}
 use Rattle.sno_match.proofs.CountLaws.{trace_is, trace_size}

@@ -12,9 +12,7 @@ use Rattle.sno_match.specs.Search.{Goal, Match, CloseCond, CloseImm, CloseRepeat
 use Rattle.sno_match.specs.Search.{Value, Answer, SearchResult, Gives, Search, Finder, emit, or_else, further, tries, abort_if_exhausted, with_answer, if_moved}
 use Rattle.sno_match.specs.Search.{first_goal, search_within, search, starts, whole, last_event, all_events, trace, CloseCut, CutOff, cut_off_if_exhausted}
 use Rattle.sno_match.specs.Search.{exhausted_if_cut_off}
-use Rattle.sno_match.specs.Events.{in_trace}
-use Rattle.sno_match.specs.Within.{IsPart, IsWithin}
-use Rattle.sno_match.specs.Matching.{Matching, answers_of, IsTold}
+use Rattle.sno_match.specs.Matching.{in_trace, IsPart, IsWithin, Matching, answers_of, IsTold}
 use Rattle.sno_match.proofs.Finds.{Each, Each-map, Each-to, Each-append}
 use Rattle.sno_match.proofs.EndsRange.{ends-within}
 use Rattle.sno_match.proofs.QuietWays.{starts-within}

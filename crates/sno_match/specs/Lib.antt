@@ -1,11 +1,8 @@
 pub use Rattle.sno_pattern.specs.Pattern
 pub use Rattle.sno_pattern.specs.Ends
 pub use Rattle.sno_pattern.specs.Table
-pub use Rattle.sno_pattern.specs.Quiet
 pub mod Search
 pub mod Ways
-pub mod Events
-pub mod Within
 pub mod Matching
 pub mod Point
 pub mod Top

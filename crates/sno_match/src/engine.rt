@@ -2,8 +2,7 @@
 ghost use Rattle.std.specs.Prelude.{◌≡◌, ◌<◌, ◌≤◌, ◌+◌, ◌-◌, ◌*◌, ◌++◌, [], ◌∷◌, false, true, length, drop, take, IfOk};
 ghost use Rattle.std.specs.Prelude.{IfSome, IsOk, OnOk, OnErr, vec_capacity};
 ghost use Rattle.sno_match.specs.Matching.{SameMatch, IsTold, StaysAt, IsCounted, TellsWays, Begins, begins, told_of};
-ghost use Rattle.sno_match.specs.Events.{in_trace, last_pending};
-ghost use Rattle.sno_match.specs.Within.{IsWithin};
+ghost use Rattle.sno_match.specs.Matching.{in_trace, last_pending, IsWithin};
 ghost use Rattle.sno_match.specs.inner.State.{after};
 ghost use Rattle.sno_match.specs.inner.Running.{Advances, GoesOn};
 

@@ -1,12 +1,8 @@
 //! One move of the search: what is due at the newest resumption point is done.
-ghost use Rattle.std.specs.Prelude.{◌≡◌, ℕ, List, ◌<◌, ◌≤◌, ◌+◌, ◌-◌, ◌*◌, length, IfOk, IfSome, OnOk, OnErr};
-ghost use Rattle.sno_pattern.specs.Looks.{AreTrue};
+ghost use Rattle.std.specs.Prelude.{◌≡◌, ℕ, List, ◌<◌, ◌≤◌, ◌+◌, ◌*◌, length, IfOk, IfSome, OnOk, OnErr};
 ghost use Rattle.sno_match.specs.Point.{HasFirst};
-ghost use Rattle.sno_match.specs.Top.{IsTop};
-ghost use Rattle.sno_match.specs.inner.Remaining.{IsKnown, IsStack, HasPoint};
-ghost use Rattle.sno_match.specs.inner.State.{after_move, owed};
-ghost use Rattle.sno_match.specs.inner.Scopes.{HasCuts};
-ghost use Rattle.sno_match.specs.inner.Move.{Makes, LeadsOn, HasStep, EnteredFails, answered};
+ghost use Rattle.sno_match.specs.inner.Remaining.{IsKnown, HasPoint};
+ghost use Rattle.sno_match.specs.inner.Move.{IsAtTop, Stands, Makes, LeadsOn, EnteredFails, answered, owed_by};
 
 use crate::event::{Event, Pending};
 use crate::goal::{Goal, Mark, Top};
@@ -31,23 +27,14 @@ pub(crate) fn make_move<P: Points>(
     start: usize,
     limit: u32,
 ) -> Result<Option<Event>, AllocError>
-    requires stack { IsStack patterns.now subject.now (P.points points.old) }
-    requires cuts { HasCuts patterns.now (limit - steps.old) (P.points points.old) }
+    requires stands { Stands patterns.now subject.now looks.old limit steps.old (P.points points.old) }
     requires some { HasPoint (P.points points.old) }
-    requires steps { steps.old ≤ limit }
-    requires looks { AreTrue patterns.now subject.now looks.old }
-    requires small { length subject.now ≤ 4294967295 }
-    ensures looks { AreTrue patterns.now subject.now looks.new }
-    ensures stack { IsStack patterns.now subject.now (P.points points.new) }
-    ensures cuts { HasCuts patterns.now (limit - steps.new) (P.points points.new) }
-    ensures ok { IfOk result
-        (λ told. Makes patterns.now subject.now start limit (P.points points.old) steps.old way.old.items told
-        (P.points points.new) steps.new way.new.items) }
-    ensures records { IfOk result (λ told. P.records points.new + 2 * steps.old + owed (after_move told)
-        ≤ P.records points.old + 2 * steps.new) }
+    ensures stands { Stands patterns.now subject.now looks.new limit steps.new (P.points points.new) }
+    ensures records { P.records points.new + 2 * steps.old + owed_by result ≤ P.records points.old + 2 * steps.new }
+    ensures ok { IfOk result (λ told. Makes patterns.now subject.now start limit (P.points points.old) steps.old
+        way.old.items told (P.points points.new) steps.new way.new.items) }
     ensures err { OnErr result (LeadsOn patterns.now subject.now limit (P.points points.old) steps.old
         (P.points points.new) steps.new) }
-    ensures few { OnErr result (P.records points.new + 2 * steps.old ≤ P.records points.old + 2 * steps.new) }
     ensures way { OnErr result (way.new.items ≡ way.old.items) }
 {
     match points.top() {
@@ -92,24 +79,15 @@ fn make_step<P: Points>(
     mark: Mark,
     limit: u32,
 ) -> Result<Option<Event>, AllocError>
-    requires stack { IsStack patterns.now subject.now (P.points points.old) }
-    requires cuts { HasCuts patterns.now (limit - steps.old) (P.points points.old) }
-    requires due { HasStep patterns.now goal mark }
-    requires top { IsTop (P.points points.old) (Top.Open goal cursor mark) }
+    requires stands { Stands patterns.now subject.now looks.old limit steps.old (P.points points.old) }
+    requires top { IsAtTop patterns.now goal cursor mark (P.points points.old) }
     requires room { steps.old < limit }
-    requires looks { AreTrue patterns.now subject.now looks.old }
-    requires small { length subject.now ≤ 4294967295 }
-    ensures looks { AreTrue patterns.now subject.now looks.new }
-    ensures stack { IsStack patterns.now subject.now (P.points points.new) }
-    ensures cuts { HasCuts patterns.now (limit - steps.new) (P.points points.new) }
-    ensures ok { (start : ℕ) (way : List Pending) → IfOk result
-        (λ told. Makes patterns.now subject.now start limit (P.points points.old) steps.old way told
-        (P.points points.new) steps.new way) }
-    ensures records { IfOk result (λ told. P.records points.new + 2 * steps.old + owed (after_move told)
-        ≤ P.records points.old + 2 * steps.new) }
+    ensures stands { Stands patterns.now subject.now looks.new limit steps.new (P.points points.new) }
+    ensures records { P.records points.new + 2 * steps.old + owed_by result ≤ P.records points.old + 2 * steps.new }
+    ensures ok { (start : ℕ) (way : List Pending) → IfOk result (λ told. Makes patterns.now subject.now start limit
+        (P.points points.old) steps.old way told (P.points points.new) steps.new way) }
     ensures err { OnErr result (LeadsOn patterns.now subject.now limit (P.points points.old) steps.old
         (P.points points.new) steps.new) }
-    ensures few { OnErr result (P.records points.new + 2 * steps.old ≤ P.records points.old + 2 * steps.new) }
 {
     let first = first_goal(points, steps, patterns, goal, cursor, mark, limit)?;
     let left = limit - *steps;

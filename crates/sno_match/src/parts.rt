@@ -1,9 +1,8 @@
 //! The first parts of a pattern, entered one in another.
 ghost use Rattle.std.specs.Prelude.{◌≡◌, ℕ, List, ◌<◌, ◌≤◌, ◌+◌, ◌-◌, ◌*◌, length, IfOk, IfSome};
-ghost use Rattle.sno_match.specs.Top.{IsTop};
-ghost use Rattle.sno_match.specs.inner.Remaining.{IsStack, IsKnown};
+ghost use Rattle.sno_match.specs.inner.Remaining.{IsStack};
 ghost use Rattle.sno_match.specs.inner.Scopes.{HasCuts};
-ghost use Rattle.sno_match.specs.inner.Move.{EntersParts, HasStep, LeadsOn};
+ghost use Rattle.sno_match.specs.inner.Move.{IsAtTop, EntersParts, LeadsOn};
 
 use crate::goal::{Goal, Mark, Top};
 use crate::points::Points;
@@ -30,14 +29,10 @@ pub(crate) fn first_goal<P: Points>(
     mark: Mark,
     limit: u32,
 ) -> Result<Goal, AllocError>
-    requires known { IsKnown patterns.now goal }
+    requires top { IsAtTop patterns.now goal cursor mark (P.points points.old) }
     requires small { cursor ≤ 4294967295 }
-    requires due { HasStep patterns.now goal mark }
-    requires top { IsTop (P.points points.old) (Top.Open goal cursor mark) }
     requires room { steps.old < limit }
-    ensures known { IfOk result (λ first. IsKnown patterns.now first) }
-    ensures due { IfOk result (λ first. HasStep patterns.now first mark) }
-    ensures top { IfOk result (λ first. IsTop (P.points points.new) (Top.Open first cursor mark)) }
+    ensures top { IfOk result (λ first. IsAtTop patterns.now first cursor mark (P.points points.new)) }
     ensures room { steps.new < limit }
     ensures leads { (s : List ℕ) → IsStack patterns.now s (P.points points.old)
         → HasCuts patterns.now (limit - steps.old) (P.points points.old)
@@ -65,12 +60,11 @@ fn enter_parts<P: Points>(
     cursor: usize,
     limit: u32,
 ) -> Result<PatId, AllocError>
-    requires known { id.0 < length patterns.now }
+    requires top { IsAtTop patterns.now (Goal.Match id) cursor Mark.Enter (P.points points.old) }
     requires small { cursor ≤ 4294967295 }
-    requires top { IsTop (P.points points.old) (Top.Open (Goal.Match id) cursor Mark.Enter) }
     requires room { steps.old < limit }
-    ensures known { IfOk result (λ first. first.0 < length patterns.now) }
-    ensures top { IfOk result (λ first. IsTop (P.points points.new) (Top.Open (Goal.Match first) cursor Mark.Enter)) }
+    ensures top { IfOk result
+        (λ first. IsAtTop patterns.now (Goal.Match first) cursor Mark.Enter (P.points points.new)) }
     ensures room { steps.new < limit }
     ensures leads { (s : List ℕ) → IsStack patterns.now s (P.points points.old)
         → HasCuts patterns.now (limit - steps.old) (P.points points.old)

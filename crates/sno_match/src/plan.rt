@@ -2,8 +2,7 @@
 ghost use Rattle.std.specs.Prelude.{◌≡◌, ◌≤◌, ◌+◌, [], ◌∷◌, length, None, OnOk, OnErr};
 ghost use Rattle.sno_match.specs.Point.{HasFirst, replaced, branched, below};
 ghost use Rattle.sno_match.specs.inner.Plan.{goals_in};
-ghost use Rattle.sno_match.specs.inner.State.{after_move, owed};
-ghost use Rattle.sno_match.specs.inner.Move.{CarriesOut};
+ghost use Rattle.sno_match.specs.inner.Move.{CarriesOut, Costs};
 
 use crate::event::{Event, Pending};
 use crate::goal::Goal;
@@ -57,9 +56,8 @@ pub(crate) fn carry_out<P: Points>(
     requires first { HasFirst (P.points points.old) }
     requires silent { told.old ≡ None }
     ensures ok { OnOk result (CarriesOut plan cursor left (P.points points.old) told.new (P.points points.new)) }
-    ensures records { OnOk result (P.records points.new + owed (after_move told.new) ≤ P.records points.old + 2) }
-    ensures err { OnErr result ((P.points points.new ≡ P.points points.old)
-        × (P.records points.new ≡ P.records points.old)) }
+    ensures costs { Costs result (P.points points.old) (P.records points.old) told.new (P.points points.new)
+        (P.records points.new) }
 {
     match plan {
         Plan::Replace(front, at) => replace_by(points, front, at)?,

@@ -1,14 +1,12 @@
 //! The step of the newest point's first goal: what it comes to is carried out where it is known.
-ghost use Rattle.std.specs.Prelude.{ℕ, ◌≡◌, ◌+◌, ◌<◌, ◌≤◌, [], ◌∷◌, length, Contains, Some, None, OnOk, OnErr};
+ghost use Rattle.std.specs.Prelude.{ℕ, ◌≡◌, ◌+◌, ◌<◌, ◌≤◌, length, Some, None, OnOk};
 ghost use Rattle.sno_pattern.specs.Table.{tree};
 ghost use Rattle.sno_pattern.specs.Shape.{IsPrimitive, end_of};
-ghost use Rattle.sno_pattern.specs.NextEnd.{ends_of};
 ghost use Rattle.sno_pattern.specs.Looks.{AreTrue};
 ghost use Rattle.sno_match.specs.Point.{HasFirst};
-ghost use Rattle.sno_match.specs.inner.Remaining.{IsKnown, MarkFits, HasNext};
+ghost use Rattle.sno_match.specs.inner.Remaining.{IsKnown};
 ghost use Rattle.sno_match.specs.inner.Plan.{end_plan};
-ghost use Rattle.sno_match.specs.inner.State.{after_move, owed};
-ghost use Rattle.sno_match.specs.inner.Move.{Steps, HasStep, IsDueAs, CarriesOut};
+ghost use Rattle.sno_match.specs.inner.Move.{Steps, IsStep, IsCursor, IsReady, IsDueAs, CarriesOut, Costs, EndsAt};
 
 use crate::event::{Event, Pending};
 use crate::goal::{Goal, Mark};
@@ -61,20 +59,14 @@ pub(crate) fn take_step<P: Points>(
     mark: Mark,
     left: u32,
 ) -> Result<(), AllocError>
-    requires known { IsKnown patterns.now goal }
-    requires next { MarkFits patterns.now subject.now mark (goal ∷ []) cursor }
-    requires due { HasStep patterns.now goal mark }
-    requires inside { cursor ≤ length subject.now }
-    requires small { length subject.now ≤ 4294967295 }
-    requires looks { AreTrue patterns.now subject.now looks.old }
-    requires first { HasFirst (P.points points.old) }
-    requires silent { told.old ≡ None }
+    requires step { IsStep patterns.now subject.now goal cursor mark }
+    requires inside { IsCursor subject.now cursor }
+    requires ready { IsReady patterns.now subject.now looks.old (P.points points.old) told.old }
     ensures looks { AreTrue patterns.now subject.now looks.new }
     ensures ok { OnOk result (Steps patterns.now subject.now goal cursor mark left
         (P.points points.old) told.new (P.points points.new)) }
-    ensures records { OnOk result (P.records points.new + owed (after_move told.new) ≤ P.records points.old + 2) }
-    ensures err { OnErr result ((P.points points.new ≡ P.points points.old)
-        × (P.records points.new ≡ P.records points.old)) }
+    ensures costs { Costs result (P.points points.old) (P.records points.old) told.new (P.points points.new)
+        (P.records points.new) }
 {
     match mark {
         Mark::Enter => enter_goal(points, told, patterns, looks, subject, goal, cursor, left),
@@ -103,17 +95,13 @@ fn enter_goal<P: Points>(
     left: u32,
 ) -> Result<(), AllocError>
     requires known { IsKnown patterns.now goal }
-    requires inside { cursor ≤ length subject.now }
-    requires small { length subject.now ≤ 4294967295 }
-    requires looks { AreTrue patterns.now subject.now looks.old }
-    requires first { HasFirst (P.points points.old) }
-    requires silent { told.old ≡ None }
+    requires inside { IsCursor subject.now cursor }
+    requires ready { IsReady patterns.now subject.now looks.old (P.points points.old) told.old }
     ensures looks { AreTrue patterns.now subject.now looks.new }
     ensures ok { OnOk result (Steps patterns.now subject.now goal cursor Mark.Enter left
         (P.points points.old) told.new (P.points points.new)) }
-    ensures records { OnOk result (P.records points.new + owed (after_move told.new) ≤ P.records points.old + 2) }
-    ensures err { OnErr result ((P.points points.new ≡ P.points points.old)
-        × (P.records points.new ≡ P.records points.old)) }
+    ensures costs { Costs result (P.points points.old) (P.records points.old) told.new (P.points points.new)
+        (P.records points.new) }
 {
     match goal {
         Goal::Match(id) => enter_pattern(points, told, patterns, looks, subject, id, cursor, left),
@@ -156,17 +144,13 @@ fn enter_pattern<P: Points>(
     left: u32,
 ) -> Result<(), AllocError>
     requires known { id.0 < length patterns.now }
-    requires inside { cursor ≤ length subject.now }
-    requires small { length subject.now ≤ 4294967295 }
-    requires looks { AreTrue patterns.now subject.now looks.old }
-    requires first { HasFirst (P.points points.old) }
-    requires silent { told.old ≡ None }
+    requires inside { IsCursor subject.now cursor }
+    requires ready { IsReady patterns.now subject.now looks.old (P.points points.old) told.old }
     ensures looks { AreTrue patterns.now subject.now looks.new }
     ensures ok { OnOk result (Steps patterns.now subject.now (Goal.Match id) cursor Mark.Enter left
         (P.points points.old) told.new (P.points points.new)) }
-    ensures records { OnOk result (P.records points.new + owed (after_move told.new) ≤ P.records points.old + 2) }
-    ensures err { OnErr result ((P.points points.new ≡ P.points points.old)
-        × (P.records points.new ≡ P.records points.old)) }
+    ensures costs { Costs result (P.points points.old) (P.records points.old) told.new (P.points points.new)
+        (P.records points.new) }
 {
     match patterns.shape(id) {
         Shape::Primitive => enter_primitive(
@@ -215,9 +199,8 @@ fn stay_and_go_on<P: Points>(
     requires silent { told.old ≡ None }
     ensures ok { OnOk result (CarriesOut (Plan.Branch Front.Nothing cursor cursor) cursor left
         (P.points points.old) told.new (P.points points.new)) }
-    ensures records { OnOk result (P.records points.new + owed (after_move told.new) ≤ P.records points.old + 2) }
-    ensures err { OnErr result ((P.points points.new ≡ P.points points.old)
-        × (P.records points.new ≡ P.records points.old)) }
+    ensures costs { Costs result (P.points points.old) (P.records points.old) told.new (P.points points.new)
+        (P.records points.new) }
 {
     let plan = Plan::Branch(Front::Nothing, cursor, cursor);
     carry_out(points, told, plan, cursor, left)
@@ -238,15 +221,12 @@ fn enter_primitive<P: Points>(
     requires known { id.0 < length patterns.now }
     requires primitive { IsPrimitive (tree patterns.now id.0) }
     requires inside { cursor ≤ length subject.now }
-    requires looks { AreTrue patterns.now subject.now looks.old }
-    requires first { HasFirst (P.points points.old) }
-    requires silent { told.old ≡ None }
+    requires ready { IsReady patterns.now subject.now looks.old (P.points points.old) told.old }
     ensures looks { AreTrue patterns.now subject.now looks.new }
     ensures ok { OnOk result (Steps patterns.now subject.now (Goal.Match id) cursor Mark.Enter left
         (P.points points.old) told.new (P.points points.new)) }
-    ensures records { OnOk result (P.records points.new + owed (after_move told.new) ≤ P.records points.old + 2) }
-    ensures err { OnErr result ((P.points points.new ≡ P.points points.old)
-        × (P.records points.new ≡ P.records points.old)) }
+    ensures costs { Costs result (P.points points.old) (P.records points.old) told.new (P.points points.new)
+        (P.records points.new) }
 {
     match patterns.look(looks, id, subject, cursor) {
         None => carry_out(points, told, Plan::Fail, cursor, left),
@@ -275,20 +255,14 @@ fn take_next<P: Points>(
     at: usize,
     left: u32,
 ) -> Result<(), AllocError>
-    requires known { id.0 < length patterns.now }
-    requires next { HasNext (tree patterns.now id.0) subject.now cursor at }
-    requires due { HasStep patterns.now (Goal.Match id) (Mark.Next at) }
-    requires inside { cursor ≤ length subject.now }
-    requires small { length subject.now ≤ 4294967295 }
-    requires looks { AreTrue patterns.now subject.now looks.old }
-    requires first { HasFirst (P.points points.old) }
-    requires silent { told.old ≡ None }
+    requires step { IsStep patterns.now subject.now (Goal.Match id) cursor (Mark.Next at) }
+    requires inside { IsCursor subject.now cursor }
+    requires ready { IsReady patterns.now subject.now looks.old (P.points points.old) told.old }
     ensures looks { AreTrue patterns.now subject.now looks.new }
     ensures ok { OnOk result (Steps patterns.now subject.now (Goal.Match id) cursor (Mark.Next at) left
         (P.points points.old) told.new (P.points points.new)) }
-    ensures records { OnOk result (P.records points.new + owed (after_move told.new) ≤ P.records points.old + 2) }
-    ensures err { OnErr result ((P.points points.new ≡ P.points points.old)
-        × (P.records points.new ≡ P.records points.old)) }
+    ensures costs { Costs result (P.points points.old) (P.records points.old) told.new (P.points points.new)
+        (P.records points.new) }
 {
     match patterns.shape(id) {
         Shape::Primitive => take_end(points, told, patterns, looks, subject, id, cursor, at, left),
@@ -319,19 +293,15 @@ fn take_end<P: Points>(
     end: usize,
     left: u32,
 ) -> Result<(), AllocError>
-    requires known { id.0 < length patterns.now }
     requires inside { cursor ≤ length subject.now }
-    requires end { Contains (ends_of (tree patterns.now id.0) subject.now cursor) end }
-    requires looks { AreTrue patterns.now subject.now looks.old }
-    requires first { HasFirst (P.points points.old) }
-    requires silent { told.old ≡ None }
+    requires end { EndsAt patterns.now subject.now id cursor end }
+    requires ready { IsReady patterns.now subject.now looks.old (P.points points.old) told.old }
     ensures looks { AreTrue patterns.now subject.now looks.new }
     ensures ok { (i : ℕ) → end_of (tree patterns.now id.0) subject.now cursor i ≡ Some end
         → OnOk result (CarriesOut (end_plan end (end_of (tree patterns.now id.0) subject.now cursor (i + 1)))
         cursor left (P.points points.old) told.new (P.points points.new)) }
-    ensures records { OnOk result (P.records points.new + owed (after_move told.new) ≤ P.records points.old + 2) }
-    ensures err { OnErr result ((P.points points.new ≡ P.points points.old)
-        × (P.records points.new ≡ P.records points.old)) }
+    ensures costs { Costs result (P.points points.old) (P.records points.old) told.new (P.points points.new)
+        (P.records points.new) }
 {
     match patterns.look_behind(looks, id, subject, cursor, end) {
         None => carry_out(

@@ -3,12 +3,11 @@ use Rattle.std.proofs.Common.{◌≡◌, ℕ, zero, suc, ◌+◌, ◌<◌, ◌�
 use Rattle.std.proofs.Common.{slice_get, Bool, true, false, ◌&&◌, ◌↔◌, IsTrue, ◌⊎◌, inl, inr, ⊎_elim}
 use Rattle.std.proofs.Math.ListN.{get_or-append}
 use Rattle.std.proofs.Math.Seq.{get_or-append_seam}
-use Rattle.sno_pattern.specs.Pattern.{Pattern, Cut, Arbno, Cond, Imm}
+use Rattle.sno_pattern.specs.Pattern.{Pattern, Cut, Arbno, Cond, Imm, IsQuiet}
 use Rattle.sno_pattern.specs.Table.{Node, LeafNode, FenceNode, CutNode, AbortNode, SucceedNode, ArbnoNode, AltNode, CatNode, CondNode, ImmNode, PlaceNode}
 use Rattle.sno_pattern.specs.Table.{DeferNode, tree_over, trees_onto, tree, no_pattern}
 use Rattle.sno_pattern.specs.inner.Table.{AllParts, PartsBelow}
 use Rattle.sno_pattern.specs.Built.{Appends}
-use Rattle.sno_pattern.specs.Quiet.{IsQuiet}
 use Rattle.sno_pattern.specs.inner.Kinds.{node_of, nodes_of, flags_of, quiet_over, IsTable}
 use Rattle.sno_pattern.specs.declared.kind.Kind.{Kind}
 use Rattle.sno_pattern.specs.declared.kind.Entry.{Entry}

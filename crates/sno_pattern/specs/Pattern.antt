@@ -1,4 +1,4 @@
--- Pattern trees.
+-- Pattern trees, and which of them are quiet.
 use Rattle.std.specs.Prelude.{ℕ, List, Option}
 use Rattle.sno_value.specs.declared.value.Name.{Name}
 use Rattle.sno_value.specs.declared.kind.PrimitiveKind.{PrimitiveKind}
@@ -39,3 +39,16 @@ pub data Pattern : Type 0 where
   Place : (target : Name) → Pattern
   -- *E, or a primitive with the argument *E
   Defer : (primitive : Option PrimitiveKind) (expression : ℕ) → Pattern
+
+-- Matching a quiet pattern asks for nothing, and cuts nothing off but what a FENCE(P) cuts off of its own P: it has no
+-- deferred part, bare FENCE, ABORT or SUCCEED, also not inside a FENCE(P).
+abbrev pub IsQuiet : Pattern → Type 0
+IsQuiet (Leaf a) = Unit {0}
+IsQuiet (Cut p) = IsQuiet p
+IsQuiet (Arbno p) = IsQuiet p
+IsQuiet (Alt p q) = IsQuiet p × IsQuiet q
+IsQuiet (Cat p q) = IsQuiet p × IsQuiet q
+IsQuiet (Cond p target) = IsQuiet p
+IsQuiet (Imm p target) = IsQuiet p
+IsQuiet (Place target) = Unit {0}
+IsQuiet p = ⊥

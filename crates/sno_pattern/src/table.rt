@@ -3,7 +3,7 @@ ghost use Rattle.std.specs.Prelude.{◌≡◌, ℕ, ◌+◌, ◌<◌, ◌≤◌,
 ghost use Rattle.std.specs.Prelude.{Some, None, IfOk, IfErr};
 ghost use Rattle.std.specs.Prelude.{IfSome, OnOk, OnErr, IsErrOf, IsTrue, Contains, false};
 ghost use Rattle.sno_pattern.specs.Pattern.{Text, Arb, Bal, Rem, Fail, Leaf, Fence, Cut, Abort, Succeed, Arbno, Alt};
-ghost use Rattle.sno_pattern.specs.Pattern.{Cat, Cond, Imm, Place, Defer};
+ghost use Rattle.sno_pattern.specs.Pattern.{Cat, Cond, Imm, Place, Defer, IsQuiet};
 ghost use Rattle.sno_pattern.specs.Shape.{HasShape, IsPrimitive, end_of};
 ghost use Rattle.sno_pattern.specs.Table.{tree, tree_over, trees_onto, LeafNode, FenceNode, AbortNode, SucceedNode};
 ghost use Rattle.sno_pattern.specs.Table.{CutNode, ArbnoNode, AltNode, CatNode, CondNode, ImmNode, PlaceNode};
@@ -11,7 +11,6 @@ ghost use Rattle.sno_pattern.specs.Table.{DeferNode};
 ghost use Rattle.sno_pattern.specs.inner.Table.{PartsBelow};
 ghost use Rattle.sno_pattern.specs.Arguments.{IsArgOf, IsNullSet, IsBadCount, IsGoodArg, primitive_of};
 ghost use Rattle.sno_pattern.specs.Built.{Appends, Builds};
-ghost use Rattle.sno_pattern.specs.Quiet.{IsQuiet};
 ghost use Rattle.sno_pattern.specs.NextEnd.{ends_of, next_end};
 ghost use Rattle.sno_pattern.specs.Places.{IsFirstPlace, has_end, IsAmong, BeginsAmong};
 ghost use Rattle.sno_pattern.specs.Looks.{AreTrue};

@@ -14,8 +14,7 @@ use Rattle.sno_runtime.specs.Action.{Ending, Got, Fails, Stops, Outcome, Action,
 use Rattle.sno_runtime.specs.Runtime.{Runtime, world}
 use Rattle.sno_runtime.specs.inner.Runtime.{untouched}
 use Rattle.sno_match.specs.Search.{Event}
-use Rattle.sno_match.specs.Events.{in_trace}
-use Rattle.sno_match.specs.Within.{IsWithin}
+use Rattle.sno_match.specs.Matching.{in_trace, IsWithin}
 use Rattle.sno_match.specs.declared.event.Event.{Event as Told}
 use Rattle.sno_match.specs.declared.event.Event.TheVariants as V
 use Rattle.sno_match.specs.declared.event.Pending.{Pending}

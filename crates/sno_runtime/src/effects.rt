@@ -2,8 +2,7 @@
 ghost use Rattle.std.specs.Prelude.{◌≡◌, ◌≤◌, ◌++◌, [], List, codes, length, false, true, OnErr, OnOk};
 ghost use Rattle.sno_io.specs.Devices.{TakesBytes};
 ghost use Rattle.sno_pattern.specs.Table.{Node};
-ghost use Rattle.sno_match.specs.Events.{in_trace};
-ghost use Rattle.sno_match.specs.Within.{IsWithin};
+ghost use Rattle.sno_match.specs.Matching.{in_trace, IsWithin};
 ghost use Rattle.sno_runtime.specs.Values.{shown, IsValueOf};
 ghost use Rattle.sno_runtime.specs.Variables.{assigns, is_output, text_of};
 ghost use Rattle.sno_runtime.specs.Effects.{effect};

@@ -1,6 +1,6 @@
 //! The lines that `ways` writes.
 ghost use Rattle.std.specs.Prelude.{◌≡◌, ◌++◌, IfOk, OnOk, codes, string_bytes};
-ghost use Rattle.sno_match.specs.Events.{in_trace};
+ghost use Rattle.sno_match.specs.Matching.{in_trace};
 ghost use Rattle.sno_runtime.specs.Variables.{text_of_name};
 ghost use Rattle.sno_runtime.specs.Lines.{line_of, pending_part, pending_parts};
 

@@ -15,7 +15,7 @@ use Rattle.sno_text.specs.Refusals.{IsAccepted}
 use Rattle.sno_match.specs.declared.event.Pending.{Pending}
 use Rattle.sno_match.specs.declared.event.Event.{Event as Told}
 use Rattle.sno_match.specs.declared.event.Event.TheVariants as V
-use Rattle.sno_match.specs.Events.{in_trace, is_last, is_value}
+use Rattle.sno_match.specs.Matching.{in_trace, is_last, is_value}
 use Rattle.sno_match.specs.Search.{Value, Answer, trace}
 use Rattle.sno_runtime.specs.declared.stops.Exit.{Exit}
 use Rattle.sno_runtime.specs.declared.stops.Exit.TheVariants.{Failure, Halt}

@@ -1,8 +1,7 @@
 -- The event of a match that is told next.
 use Rattle.std.proofs.Common.{◌≡◌, ◌-◌, arith, Bool, true, false, ◌||◌, refl, Some, slice_get}
 use Rattle.sno_match.specs.declared.event.Event.{Event as Told}
-use Rattle.sno_match.specs.Events.{in_trace}
-use Rattle.sno_match.specs.Matching.{Matching, SameMatch, IsTold, trace_of}
+use Rattle.sno_match.specs.Matching.{in_trace, Matching, SameMatch, IsTold, trace_of}
 
 pub told_next : (old new : Matching) (event : Told) → SameMatch old new → IsTold old new event → old.ended ≡ false → slice_get (trace_of old) old.told
     ≡ Some (in_trace event new.way, new.steps)

@@ -1,8 +1,7 @@
 //! The listing of the events of a match.
 ghost use Rattle.std.specs.Prelude.{◌≡◌, ◌<◌, ◌≤◌, [], false, true, length, OnOk};
 ghost use Rattle.sno_pattern.specs.Table.{tree};
-ghost use Rattle.sno_match.specs.Events.{in_trace};
-ghost use Rattle.sno_match.specs.Within.{IsWithin};
+ghost use Rattle.sno_match.specs.Matching.{in_trace, IsWithin};
 ghost use Rattle.sno_runtime.specs.Effects.{listed};
 ghost use Rattle.sno_runtime.specs.inner.Performs.{Performs};
 ghost use Rattle.sno_runtime.specs.Runtime.{itself};

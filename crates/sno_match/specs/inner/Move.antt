@@ -1,12 +1,16 @@
 -- What a move of the matcher does to the searches still to come. These words are private to the matcher.
-use Rattle.std.specs.Prelude.{ℕ, ◌≡◌, ◌<◌, ◌≤◌, ◌+◌, ◌-◌, ◌*◌, List, [], ◌∷◌, Option, None, Some, length}
+use Rattle.std.specs.Prelude.{ℕ, ◌≡◌, ◌<◌, ◌≤◌, ◌+◌, ◌-◌, ◌*◌, List, [], ◌∷◌, Option, None, Some, Result, length}
+use Rattle.std.specs.Prelude.{Contains, Ok, Err, OnOk, OnErr}
 use Rattle.sno_value.specs.declared.ids.PatId.{PatId}
 use Rattle.sno_pattern.specs.Pattern.{Pattern, Fence, Cut}
 use Rattle.sno_pattern.specs.Table.{Node, tree}
+use Rattle.sno_pattern.specs.Looks.{Found, AreTrue}
+use Rattle.sno_pattern.specs.NextEnd.{ends_of}
 use Rattle.sno_match.specs.declared.goal.Goal.{Goal}
 use Rattle.sno_match.specs.declared.goal.Goal.TheVariants.{Match, CloseCut}
 use Rattle.sno_match.specs.declared.goal.Mark.{Mark}
 use Rattle.sno_match.specs.declared.goal.Mark.TheVariants.{Enter, Next}
+use Rattle.sno_match.specs.declared.goal.Top.TheVariants.{Open}
 use Rattle.sno_match.specs.declared.event.Event.{Event as Told}
 use Rattle.sno_match.specs.declared.event.Event.TheVariants as V
 use Rattle.sno_match.specs.declared.event.Pending.{Pending}
@@ -16,13 +20,14 @@ use Rattle.sno_match.specs.declared.plan.Front.TheVariants.{Two}
 use Rattle.sno_match.specs.declared.plan.Plan.{Plan}
 use Rattle.sno_match.specs.declared.plan.Plan.TheVariants as P
 use Rattle.sno_match.specs.Search.{Event, Answer, Gives, Search, emit}
-use Rattle.sno_match.specs.Events.{in_trace, cost, pending_after}
-use Rattle.sno_match.specs.Point.{Point, with_front, replaced, branched, closed, cut_back, below}
-use Rattle.sno_match.specs.inner.State.{verdict_of, after_move, HasAsked}
+use Rattle.sno_match.specs.Matching.{in_trace, cost, pending_after}
+use Rattle.sno_match.specs.Point.{Point, HasFirst, with_front, replaced, branched, closed, cut_back, below}
+use Rattle.sno_match.specs.Top.{IsTop}
+use Rattle.sno_match.specs.inner.State.{verdict_of, after_move, owed, HasAsked}
 use Rattle.sno_match.specs.declared.steps.Due.{Due}
 use Rattle.sno_match.specs.declared.steps.Due.TheVariants as D
 use Rattle.sno_match.specs.inner.Plan.{goals_in, IsPlan, KeepsScopes}
-use Rattle.sno_match.specs.inner.Remaining.{remaining, waiting, IsStack}
+use Rattle.sno_match.specs.inner.Remaining.{remaining, waiting, IsKnown, IsStack, MarkFits}
 use Rattle.sno_match.specs.inner.Scopes.{HasCuts}
 use Rattle.sno_match.specs.inner.Starts.{FailsAt}
 
@@ -112,6 +117,51 @@ abbrev pub HasStep : List Node → Goal → Mark → Type 0
 HasStep nodes goal Enter = Unit {0}
 HasStep nodes (Match id) (Next at) = (tree nodes id.0 ≡ Fence → ⊥) × ((p : Pattern) → tree nodes id.0 ≡ Cut p → ⊥)
 HasStep nodes goal (Next at) = Unit {0}
+
+-- the step of a goal at a cursor: the goal is of the table, its next alternative fits, and a step is due
+pub record IsStep (nodes : List Node) (s : List ℕ) (goal : Goal) (c : ℕ) (mark : Mark) : Type 0 where
+  pub known : IsKnown nodes goal
+  pub next : MarkFits nodes s mark (goal ∷ []) c
+  pub due : HasStep nodes goal mark
+
+-- the newest point begins with this goal of the table, and a step is due at it
+pub record IsAtTop (nodes : List Node) (goal : Goal) (c : ℕ) (mark : Mark) (points : List Point) : Type 0 where
+  pub known : IsKnown nodes goal
+  pub due : HasStep nodes goal mark
+  pub top : IsTop points (Open goal c mark)
+
+-- what a move keeps of a match: the stack and its cuts, the steps within their limit, what was found of the subject,
+-- and that the subject's length has 32 bits
+pub record Stands (nodes : List Node) (s : List ℕ) (found : Found) (limit steps : ℕ) (points : List Point)
+    : Type 0 where
+  pub stack : IsStack nodes s points
+  pub cuts : HasCuts nodes (limit - steps) points
+  pub steps_in : steps ≤ limit
+  pub looks : AreTrue nodes s found
+  pub small : length s ≤ 4294967295
+
+-- what a move that ends so leaves of its records to an answer
+abbrev pub owed_by : {E : Type 0} → Result (Option Told) E → ℕ
+owed_by (Ok told) = owed (after_move told)
+owed_by (Err e) = 0
+
+-- the cursor lies within the subject, whose length has 32 bits
+abbrev pub IsCursor : List ℕ → ℕ → Type 0
+IsCursor s c = (c ≤ length s) × (length s ≤ 4294967295)
+
+-- a primitive of the table ends there
+abbrev pub EndsAt : List Node → List ℕ → PatId → ℕ → ℕ → Type 0
+EndsAt nodes s id c end = (id.0 < length nodes) × Contains (ends_of (tree nodes id.0) s c) end
+
+-- the newest point has a goal, no event is told, and what was found of the subject is true
+abbrev pub IsReady : List Node → List ℕ → Found → List Point → Option Told → Type 0
+IsReady nodes s found points told = AreTrue nodes s found × HasFirst points × (told ≡ None)
+
+-- a step takes two records at most, and leaves one of them to an answer that is owed; where memory is refused nothing
+-- has changed
+abbrev pub Costs : {T E : Type 0} → Result T E → List Point → ℕ → Option Told → List Point → ℕ → Type 0
+Costs result old records0 told new records =
+    OnOk result (records + owed (after_move told) ≤ records0 + 2) × OnErr result ((new ≡ old) × (records ≡ records0))
 
 -- what is due at a point
 abbrev pub IsDueAs : List Node → Goal → Mark → Due → Type 0

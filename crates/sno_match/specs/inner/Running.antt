@@ -8,13 +8,12 @@ use Rattle.sno_match.specs.declared.event.Event.{Event as Told}
 use Rattle.sno_match.specs.declared.event.Pending.{Pending}
 use Rattle.sno_match.specs.declared.engine.State.{State}
 use Rattle.sno_match.specs.declared.engine.State.TheVariants as S
-use Rattle.sno_match.specs.Events.{last_pending, last_count}
+use Rattle.sno_match.specs.Matching.{last_pending, last_count, Matching, answers_of, SameMatch, StaysAt, IsTold}
 use Rattle.sno_match.specs.Search.{Match, Event, Answer, Search, Gives, emit, further, search, whole}
 use Rattle.sno_match.specs.Point.{Point}
 use Rattle.sno_match.specs.inner.State.{verdict_of, waits, ended, over, owed, LastIn, HasAsked}
 use Rattle.sno_match.specs.inner.Remaining.{remaining, waiting, IsStack}
 use Rattle.sno_match.specs.inner.Scopes.{HasCuts}
-use Rattle.sno_match.specs.Matching.{Matching, answers_of, SameMatch, StaysAt, IsTold}
 
 -- the starts behind this one
 abbrev pub later_starts : Bool → List ℕ → ℕ → List ℕ

@@ -4,7 +4,7 @@ use Rattle.sno_match.specs.declared.event.Event.{Event as Told}
 use Rattle.sno_match.specs.declared.event.Event.TheVariants as V
 use Rattle.sno_match.specs.declared.engine.State.{State}
 use Rattle.sno_match.specs.declared.engine.State.TheVariants as S
-use Rattle.sno_match.specs.Events.{is_last}
+use Rattle.sno_match.specs.Matching.{is_last}
 use Rattle.sno_match.specs.Search.{Verdict, Exhausted, Aborted, Limit}
 use Rattle.sno_match.specs.Point.{Point, HasFirst}
 use Rattle.sno_match.specs.inner.Scopes.{FirstIsPlain}

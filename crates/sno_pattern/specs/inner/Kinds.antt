@@ -1,8 +1,7 @@
 -- The nodes that the stored kinds stand for, and what a table keeps of them. Private contracts alone cite it.
 use Rattle.std.specs.Prelude.{ℕ, ◌<◌, ◌≤◌, Bool, true, false, ◌&&◌, ◌↔◌, List, length, map, get_or, None, Some, IsTrue}
 use Rattle.sno_pattern.specs.Pattern.{Text, Len, Pos, Rpos, Tab, Rtab, Any, NotAny, Span, Break, BreakX, Arb, Bal, Rem}
-use Rattle.sno_pattern.specs.Pattern.{Fail}
-use Rattle.sno_pattern.specs.Quiet.{IsQuiet}
+use Rattle.sno_pattern.specs.Pattern.{Fail, IsQuiet}
 use Rattle.sno_pattern.specs.Table.{Node, LeafNode, FenceNode, CutNode, AbortNode, SucceedNode, ArbnoNode, AltNode}
 use Rattle.sno_pattern.specs.Table.{CatNode, CondNode, ImmNode, PlaceNode, DeferNode, tree}
 use Rattle.sno_pattern.specs.inner.Table.{AllParts}

@@ -18,15 +18,19 @@ returns-in-Some g c =
     let new = g.P.Points.points c.pop.new.self in
     let steps = c.first_goal.new.steps in
     let vain = c.in-Some.vain in
-    let top = c.in_ok-first.ensures.top in
-    let leads = c.first_goal.ensures.leads s c.requires.stack c.requires.cuts in
+    let top = c.in_ok-first.ensures.top.top in
+    let leads = c.first_goal.ensures.leads s c.requires.stands.stack c.requires.stands.cuts in
     let stack = laws.below-kept nodes s mid leads.stack.fit leads.stack.marked in
     let cuts = cuts-later nodes (c.args.limit - (steps + vain)) (c.args.limit - steps) (below mid) (omega arith)
     (cuts-below nodes (c.args.limit - steps) mid leads.cuts) in
     record {
-      looks = c.requires.looks;
-      stack = rw c.pop.ensures.points stack;
-      cuts = rw c.pop.ensures.points cuts;
+      stands = record {
+        stack = rw c.pop.ensures.points stack;
+        cuts = rw c.pop.ensures.points cuts;
+        steps_in = omega (arith, c.in-Some.ensures.near);
+        looks = c.requires.stands.looks;
+        small = c.requires.stands.small;
+      };
       ok = λ start way.
           parts.move_behind nodes s c.args.limit old mid new c.args.steps.now steps (steps + vain) start way way None leads
           (laws.vain_at nodes s mid c.in_ok-first.first top.0 c.args.cursor top.1 c.args.mark top.2 top.3
@@ -34,7 +38,6 @@ returns-in-Some g c =
           c.in-Some.ensures.fails new c.pop.ensures.points);
       records = omega (arith, c.pop.ensures.records, c.first_goal.ensures.records);
       err = tt;
-      few = tt;
     }
 
 pub returns : goal.returns
@@ -46,60 +49,74 @@ returns g c =
     let new = g.P.Points.points c.take_step.new.points in
     let steps = c.first_goal.new.steps in
     let due : steps < c.args.limit = c.first_goal.ensures.room in
-    let top = c.in_ok-first.ensures.top in
-    let leads = c.first_goal.ensures.leads s c.requires.stack c.requires.cuts in
+    let top = c.in_ok-first.ensures.top.top in
+    let leads = c.first_goal.ensures.leads s c.requires.stands.stack c.requires.stands.cuts in
     let step = c.in_ok-take_step.ensures.ok in
     let left = c.args.limit - steps - 1 in
     let behind : c.args.limit - steps - 1 ≡ c.args.limit - (steps + 1) = omega arith in
     record {
-      looks = c.take_step.ensures.looks;
-      cuts = laws.cuts_at nodes s mid c.in_ok-first.first top.0 c.args.cursor top.1 c.args.mark top.2 top.3 0 c.args.limit steps [] due left behind
-          leads.cuts step.plan c.take_step.new.told new step.is_plan step.scopes step.carried;
-      stack = laws.stack_at nodes s mid c.in_ok-first.first top.0 c.args.cursor top.1 c.args.mark top.2 top.3 left step.plan c.take_step.new.told new
-          leads.stack step.is_plan step.carried;
+      stands = record {
+        cuts = laws.cuts_at nodes s mid c.in_ok-first.first top.0 c.args.cursor top.1 c.args.mark top.2 top.3 0 c.args.limit steps [] due left behind
+            leads.cuts step.plan c.take_step.new.told new step.is_plan step.scopes step.carried;
+        stack = laws.stack_at nodes s mid c.in_ok-first.first top.0 c.args.cursor top.1 c.args.mark top.2 top.3 left step.plan c.take_step.new.told new
+            leads.stack step.is_plan step.carried;
+        steps_in = omega (arith, due);
+        looks = c.take_step.ensures.looks;
+        small = c.requires.stands.small;
+      };
       ok = λ start way.
           parts.move_behind nodes s c.args.limit old mid new c.args.steps.now steps (steps + 1) start way way c.take_step.new.told leads
           (laws.made_at nodes s mid c.in_ok-first.first top.0 c.args.cursor top.1 c.args.mark top.2 top.3 start c.args.limit steps way due left behind
           leads.cuts step.plan c.take_step.new.told new step.is_plan step.scopes step.carried leads.stack.marked);
-      records = omega (arith, c.in_ok-take_step.ensures.records, c.first_goal.ensures.records);
+      records = omega (arith, c.in_ok-take_step.ensures.costs.0, c.first_goal.ensures.records);
       err = tt;
-      few = tt;
     }
 
-pub take_step-requires-clause-next : goal.take_step-requires-clause-next
-take_step-requires-clause-next g c =
+pub take_step-requires-clause-step : goal.take_step-requires-clause-step
+take_step-requires-clause-step g c =
     let nodes = c.args.patterns.now in
     let s = c.args.subject.now in
     let mid = g.P.Points.points c.first_goal.new.points in
-    let top = c.in_ok-first.ensures.top in
-    let leads = c.first_goal.ensures.leads s c.requires.stack c.requires.cuts in
+    let top = c.in_ok-first.ensures.top.top in
+    let leads = c.first_goal.ensures.leads s c.requires.stands.stack c.requires.stands.cuts in
     let fits = laws.fits_at nodes s mid c.in_ok-first.first top.0 c.args.cursor top.1 c.args.mark top.2 top.3 leads.stack in
-    parts.fits_alone nodes s c.args.cursor c.args.mark c.in_ok-first.first top.0 fits.next
+    record {
+      known = c.in_ok-first.ensures.top.known;
+      next = parts.fits_alone nodes s c.args.cursor c.args.mark c.in_ok-first.first top.0 fits.next;
+      due = c.in_ok-first.ensures.top.due;
+    }
 
-pub returns-in_err-first-clause-stack : goal.returns-in_err-first-clause-stack
-returns-in_err-first-clause-stack g c = (c.first_goal.ensures.leads c.args.subject.now c.requires.stack c.requires.cuts).stack
-
-pub returns-in_err-first-clause-cuts : goal.returns-in_err-first-clause-cuts
-returns-in_err-first-clause-cuts g c = (c.first_goal.ensures.leads c.args.subject.now c.requires.stack c.requires.cuts).cuts
+pub returns-in_err-first-clause-stands : goal.returns-in_err-first-clause-stands
+returns-in_err-first-clause-stands g c =
+    let leads = c.first_goal.ensures.leads c.args.subject.now c.requires.stands.stack c.requires.stands.cuts in
+    record {
+      stack = leads.stack;
+      cuts = leads.cuts;
+      steps_in = leads.steps_in;
+      looks = c.requires.stands.looks;
+      small = c.requires.stands.small;
+    }
 
 pub returns-in_err-first-clause-err : goal.returns-in_err-first-clause-err
 returns-in_err-first-clause-err g c =
     let p = err_from_is_err_and c.from_residual.result c.from_residual.ensures.1 in
-    rw p.1 (c.first_goal.ensures.leads c.args.subject.now c.requires.stack c.requires.cuts)
+    rw p.1 (c.first_goal.ensures.leads c.args.subject.now c.requires.stands.stack c.requires.stands.cuts)
 
-pub returns-in_err-take_step-clause-stack : goal.returns-in_err-take_step-clause-stack
-returns-in_err-take_step-clause-stack g c =
-    let leads = c.first_goal.ensures.leads c.args.subject.now c.requires.stack c.requires.cuts in
-    subst (IsStack c.args.patterns.now c.args.subject.now) (sym c.in_err-take_step.ensures.err.0) leads.stack
-
-pub returns-in_err-take_step-clause-cuts : goal.returns-in_err-take_step-clause-cuts
-returns-in_err-take_step-clause-cuts g c =
-    let leads = c.first_goal.ensures.leads c.args.subject.now c.requires.stack c.requires.cuts in
-    subst (HasCuts c.args.patterns.now (c.args.limit - c.first_goal.new.steps)) (sym c.in_err-take_step.ensures.err.0) leads.cuts
+pub returns-in_err-take_step-clause-stands : goal.returns-in_err-take_step-clause-stands
+returns-in_err-take_step-clause-stands g c =
+    let leads = c.first_goal.ensures.leads c.args.subject.now c.requires.stands.stack c.requires.stands.cuts in
+    let same = sym c.in_err-take_step.ensures.costs.1.0 in
+    record {
+      stack = subst (IsStack c.args.patterns.now c.args.subject.now) same leads.stack;
+      cuts = subst (HasCuts c.args.patterns.now (c.args.limit - c.first_goal.new.steps)) same leads.cuts;
+      steps_in = leads.steps_in;
+      looks = c.take_step.ensures.looks;
+      small = c.requires.stands.small;
+    }
 
 pub returns-in_err-take_step-clause-err : goal.returns-in_err-take_step-clause-err
 returns-in_err-take_step-clause-err g c =
     let p = err_from_is_err_and c.from_residual-in_err-take_step.result c.from_residual-in_err-take_step.ensures.1 in
-    let leads = c.first_goal.ensures.leads c.args.subject.now c.requires.stack c.requires.cuts in
+    let leads = c.first_goal.ensures.leads c.args.subject.now c.requires.stands.stack c.requires.stands.cuts in
     rw p.1 (subst (λ (points : List Point). LeadsOn c.args.patterns.now c.args.subject.now c.args.limit (g.P.Points.points c.args.points.now) c.args.steps.now
-    points c.first_goal.new.steps) (sym c.in_err-take_step.ensures.err.0) leads)
+    points c.first_goal.new.steps) (sym c.in_err-take_step.ensures.costs.1.0) leads)

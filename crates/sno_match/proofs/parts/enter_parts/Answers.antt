@@ -6,7 +6,6 @@ use Rattle.sno_match.proofs.parts.enter_parts.Goals as goal
 
 pub parts-init : goal.parts-init
 parts-init g c = record {
-  known = c.requires.known;
   top = c.requires.top;
   room = c.requires.room;
   leads = λ s st cuts. laws.no_step c.args.patterns.now s c.args.limit (g.P.Points.points c.args.points.now) c.args.steps.now
@@ -24,14 +23,17 @@ parts-preserved g c =
     let is = c.in_ok-replace.ensures.ok in
     let room : c.parts.steps < c.args.limit = i.room in
     record {
-      known = enters.known;
-      top = laws.part_top nodes old new c.parts.id c.in-Some.parts.first c.in-Some.parts.second c.args.cursor i.top is;
+      top = record {
+        known = enters.known;
+        due = tt;
+        top = laws.part_top nodes old new c.parts.id c.in-Some.parts.first c.in-Some.parts.second c.args.cursor i.top.top is;
+      };
       room = omega arith;
       leads = λ s st cuts.
           let before = i.leads s st cuts in
           laws.steps_behind nodes s c.args.limit (g.P.Points.points c.args.points.now) old new c.args.steps.now c.parts.steps (c.parts.steps + 1) before
-          (laws.part_entered nodes old new c.parts.id c.in-Some.parts.first c.in-Some.parts.second c.args.cursor i.top is s c.args.limit c.parts.steps room
-          enters before.stack before.cuts);
+          (laws.part_entered nodes old new c.parts.id c.in-Some.parts.first c.in-Some.parts.second c.args.cursor i.top.top is s c.args.limit c.parts.steps
+          room enters before.stack before.cuts);
       records = omega (arith, i.records, c.replace.ensures.records);
     }
 

@@ -38,7 +38,7 @@ returns-else-cursor-start-clause-ok g c =
       plans.repeat c.args.patterns.now c.args.subject.now c.in-CloseRepeat.arbno c.in-CloseRepeat.start c.args.cursor c.if-cursor-start.false known.1,
       plans.due-enter c.args.patterns.now c.args.subject.now (N.CloseRepeat c.in-CloseRepeat.arbno c.in-CloseRepeat.start) c.args.cursor,
       (known.0, tt),
-      c.requires.inside,
+      c.requires.inside.0,
     ) (refl, refl) c.carry_out-else-cursor-start.ensures.ok)
 
 pub returns-in-CloseCut-clause-ok : goal.returns-in-CloseCut-clause-ok

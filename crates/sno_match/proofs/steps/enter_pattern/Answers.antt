@@ -18,7 +18,7 @@ returns-in-Cat-clause-ok g c =
       plans.cat c.args.patterns.now c.args.subject.now c.args.id c.in-Cat.p c.in-Cat.q c.args.cursor c.in-Cat.ensures.2,
       plans.due-enter c.args.patterns.now c.args.subject.now (N.Match c.args.id) c.args.cursor,
       (p, (q, tt)),
-      c.requires.inside,
+      c.requires.inside.0,
     ) (refl, refl) c.carry_out.ensures.ok
 
 pub returns-in-Alt-clause-ok : goal.returns-in-Alt-clause-ok
@@ -28,7 +28,7 @@ returns-in-Alt-clause-ok g c =
       plans.alt c.args.patterns.now c.args.subject.now c.args.id c.in-Alt.p c.in-Alt._q c.args.cursor c.in-Alt.ensures.2,
       plans.due-enter c.args.patterns.now c.args.subject.now (N.Match c.args.id) c.args.cursor,
       (p, tt),
-      c.requires.inside,
+      c.requires.inside.0,
       plans.next_in c.args.patterns.now c.args.id.0 (Alt (tree c.args.patterns.now c.in-Alt.p.0) (tree c.args.patterns.now c.in-Alt._q.0)) c.args.subject.now
           c.args.cursor c.args.cursor c.in-Alt.ensures.2 tt,
     ) (plain c.args.patterns.now c.args.id _ c.in-Alt.ensures.2 (λ left depth. refl), refl) c.carry_out-in-Alt.ensures.ok
@@ -39,7 +39,7 @@ returns-in-Arbno-clause-ok g c =
       plans.arbno c.args.patterns.now c.args.subject.now c.args.id c.args.cursor (tree c.args.patterns.now c.in-Arbno._p.0) c.in-Arbno.ensures.1,
       plans.due-enter c.args.patterns.now c.args.subject.now (N.Match c.args.id) c.args.cursor,
       tt,
-      c.requires.inside,
+      c.requires.inside.0,
       plans.next_in c.args.patterns.now c.args.id.0 (Arbno (tree c.args.patterns.now c.in-Arbno._p.0)) c.args.subject.now c.args.cursor
           c.args.cursor c.in-Arbno.ensures.1 tt,
     ) (plain c.args.patterns.now c.args.id _ c.in-Arbno.ensures.1 (λ left depth. refl), refl) c.stay_and_go_on.ensures.ok
@@ -51,7 +51,7 @@ returns-in-Cond-clause-ok g c =
       plans.cond c.args.patterns.now c.args.subject.now c.args.id c.args.cursor c.in-Cond.p c.in-Cond.target c.in-Cond.ensures.1,
       plans.due-enter c.args.patterns.now c.args.subject.now (N.Match c.args.id) c.args.cursor,
       (p, (tt, tt)),
-      c.requires.inside,
+      c.requires.inside.0,
     ) (refl, refl) c.carry_out-in-Cond.ensures.ok
 
 pub returns-in-Imm-clause-ok : goal.returns-in-Imm-clause-ok
@@ -61,7 +61,7 @@ returns-in-Imm-clause-ok g c =
       plans.imm c.args.patterns.now c.args.subject.now c.args.id c.args.cursor c.in-Imm.p c.in-Imm.target c.in-Imm.ensures.1,
       plans.due-enter c.args.patterns.now c.args.subject.now (N.Match c.args.id) c.args.cursor,
       (p, (tt, tt)),
-      c.requires.inside,
+      c.requires.inside.0,
     ) (refl, refl) c.carry_out-in-Imm.ensures.ok
 
 pub returns-in-Cursor-clause-ok : goal.returns-in-Cursor-clause-ok
@@ -77,7 +77,7 @@ returns-in-Fence-clause-ok g c =
       plans.fence c.args.patterns.now c.args.subject.now c.args.id c.args.cursor c.in-Fence.ensures,
       plans.due-enter c.args.patterns.now c.args.subject.now (N.Match c.args.id) c.args.cursor,
       tt,
-      c.requires.inside,
+      c.requires.inside.0,
       plans.next_in c.args.patterns.now c.args.id.0 Fence c.args.subject.now c.args.cursor c.args.cursor c.in-Fence.ensures tt,
     ) (plain c.args.patterns.now c.args.id _ c.in-Fence.ensures (λ left depth. refl), refl) c.stay_and_go_on-in-Fence.ensures.ok
 
@@ -94,7 +94,7 @@ returns-in-Succeed-clause-ok g c =
       plans.succeed c.args.patterns.now c.args.subject.now c.args.id c.args.cursor c.in-Succeed.ensures,
       plans.due-enter c.args.patterns.now c.args.subject.now (N.Match c.args.id) c.args.cursor,
       tt,
-      c.requires.inside,
+      c.requires.inside.0,
       plans.next_in c.args.patterns.now c.args.id.0 Succeed c.args.subject.now c.args.cursor c.args.cursor c.in-Succeed.ensures tt,
     ) (plain c.args.patterns.now c.args.id _ c.in-Succeed.ensures (λ left depth. refl), refl) c.stay_and_go_on-in-Succeed.ensures.ok
 

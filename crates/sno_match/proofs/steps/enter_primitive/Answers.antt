@@ -7,8 +7,10 @@ use Rattle.sno_match.proofs.StepLaws.{stepped}
 use Rattle.sno_match.proofs.steps.enter_primitive.Goals as goal
 
 pub take_end-requires-clause-end : goal.take_end-requires-clause-end
-take_end-requires-clause-end g c = plans.end_in c.args.patterns.now c.args.id.0 c.args.subject.now c.args.cursor 0 c.in-Some.end
-    (sym c.look.ensures.value ∙ c.in-Some.is)
+take_end-requires-clause-end g c = (
+  c.requires.known,
+  plans.end_in c.args.patterns.now c.args.id.0 c.args.subject.now c.args.cursor 0 c.in-Some.end (sym c.look.ensures.value ∙ c.in-Some.is),
+)
 
 pub returns-in-None-clause-ok : goal.returns-in-None-clause-ok
 returns-in-None-clause-ok g c =

@@ -17,8 +17,8 @@ invariant_of-self-in-Some g c =
     (g.P.Points.points c.self.inside.points) (g.P.Points.records c.self.inside.points) c.self.inside.start c.self.view_is c.self.invariant.0
     c.requires.going c.requires.on
     c.args.patterns.now c.deref.result.now c.requires.table c.deref.ensures.value c.in_ok-told-2.told c.make_move.new.steps
-    (g.P.Points.points c.make_move.new.points) c.make_move.new.way.items (g.P.Points.records c.make_move.new.points) c.in_ok-told-2.ensures.stack
-    c.in_ok-told-2.ensures.cuts c.in_ok-told-2.ensures.records c.in_ok-told-2.ensures.ok in (
+    (g.P.Points.points c.make_move.new.points) c.make_move.new.way.items (g.P.Points.records c.make_move.new.points) c.in_ok-told-2.ensures.stands.stack
+    c.in_ok-told-2.ensures.stands.cuts c.in_ok-told-2.ensures.records c.in_ok-told-2.ensures.ok in (
       (laws.tells_all c.args.self.now c.self.inside.lent.value c.self.inside.pattern c.self.inside.subject.items c.self.inside.anchored c.self.inside.limit
           c.self.inside.answers.items c.self.inside.told c.self.inside.steps c.self.inside.state c.self.inside.way.items
           (g.P.Points.points c.self.inside.points) (g.P.Points.records c.self.inside.points) c.self.inside.start c.self.view_is c.self.invariant.0
@@ -26,7 +26,7 @@ invariant_of-self-in-Some g c =
           c.in-Some.event c.make_move.new.steps c.self.inside.start (g.P.Points.points c.make_move.new.points) c.make_move.new.way.items
           (g.P.Points.records c.make_move.new.points) (rw c.in-Some.is at l) c.state_behind-self-inside.result c.state_behind-self-inside.ensures).0,
       same_looks c.self.inside.lent.value c.args.patterns.now c.self.inside.subject.items c.deref.result.now c.make_move.new.looks
-          (ap (λ (x : Matching). x.nodes) c.self.view_is ∙ c.requires.table) c.deref.ensures.value c.in_ok-told-2.ensures.looks,
+          (ap (λ (x : Matching). x.nodes) c.self.view_is ∙ c.requires.table) c.deref.ensures.value c.in_ok-told-2.ensures.stands.looks,
       c.self.invariant.2,
     )
 
@@ -37,8 +37,8 @@ returns-in-Some-clause-ok g c =
     (g.P.Points.points c.self.inside.points) (g.P.Points.records c.self.inside.points) c.self.inside.start c.self.view_is c.self.invariant.0
     c.requires.going c.requires.on
     c.args.patterns.now c.deref.result.now c.requires.table c.deref.ensures.value c.in_ok-told-2.told c.make_move.new.steps
-    (g.P.Points.points c.make_move.new.points) c.make_move.new.way.items (g.P.Points.records c.make_move.new.points) c.in_ok-told-2.ensures.stack
-    c.in_ok-told-2.ensures.cuts c.in_ok-told-2.ensures.records c.in_ok-told-2.ensures.ok in
+    (g.P.Points.points c.make_move.new.points) c.make_move.new.way.items (g.P.Points.records c.make_move.new.points) c.in_ok-told-2.ensures.stands.stack
+    c.in_ok-told-2.ensures.stands.cuts c.in_ok-told-2.ensures.records c.in_ok-told-2.ensures.ok in
     (laws.tells_all c.args.self.now c.self.inside.lent.value c.self.inside.pattern c.self.inside.subject.items c.self.inside.anchored c.self.inside.limit
     c.self.inside.answers.items c.self.inside.told c.self.inside.steps c.self.inside.state c.self.inside.way.items (g.P.Points.points c.self.inside.points)
     (g.P.Points.records c.self.inside.points) c.self.inside.start c.self.view_is c.self.invariant.0 c.requires.going c.requires.on
@@ -52,8 +52,8 @@ returns-in-Some-clause-counts g c =
     (g.P.Points.points c.self.inside.points) (g.P.Points.records c.self.inside.points) c.self.inside.start c.self.view_is c.self.invariant.0
     c.requires.going c.requires.on
     c.args.patterns.now c.deref.result.now c.requires.table c.deref.ensures.value c.in_ok-told-2.told c.make_move.new.steps
-    (g.P.Points.points c.make_move.new.points) c.make_move.new.way.items (g.P.Points.records c.make_move.new.points) c.in_ok-told-2.ensures.stack
-    c.in_ok-told-2.ensures.cuts c.in_ok-told-2.ensures.records c.in_ok-told-2.ensures.ok in
+    (g.P.Points.points c.make_move.new.points) c.make_move.new.way.items (g.P.Points.records c.make_move.new.points) c.in_ok-told-2.ensures.stands.stack
+    c.in_ok-told-2.ensures.stands.cuts c.in_ok-told-2.ensures.records c.in_ok-told-2.ensures.ok in
     (laws.tells_all c.args.self.now c.self.inside.lent.value c.self.inside.pattern c.self.inside.subject.items c.self.inside.anchored c.self.inside.limit
     c.self.inside.answers.items c.self.inside.told c.self.inside.steps c.self.inside.state c.self.inside.way.items (g.P.Points.points c.self.inside.points)
     (g.P.Points.records c.self.inside.points) c.self.inside.start c.self.view_is c.self.invariant.0 c.requires.going c.requires.on
@@ -67,8 +67,8 @@ invariant_of-self-in_default-told g c =
     (g.P.Points.points c.self.inside.points) (g.P.Points.records c.self.inside.points) c.self.inside.start c.self.view_is c.self.invariant.0
     c.requires.going c.requires.on
     c.args.patterns.now c.deref.result.now c.requires.table c.deref.ensures.value c.in_ok-told-2.told c.make_move.new.steps
-    (g.P.Points.points c.make_move.new.points) c.make_move.new.way.items (g.P.Points.records c.make_move.new.points) c.in_ok-told-2.ensures.stack
-    c.in_ok-told-2.ensures.cuts c.in_ok-told-2.ensures.records c.in_ok-told-2.ensures.ok in (
+    (g.P.Points.points c.make_move.new.points) c.make_move.new.way.items (g.P.Points.records c.make_move.new.points) c.in_ok-told-2.ensures.stands.stack
+    c.in_ok-told-2.ensures.stands.cuts c.in_ok-told-2.ensures.records c.in_ok-told-2.ensures.ok in (
       (laws.goes_all c.args.self.now c.self.inside.lent.value c.self.inside.pattern c.self.inside.subject.items c.self.inside.anchored c.self.inside.limit
           c.self.inside.answers.items c.self.inside.told c.self.inside.steps c.self.inside.state c.self.inside.way.items
           (g.P.Points.points c.self.inside.points) (g.P.Points.records c.self.inside.points) c.self.inside.start c.self.view_is c.self.invariant.0
@@ -76,7 +76,7 @@ invariant_of-self-in_default-told g c =
           c.make_move.new.steps c.self.inside.start (g.P.Points.points c.make_move.new.points) c.make_move.new.way.items
           (g.P.Points.records c.make_move.new.points) (rw c.in_default-told.is at l) (c.in_ok-told-2.ensures.ok.falls c.in_default-told.is)).0,
       same_looks c.self.inside.lent.value c.args.patterns.now c.self.inside.subject.items c.deref.result.now c.make_move.new.looks
-          (ap (λ (x : Matching). x.nodes) c.self.view_is ∙ c.requires.table) c.deref.ensures.value c.in_ok-told-2.ensures.looks,
+          (ap (λ (x : Matching). x.nodes) c.self.view_is ∙ c.requires.table) c.deref.ensures.value c.in_ok-told-2.ensures.stands.looks,
       c.self.invariant.2,
     )
 
@@ -87,8 +87,8 @@ returns-in_default-told-clause-ok g c =
     (g.P.Points.points c.self.inside.points) (g.P.Points.records c.self.inside.points) c.self.inside.start c.self.view_is c.self.invariant.0
     c.requires.going c.requires.on
     c.args.patterns.now c.deref.result.now c.requires.table c.deref.ensures.value c.in_ok-told-2.told c.make_move.new.steps
-    (g.P.Points.points c.make_move.new.points) c.make_move.new.way.items (g.P.Points.records c.make_move.new.points) c.in_ok-told-2.ensures.stack
-    c.in_ok-told-2.ensures.cuts c.in_ok-told-2.ensures.records c.in_ok-told-2.ensures.ok in
+    (g.P.Points.points c.make_move.new.points) c.make_move.new.way.items (g.P.Points.records c.make_move.new.points) c.in_ok-told-2.ensures.stands.stack
+    c.in_ok-told-2.ensures.stands.cuts c.in_ok-told-2.ensures.records c.in_ok-told-2.ensures.ok in
     rw c.in_default-told.is (laws.goes_all c.args.self.now c.self.inside.lent.value c.self.inside.pattern c.self.inside.subject.items c.self.inside.anchored
     c.self.inside.limit c.self.inside.answers.items c.self.inside.told c.self.inside.steps c.self.inside.state c.self.inside.way.items
     (g.P.Points.points c.self.inside.points) (g.P.Points.records c.self.inside.points) c.self.inside.start c.self.view_is c.self.invariant.0
@@ -103,8 +103,8 @@ returns-in_default-told-clause-counts g c =
     (g.P.Points.points c.self.inside.points) (g.P.Points.records c.self.inside.points) c.self.inside.start c.self.view_is c.self.invariant.0
     c.requires.going c.requires.on
     c.args.patterns.now c.deref.result.now c.requires.table c.deref.ensures.value c.in_ok-told-2.told c.make_move.new.steps
-    (g.P.Points.points c.make_move.new.points) c.make_move.new.way.items (g.P.Points.records c.make_move.new.points) c.in_ok-told-2.ensures.stack
-    c.in_ok-told-2.ensures.cuts c.in_ok-told-2.ensures.records c.in_ok-told-2.ensures.ok in
+    (g.P.Points.points c.make_move.new.points) c.make_move.new.way.items (g.P.Points.records c.make_move.new.points) c.in_ok-told-2.ensures.stands.stack
+    c.in_ok-told-2.ensures.stands.cuts c.in_ok-told-2.ensures.records c.in_ok-told-2.ensures.ok in
     (laws.goes_all c.args.self.now c.self.inside.lent.value c.self.inside.pattern c.self.inside.subject.items c.self.inside.anchored c.self.inside.limit
     c.self.inside.answers.items c.self.inside.told c.self.inside.steps c.self.inside.state c.self.inside.way.items (g.P.Points.points c.self.inside.points)
     (g.P.Points.records c.self.inside.points) c.self.inside.start c.self.view_is c.self.invariant.0 c.requires.going c.requires.on
@@ -118,7 +118,8 @@ invariant_of-self g c =
     (g.P.Points.points c.self.inside.points) (g.P.Points.records c.self.inside.points) c.self.inside.start c.self.view_is c.self.invariant.0
     c.requires.going c.requires.on
     c.args.patterns.now c.deref.result.now c.requires.table c.deref.ensures.value c.make_move.new.steps
-    (g.P.Points.points c.make_move.new.points) (g.P.Points.records c.make_move.new.points) c.in_err-told-2.ensures.few c.in_err-told-2.ensures.err in
+    (g.P.Points.points c.make_move.new.points) (g.P.Points.records c.make_move.new.points)
+    (omega (arith, c.in_err-told-2.ensures.records)) c.in_err-told-2.ensures.err in
     rw c.in_err-told-2.ensures.way (
       (laws.stays_all c.args.self.now c.self.inside.lent.value c.self.inside.pattern c.self.inside.subject.items c.self.inside.anchored
           c.self.inside.limit c.self.inside.answers.items c.self.inside.told c.self.inside.steps c.self.inside.state c.self.inside.way.items
@@ -127,7 +128,7 @@ invariant_of-self g c =
           c.make_move.new.steps c.self.inside.start (g.P.Points.points c.make_move.new.points) c.self.inside.way.items
           (g.P.Points.records c.make_move.new.points) l).0,
       same_looks c.self.inside.lent.value c.args.patterns.now c.self.inside.subject.items c.deref.result.now c.make_move.new.looks
-          (ap (λ (x : Matching). x.nodes) c.self.view_is ∙ c.requires.table) c.deref.ensures.value c.in_err-told-2.ensures.looks,
+          (ap (λ (x : Matching). x.nodes) c.self.view_is ∙ c.requires.table) c.deref.ensures.value c.in_err-told-2.ensures.stands.looks,
       c.self.invariant.2,
     )
 
@@ -139,7 +140,8 @@ returns-in_err-told-2-clause-err g c =
     (g.P.Points.points c.self.inside.points) (g.P.Points.records c.self.inside.points) c.self.inside.start c.self.view_is c.self.invariant.0
     c.requires.going c.requires.on
     c.args.patterns.now c.deref.result.now c.requires.table c.deref.ensures.value c.make_move.new.steps
-    (g.P.Points.points c.make_move.new.points) (g.P.Points.records c.make_move.new.points) c.in_err-told-2.ensures.few c.in_err-told-2.ensures.err in
+    (g.P.Points.points c.make_move.new.points) (g.P.Points.records c.make_move.new.points)
+    (omega (arith, c.in_err-told-2.ensures.records)) c.in_err-told-2.ensures.err in
     rw (p.1, c.in_err-told-2.ensures.way) (laws.stays_all c.args.self.now c.self.inside.lent.value c.self.inside.pattern
     c.self.inside.subject.items c.self.inside.anchored
     c.self.inside.limit c.self.inside.answers.items c.self.inside.told c.self.inside.steps c.self.inside.state c.self.inside.way.items
@@ -155,7 +157,8 @@ returns-in_err-told-2-clause-counts g c =
     (g.P.Points.points c.self.inside.points) (g.P.Points.records c.self.inside.points) c.self.inside.start c.self.view_is c.self.invariant.0
     c.requires.going c.requires.on
     c.args.patterns.now c.deref.result.now c.requires.table c.deref.ensures.value c.make_move.new.steps
-    (g.P.Points.points c.make_move.new.points) (g.P.Points.records c.make_move.new.points) c.in_err-told-2.ensures.few c.in_err-told-2.ensures.err in
+    (g.P.Points.points c.make_move.new.points) (g.P.Points.records c.make_move.new.points)
+    (omega (arith, c.in_err-told-2.ensures.records)) c.in_err-told-2.ensures.err in
     rw c.in_err-told-2.ensures.way (laws.stays_all c.args.self.now c.self.inside.lent.value c.self.inside.pattern
     c.self.inside.subject.items c.self.inside.anchored
     c.self.inside.limit c.self.inside.answers.items c.self.inside.told c.self.inside.steps c.self.inside.state c.self.inside.way.items
