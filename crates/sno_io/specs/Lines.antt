@@ -1,10 +1,11 @@
 -- The lines of an input.
-use Rattle.std.specs.Prelude.{◌≡◌, ℕ, ◌+◌, ◌<◌, ◌≤◌, ◌==◌, Bool, true, List, [], ◌∷◌, ◌++◌, length, take, drop, Option}
-use Rattle.std.specs.Prelude.{None, Some, Result, Ok, Err}
+use Rattle.std.specs.Prelude.{◌≡◌, ◌↔◌, ℕ, ◌+◌, ◌<◌, ◌≤◌, ◌==◌, Bool, false, true, List, [], ◌∷◌, ◌++◌, length}
+use Rattle.std.specs.Prelude.{take, drop, Option, None, Some, Result, Ok, Err, IsErrOf, OnOk}
 use Rattle.std.specs.List.{position_or_len}
 use Rattle.std.specs.Io.KnownBytes.{Consumes}
 use Rattle.std.specs.declared.vec.Vec.{Vec}
 use Rattle.std.specs.declared.alloc.Global.{Global}
+use Rattle.sno_io.specs.Devices.{Feed}
 use Rattle.sno_io.specs.declared.lines.LineError.{LineError}
 use Rattle.sno_io.specs.declared.lines.LineError.TheVariants.{NoMemory, ReadFault, TooLong}
 
@@ -58,3 +59,15 @@ pub record ReadsLine (before after : Option (List ℕ)) (old new : Input)
   pub ended : old.told_end ≡ true → (given ≡ []) × (new.told_end ≡ true)
   pub line : (more : List ℕ) → (new.told_end ≡ true → more ≡ [])
       → GivesLine result (old.held ++ given ++ more) (new.held ++ more)
+
+-- The error that stopped the input is given again, and the input stays as it was.
+abbrev pub IsAgain : Input → Input → Result (Option (Vec ℕ Global)) LineError → LineError → Type 0
+IsAgain old new result e = (result ≡ Err e) × (new ≡ old)
+
+-- How a call leaves the reader: it has not failed where a line or the end was answered. Where the input had not stopped
+-- before, it has failed just where ReadFault was answered, and it tells the end where that was told.
+pub record LeavesReader (old new : Input) (feed : Feed)
+    (result : Result (Option (Vec ℕ Global)) LineError) : Type 0 where
+  pub sound : OnOk result (feed.broken ≡ false)
+  pub fault : old.stopped ≡ None → (IsErrOf result ReadFault ↔ (feed.broken ≡ true))
+  pub same : old.stopped ≡ None → new.told_end ≡ true → feed.at_end ≡ true

@@ -1,7 +1,7 @@
 //! The lines of an input.
 ghost use Rattle.std.specs.Prelude.{◌≡◌, ◌↔◌, ◌⊎◌, ℕ, ◌≤◌, ◌++◌, [], false, length, true, Contains, IfErr, IfOk};
 ghost use Rattle.std.specs.Prelude.{IfSome, IsErrOf, List, None, OnOk, Some};
-ghost use Rattle.sno_io.specs.Lines.{line_length, GivesLine, ReadsLine};
+ghost use Rattle.sno_io.specs.Lines.{line_length, GivesLine, IsAgain, LeavesReader, ReadsLine};
 ghost use Rattle.sno_io.specs.inner.Held.{IsSettled, Joins};
 
 use crate::buffer::Buffer;
@@ -116,12 +116,8 @@ impl Lines {
         ensures unasked { (self.old.told_end ≡ true) ⊎ Contains self.old.held 10 → reader.new ≡ reader.old }
         ensures ok { OnOk result (self.new.stopped ≡ None) }
         ensures stops { IfErr result (λ e. self.new.stopped ≡ Some e) }
-        ensures again { IfSome self.old.stopped (λ e. (result ≡ Err e) × (self.new ≡ self.old)
-            × (reader.new ≡ reader.old)) }
-        ensures sound { OnOk result ((R.feed reader.new).broken ≡ false) }
-        ensures fault { self.old.stopped ≡ None
-            → (IsErrOf result LineError.ReadFault ↔ ((R.feed reader.new).broken ≡ true)) }
-        ensures same { self.old.stopped ≡ None → self.new.told_end ≡ true → (R.feed reader.new).at_end ≡ true }
+        ensures again { IfSome self.old.stopped (λ e. IsAgain self.old self.new result e × (reader.new ≡ reader.old)) }
+        ensures reader { LeavesReader self.old self.new (R.feed reader.new) result }
     {
         if let Some(error) = self.stopped {
             return Err(error);

@@ -7,9 +7,8 @@ ghost use Rattle.sno_text.specs.Refusals.{HasOpenLiteral};
 ghost use Rattle.sno_text.specs.Program.{IsWithin, IsOptionWithin};
 ghost use Rattle.sno_text.specs.inner.Program.{number_of, IsIndex};
 ghost use Rattle.sno_text.specs.Statements.{StatementTree};
-ghost use Rattle.sno_text.specs.inner.Parsed.{Extends};
 ghost use Rattle.sno_text.specs.Programs.{IsTooLargeBytes, IsRefusedAt};
-ghost use Rattle.sno_text.specs.inner.Judging.{Knows, Accepts, IsShapeRefused, IsLabelRefused, statement_of};
+ghost use Rattle.sno_text.specs.inner.Judging.{Knows, IsJudged, IsPlaced, IsShapeRefused, IsLabelRefused, statement_of};
 
 use crate::error::ReadError;
 use crate::node::{Node, Span};
@@ -24,7 +23,6 @@ use std::collections::BTreeMap;
 const MOST_STATEMENTS: usize = 100_000;
 
 /// How many bytes a statement has: LFs are none.
-
 fn size_of(bytes: &[u8]) -> usize
     ensures { result ≡ lines.size bytes.now }
 {
@@ -107,23 +105,13 @@ pub fn judge(
     extent: Span,
     line: u32,
 ) -> Result<Phrase, ReadError>
-    requires joined { joined.now ≡ lines.joined text.now }
-    requires length { length joined.now ≡ length text.now }
-    requires small { length text.now ≤ 4000000 }
-    requires extent { IsWithin extent (length text.now) }
+    requires place { IsPlaced text.now joined.now extent line }
     requires room { length nodes.old.items ≤ extent.start }
-    requires line { line ≡ lines.line_of text.now extent }
-    ensures accepted { IfOk result (λ p. (before : List StatementTree) → Knows text.now before count labels.now.entries
-        → Accepts text.now before extent nodes.old.items nodes.new.items p) }
-    ensures few { OnOk result (count < 100000) }
-    ensures label { IfOk result (λ p. IsOptionWithin p.label (length text.now)) }
-    ensures fresh { IfOk result (λ p. (span : Span) → p.label ≡ Some span
-        → number_of labels.now.entries (part text.now span) ≡ None) }
+    ensures accepted { IfOk result (λ p. IsJudged text.now count labels.now.entries extent nodes.old.items
+        nodes.new.items p) }
     ensures refused { IfErr result (λ e. (e ≡ ReadError.NoMemory)
         ⊎ ((before : List StatementTree) → Knows text.now before count labels.now.entries
         → IsRefusedAt text.now before extent e)) }
-    ensures extends { OnOk result (Extends (length text.now) nodes.old.items nodes.new.items) }
-    ensures room { OnOk result (length nodes.new.items ≤ extent.end) }
 {
     if let Some(error) = refuse_shape(count, &joined[extent.start..extent.end], line) {
         return Err(error);

@@ -1,5 +1,5 @@
 -- Words of the private clauses of the reader of programs.
-use Rattle.std.specs.Prelude.{◌≡◌, ◌≢◌, ℕ, ◌≤◌, ◌⊎◌, true, List, [], length, Some, None, slice_get, codes, is_some}
+use Rattle.std.specs.Prelude.{◌≡◌, ◌≢◌, ℕ, ◌<◌, ◌≤◌, ◌⊎◌, true, List, [], length, Some, None, slice_get, codes, is_some}
 use Rattle.std.specs.declared.vec.Vec.{Vec}
 use Rattle.std.specs.declared.alloc.Global.{Global}
 use Rattle.sno_text.specs.declared.error.ReadError.{ReadError}
@@ -10,9 +10,10 @@ use Rattle.sno_text.specs.declared.phrase.Phrase.{Phrase}
 use Rattle.sno_text.specs.declared.statement.Statement.{Statement}
 use Rattle.sno_text.specs.Refusals.{HasOpenLiteral}
 use Rattle.sno_text.specs.inner.Parsed.{Extends}
+use Rattle.sno_text.specs.Lines as lines
 use Rattle.sno_text.specs.Lines.{extents, part}
 use Rattle.sno_text.specs.Trees.{Uses}
-use Rattle.sno_text.specs.Program.{program_ids, IsStatementOf}
+use Rattle.sno_text.specs.Program.{program_ids, IsStatementOf, IsWithin, IsOptionWithin}
 use Rattle.sno_text.specs.inner.Program.{number_of, IsIndex}
 use Rattle.sno_text.specs.Statements.{StatementTree}
 use Rattle.sno_text.specs.Phrases.{phrase_ids, StandsPhrase, StandsStatement}
@@ -48,6 +49,24 @@ pub record Accepts (s : List ℕ) (before : List StatementTree) (span : Span) (o
   pub accepted : IsAcceptedAt s before span tree
   pub stands : StandsPhrase nodes p tree
   pub used : Uses nodes (length old) (phrase_ids p)
+
+-- A statement lies in a text that isn't too large, whose joined lines are j, and begins in the line of this number.
+pub record IsPlaced (s j : List ℕ) (span : Span) (number : ℕ) : Type 0 where
+  pub joined : j ≡ lines.joined s
+  pub size : length j ≡ length s
+  pub small : length s ≤ 4000000
+  pub extent : IsWithin span (length s)
+  pub line : number ≡ lines.line_of s span
+
+-- A statement was judged and is accepted: there is room for it, its label is new, and its nodes joined the table.
+pub record IsJudged (s : List ℕ) (count : ℕ) (entries : List (Vec ℕ Global × ℕ)) (span : Span) (old nodes : List Node)
+    (p : Phrase) : Type 0 where
+  pub accepted : (before : List StatementTree) → Knows s before count entries → Accepts s before span old nodes p
+  pub few : count < 100000
+  pub label : IsOptionWithin p.label (length s)
+  pub fresh : (name : Span) → p.label ≡ Some name → number_of entries (part s name) ≡ None
+  pub extends : Extends (length s) old nodes
+  pub room : length nodes ≤ span.end
 
 abbrev pub statement_of : Phrase → ℕ → Statement
 statement_of p line = record { line = line; label = p.label; core = p.core; jump = p.jump; entry = p.entry }

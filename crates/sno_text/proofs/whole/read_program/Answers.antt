@@ -34,14 +34,23 @@ line_at-line-requires-clause-within c =
     let within = running_within _ _ _ _ _ _ span c.loop-extent.invariant.0 here in
     let w = within.1 in let f = c.first_byte-at.ensures.within in omega arith
 
-pub judge-requires-clause-extent : goal.judge-requires-clause-extent
-judge-requires-clause-extent c =
+pub judge-requires-clause-place : goal.judge-requires-clause-place
+judge-requires-clause-place c =
     let span : Span = slice_index_or c.as_slice-extent-items.result.now c.loop-extent.extent-index (record { start = 0; end = 0 }) in
     let here : slice_get (extents c.args.text.now) c.loop-extent.extent-index ≡ Some span =
     ap (λ x. slice_get x c.loop-extent.extent-index) (sym c.loop-extent.invariant.1) ∙ slice_get-get_or c.as_slice-extent-items.result.now
     c.loop-extent.extent-index (record { start = 0; end = 0 }) c.loop-extent-test.true in
     let within = running_within _ _ _ _ _ _ span c.loop-extent.invariant.0 here in
-    within
+    let line : c.line_at-line.result ≡ line_of c.args.text.now span =
+    c.line_at-line.ensures ∙ ap (λ n. 1 + count_by (λ b. b == 10) (take n c.args.text.now))
+    (c.first_byte-at.ensures.place ∙ ap (λ j. span.start + prefix_len (λ b. b == 10) (part j span)) c.loop-extent.invariant.2) in
+    record {
+      joined = c.loop-extent.invariant.2;
+      size = c.loop-extent.invariant.3;
+      small = c.loop-extent.invariant.4;
+      extent = within;
+      line = line;
+    }
 
 pub returns-in_err-phrase-clause-refused : goal.returns-in_err-phrase-clause-refused
 returns-in_err-phrase-clause-refused c =
@@ -66,9 +75,9 @@ new-requires c =
     (c.first_byte-at.ensures.place ∙ ap (λ j. span.start + prefix_len (λ b. b == 10) (part j span)) c.loop-extent.invariant.2) in
     let running = c.loop-extent.invariant.0 in
     let many : c.len-count.result ≡ length c.loop-extent.statements.items = search rules in
-    let accepted = c.in_ok-phrase.ensures.accepted running.reading.before (reading_knows _ _ _ _ _ _ _ running.reading many) in
-    let done = reading_ends _ _ _ _ span _ _ _ _ _ _ c.in_ok-phrase.phrase running.reading accepted here c.in_ok-phrase.ensures.room
-    c.in_ok-phrase.ensures.extends line c.in_ok-push_statement.ensures.pushed
+    let accepted = c.in_ok-phrase.ensures.accepted.accepted running.reading.before (reading_knows _ _ _ _ _ _ _ running.reading many) in
+    let done = reading_ends _ _ _ _ span _ _ _ _ _ _ c.in_ok-phrase.phrase running.reading accepted here c.in_ok-phrase.ensures.accepted.room
+    c.in_ok-phrase.ensures.accepted.extends line c.in_ok-push_statement.ensures.pushed
     c.in_ok-push_statement.ensures.index c.loop-extent.invariant.4 (c.is_end.ensures.end c.if-is_end.true) in
     let same : c.in_ok-text.text.items ≡ c.args.text.now = search rules in
     tabled_whole _ _ done.0 span.end _ _ _ done.1 done.2 same (let w = within.1 in let m = c.loop-extent.invariant.4 in omega arith)
@@ -85,9 +94,9 @@ returns-then-is_end-clause-accepted c =
     (c.first_byte-at.ensures.place ∙ ap (λ j. span.start + prefix_len (λ b. b == 10) (part j span)) c.loop-extent.invariant.2) in
     let running = c.loop-extent.invariant.0 in
     let many : c.len-count.result ≡ length c.loop-extent.statements.items = search rules in
-    let accepted = c.in_ok-phrase.ensures.accepted running.reading.before (reading_knows _ _ _ _ _ _ _ running.reading many) in
-    let done = reading_ends _ _ _ _ span _ _ _ _ _ _ c.in_ok-phrase.phrase running.reading accepted here c.in_ok-phrase.ensures.room
-    c.in_ok-phrase.ensures.extends line c.in_ok-push_statement.ensures.pushed
+    let accepted = c.in_ok-phrase.ensures.accepted.accepted running.reading.before (reading_knows _ _ _ _ _ _ _ running.reading many) in
+    let done = reading_ends _ _ _ _ span _ _ _ _ _ _ c.in_ok-phrase.phrase running.reading accepted here c.in_ok-phrase.ensures.accepted.room
+    c.in_ok-phrase.ensures.accepted.extends line c.in_ok-push_statement.ensures.pushed
     c.in_ok-push_statement.ensures.index c.loop-extent.invariant.4 (c.is_end.ensures.end c.if-is_end.true) in
     (done.0, done.1, tabled_program _ done.0 span.end _ _ _ _ done.2 c.new.ensures.nodes c.new.ensures.statements)
 
@@ -103,9 +112,9 @@ loop-extent-preserved c =
     (c.first_byte-at.ensures.place ∙ ap (λ j. span.start + prefix_len (λ b. b == 10) (part j span)) c.loop-extent.invariant.2) in
     let running = c.loop-extent.invariant.0 in
     let many : c.len-count.result ≡ length c.loop-extent.statements.items = search rules in
-    let accepted = c.in_ok-phrase.ensures.accepted running.reading.before (reading_knows _ _ _ _ _ _ _ running.reading many) in
-    let next = reading_next _ _ _ _ span _ _ _ _ _ _ c.in_ok-phrase.phrase running.reading accepted here c.in_ok-phrase.ensures.room
-    c.in_ok-phrase.ensures.extends line c.in_ok-push_statement.ensures.pushed
+    let accepted = c.in_ok-phrase.ensures.accepted.accepted running.reading.before (reading_knows _ _ _ _ _ _ _ running.reading many) in
+    let next = reading_next _ _ _ _ span _ _ _ _ _ _ c.in_ok-phrase.phrase running.reading accepted here c.in_ok-phrase.ensures.accepted.room
+    c.in_ok-phrase.ensures.accepted.extends line c.in_ok-push_statement.ensures.pushed
     c.in_ok-push_statement.ensures.index (c.is_end.ensures.other c.if-is_end.false) in (
       running_next _ _ _ _ _ _ _ _ _ _ span running here next c.first_byte-at.ensures.within c.line_at-line.ensures,
       c.loop-extent.invariant.1,

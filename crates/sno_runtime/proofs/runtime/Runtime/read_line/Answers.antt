@@ -13,4 +13,4 @@ returns g c =
     let next = c.next-line.ensures in
     let going = rw (← c.self.view_is) at c.requires.going in
     rw (← c.self.view_is) (reads_made _ _ _ _ _ _ _ is
-    (line_reads _ _ _ _ _ (next.line going) next.ok next.sound (next.same going) (λ fault. (next.fault going).0 fault)))
+    (line_reads _ _ _ _ _ (next.line going) next.ok next.reader.sound (next.reader.same going) (λ fault. (next.reader.fault going).0 fault)))
