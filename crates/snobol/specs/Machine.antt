@@ -1,5 +1,6 @@
 -- A machine that performs single expressions and matches for its caller, call after call.
-use Rattle.std.specs.Prelude.{◌≡◌, ◌⊎◌, ℕ, false, List, [], Option, None, Some, Result, Ok, Err}
+use Rattle.std.specs.Prelude.{◌≡◌, ◌⊎◌, ℕ, ◌≤◌, true, false, List, [], length, Option, None, Some, Result, Ok, Err}
+use Rattle.std.specs.Result.{result_err}
 use Rattle.sno_pattern.specs.Table.{Node}
 use Rattle.sno_text.specs.Program.{Program}
 use Rattle.sno_io.specs.declared.jobs.Limits.{Limits}
@@ -11,7 +12,7 @@ use Rattle.sno_runtime.specs.World.{new_world, new_keywords}
 use Rattle.sno_runtime.specs.Action.{Error, Got, Stops, Outcome, Action}
 use Rattle.snobol.specs.Meaning.{joins_names}
 use Rattle.sno_runtime.specs.Runtime.{Runtime, world}
-use Rattle.sno_statement.specs.Running.{Devices, Runs}
+use Rattle.sno_statement.specs.Running.{CanRun, Devices, Runs}
 use Rattle.snobol.specs.Running.{ran_in}
 
 -- what contracts see of such a machine: the program that its expressions are of, what they can change, and the stop
@@ -33,13 +34,21 @@ stopped_by (Ok x) = None
 stopped_by (Err Failure) = None
 stopped_by (Err (Halt why)) = Some (ran_in 0 (Halt why))
 
--- A call did what the action does, and answered it.
-abbrev pub Asks : {X A : Type 0} → (List Node → X → A) → (List Node → X → Type 0) → Action A
-    → Machine → Machine → Devices
-    → Devices → Result (Option X) RunOutcome → Type 0
-Asks {X} see fits act before after old new result =
-    (r : Result X Exit) × (result ≡ answered r) × (after.stopped ≡ stopped_by r) × (after.program ≡ before.program)
-    × Runs see fits act before.state after.state old new r
+-- a machine may be asked: it has stopped, or no device has failed and the reader is that of the call before
+abbrev pub CanAsk : Machine → Devices → Type 0
+CanAsk m d = m.stopped ≡ None → CanRun m.state d
+
+-- A call of a machine that had not stopped did what the action does, and answered it; a fault has its cause. An Err
+-- stops the machine, and what has not stopped may be asked again.
+pub record Asks {X A : Type 0} (see : List Node → X → A) (fits : List Node → X → Type 0) (act : Action A)
+    (before after : Machine) (old new : Devices) (result : Result (Option X) RunOutcome) : Type 0 where
+  pub does : before.stopped ≡ None → (r : Result X Exit) × (result ≡ answered r) × (after.stopped ≡ stopped_by r)
+      × (after.program ≡ before.program) × Runs see fits act before.state after.state old new r
+  pub read_fault : before.stopped ≡ None → result ≡ Err ran.ReadFault → new.reader.broken ≡ true
+  pub write_fault : before.stopped ≡ None → result ≡ Err ran.WriteFault → new.writer.broken ≡ true
+  pub stopped : after.stopped ≡ result_err result
+  pub ready : CanAsk after new
+  pub nodes : length before.state.nodes ≤ length after.state.nodes
 
 -- the names of the program join the symbols, before the first statement
 abbrev pub joined : Program → Limits → List ℕ → Outcome Unit

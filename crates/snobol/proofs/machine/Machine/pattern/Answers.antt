@@ -13,37 +13,25 @@ invariant_of-self g c = λ going.
     let runs = c.pattern_of.ensures in
     going_told c.pattern_of.result _ runs.calls (sym (ap result_err c.answered-answer.ensures) ∙ (sym c.err-self-inside.ensures.value ∙ going)) ∙ closed
 
-pub returns-clause-does : goal.returns-clause-does
-returns-clause-does g c = rw (← c.self.view_is) (λ going. (
-  c.pattern_of.result,
-  c.answered-answer.ensures,
-  c.err-self-inside.ensures.value ∙ (ap result_err c.answered-answer.ensures ∙ stop_told c.pattern_of.result),
-  refl,
-  c.pattern_of.ensures,
-))
-
-pub returns-clause-read_fault : goal.returns-clause-read_fault
-returns-clause-read_fault g c = λ going told.
+pub returns-clause-asks : goal.returns-clause-asks
+returns-clause-asks g c =
     let runs = c.pattern_of.ensures in
-    read_fault_told c.pattern_of.result _ runs.cause (sym c.answered-answer.ensures ∙ told)
-
-pub returns-clause-write_fault : goal.returns-clause-write_fault
-returns-clause-write_fault g c = λ going told.
-    let runs = c.pattern_of.ensures in
-    write_fault_told c.pattern_of.result _ runs.cause (sym c.answered-answer.ensures ∙ told)
-
-pub returns-clause-stopped : goal.returns-clause-stopped
-returns-clause-stopped g c = c.err-self-inside.ensures.value
-
-pub returns-clause-ready : goal.returns-clause-ready
-returns-clause-ready g c = λ going.
-    let runs = c.pattern_of.ensures in
-    going_told c.pattern_of.result _ runs.ready (sym (ap result_err c.answered-answer.ensures) ∙ (sym c.err-self-inside.ensures.value ∙ going))
-
-pub returns-clause-nodes : goal.returns-clause-nodes
-returns-clause-nodes g c =
-    let runs = c.pattern_of.ensures in
-    rw (← c.self.view_is) (nodes_kept _ _ runs.grows)
+    let told = sym c.answered-answer.ensures in
+    let stopped = c.err-self-inside.ensures.value in
+    rw (← c.self.view_is) (record {
+      does = λ going. (
+        c.pattern_of.result,
+        c.answered-answer.ensures,
+        stopped ∙ (ap result_err c.answered-answer.ensures ∙ stop_told c.pattern_of.result),
+        refl,
+        runs,
+      );
+      read_fault = λ going fault. read_fault_told c.pattern_of.result _ runs.cause (told ∙ fault);
+      write_fault = λ going fault. write_fault_told c.pattern_of.result _ runs.cause (told ∙ fault);
+      stopped = stopped;
+      ready = λ going. going_told c.pattern_of.result _ runs.ready (ap result_err told ∙ (sym stopped ∙ going));
+      nodes = nodes_kept _ _ runs.grows;
+    })
 
 pub returns-clause-pattern : goal.returns-clause-pattern
 returns-clause-pattern g c =
