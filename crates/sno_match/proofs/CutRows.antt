@@ -2,7 +2,8 @@
 use Rattle.std.proofs.Common.{◌≡◌, ℕ, true, false, [], ◌∷◌, refl}
 use Rattle.sno_value.specs.declared.value.Name.{Name}
 use Rattle.sno_value.specs.declared.value.Name.TheVariants.{Var}
-use Rattle.sno_pattern.specs.Pattern.{Pattern, Leaf, Text, Rem, Len, BreakX, Fence, Arbno, Cut, Alt, Cat, Imm}
+use Rattle.sno_value.specs.declared.kind.PrimitiveKind.TheVariants.{Len, BreakX}
+use Rattle.sno_pattern.specs.Pattern.{Pattern, Leaf, Text, Rem, Fence, Arbno, Cut, Alt, Cat, Imm, Counted, Among}
 use Rattle.sno_match.specs.Search.{Way, Assign, Ended, Exhausted, Aborted, Limit, trace}
 
 abbrev variable : ℕ → Name
@@ -38,8 +39,8 @@ beside_cut : trace (Alt (Cat (Cut a) x) ab) (65 ∷ 66 ∷ []) true 1000 [] ≡ 
 beside_cut = refl
 
 -- FENCE(LEN(1) $ V | LEN(2) $ V) 'C' on ABC
-assignment_stays : trace (Cat (Cut (Alt (Imm (Leaf (Len 1)) (variable 0)) (Imm (Leaf (Len 2)) (variable 0)))) c) (65 ∷ 66 ∷ 67 ∷ []) true 1000 []
-    ≡ (Assign (variable 0) 0 1, 6) ∷ (Ended Exhausted, 8) ∷ []
+assignment_stays : trace (Cat (Cut (Alt (Imm (Leaf (Counted Len 1)) (variable 0)) (Imm (Leaf (Counted Len 2)) (variable 0)))) c) (65 ∷ 66 ∷ 67 ∷ [])
+    true 1000 [] ≡ (Assign (variable 0) 0 1, 6) ∷ (Ended Exhausted, 8) ∷ []
 assignment_stays = refl
 
 -- FENCE(FENCE('A' | 'AB') ('C' | 'BC')) REM on ABC
@@ -51,11 +52,11 @@ later_start : trace (Cat (Cut (Alt a ab)) c) (65 ∷ 66 ∷ 65 ∷ 67 ∷ []) fa
 later_start = refl
 
 -- BREAKX('B') 'B' on ABAB, and BREAKX('B') on BB
-each_stop : trace (Cat (Leaf (BreakX (66 ∷ []))) (Leaf (Text (66 ∷ [])))) (65 ∷ 66 ∷ 65 ∷ 66 ∷ []) true 1000 [] ≡ (Way 0 2 [], 3) ∷ (Way 0 4 [], 5)
+each_stop : trace (Cat (Leaf (Among BreakX (66 ∷ []))) (Leaf (Text (66 ∷ [])))) (65 ∷ 66 ∷ 65 ∷ 66 ∷ []) true 1000 [] ≡ (Way 0 2 [], 3) ∷ (Way 0 4 [], 5)
     ∷ (Ended Exhausted, 5) ∷ []
 each_stop = refl
 
-stop_here : trace (Leaf (BreakX (66 ∷ []))) (66 ∷ 66 ∷ []) true 1000 [] ≡ (Way 0 0 [], 1) ∷ (Way 0 1 [], 2) ∷ (Ended Exhausted, 2) ∷ []
+stop_here : trace (Leaf (Among BreakX (66 ∷ []))) (66 ∷ 66 ∷ []) true 1000 [] ≡ (Way 0 0 [], 1) ∷ (Way 0 1 [], 2) ∷ (Ended Exhausted, 2) ∷ []
 stop_here = refl
 
 -- FENCE(ARBNO('A')) 'A' on AA: the least repetition is kept

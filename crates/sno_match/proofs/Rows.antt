@@ -2,7 +2,8 @@
 use Rattle.std.proofs.Common.{◌≡◌, ℕ, true, false, [], ◌∷◌, refl, Some, None}
 use Rattle.sno_value.specs.declared.value.Name.{Name}
 use Rattle.sno_value.specs.declared.value.Name.TheVariants.{Var}
-use Rattle.sno_pattern.specs.Pattern.{Pattern, Leaf, Text, Arb, Bal, Fail, Len, Fence, Arbno, Alt, Cat, Succeed, Cond, Imm, Defer}
+use Rattle.sno_value.specs.declared.kind.PrimitiveKind.TheVariants.{Len}
+use Rattle.sno_pattern.specs.Pattern.{Pattern, Leaf, Text, Arb, Bal, Fail, Fence, Arbno, Alt, Cat, Succeed, Cond, Imm, Defer, Counted}
 use Rattle.sno_match.specs.Search.{Way, Assign, Value, Ended, assigns, Exhausted, Aborted, Limit, trace}
 
 abbrev variable : ℕ → Name
@@ -63,12 +64,12 @@ bal_longer_and_longer : trace (Leaf Bal) (40 ∷ 65 ∷ 41 ∷ 66 ∷ []) true 1
 bal_longer_and_longer = refl
 
 -- LEN(1) $ X FAIL on AB
-immediate_at_each_start : trace (Cat (Imm (Leaf (Len 1)) (variable 0)) (Leaf Fail)) (65 ∷ 66 ∷ []) false 1000 [] ≡
+immediate_at_each_start : trace (Cat (Imm (Leaf (Counted Len 1)) (variable 0)) (Leaf Fail)) (65 ∷ 66 ∷ []) false 1000 [] ≡
     (Assign (variable 0) 0 1, 4) ∷ (Assign (variable 0) 1 2, 10) ∷ (Ended Exhausted, 15) ∷ []
 immediate_at_each_start = refl
 
 -- (LEN(1) . A LEN(1)) . B on XY
-pending_inner_first : trace (Cond (Cat (Cond (Leaf (Len 1)) (variable 0)) (Leaf (Len 1))) (variable 1)) (88 ∷ 89 ∷ []) true 1000 [] ≡
+pending_inner_first : trace (Cond (Cat (Cond (Leaf (Counted Len 1)) (variable 0)) (Leaf (Counted Len 1))) (variable 1)) (88 ∷ 89 ∷ []) true 1000 [] ≡
     (Way 0 2 (assigns (variable 0) 0 1 ∷ assigns (variable 1) 0 2 ∷ []), 7) ∷ (Ended Exhausted, 7) ∷ []
 pending_inner_first = refl
 

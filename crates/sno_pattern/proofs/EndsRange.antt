@@ -5,7 +5,8 @@ use Rattle.std.specs.List.{starts_with}
 use Rattle.std.specs.Cmp.Lexicographic.{pointwise}
 use Rattle.std.proofs.lemmas.Bool.{leb-true}
 use Rattle.std.proofs.lemmas.Option.{slice_get_within}
-use Rattle.sno_pattern.specs.Pattern.{Primitive, Text, Len, Pos, Rpos, Tab, Rtab, Any, NotAny, Span, Break, BreakX, Arb, Bal, Rem, Fail}
+use Rattle.sno_value.specs.declared.kind.PrimitiveKind.TheVariants.{Len, Pos, Rpos, Tab, Rtab, Any, NotAny, Span, Break, BreakX}
+use Rattle.sno_pattern.specs.Pattern.{Primitive, Text, Arb, Bal, Rem, Fail, Counted, Among}
 use Rattle.sno_pattern.specs.Ends.{is_in, count_from, end_if, end_after, run_length, first_in, all_in, is_balanced, ends}
 
 abbrev pub Within : ℕ → ℕ → ℕ → Type 0
@@ -94,21 +95,23 @@ text-within bytes s c h e =
 
 pub ends-rise : (a : Primitive) (s : List ℕ) (c : ℕ) → c ≤ length s → Rises c (length s) (ends a s c)
 ends-rise (Text bytes) s c h = end_if-rises c (length s) (starts_with nat_eq (drop c s) bytes) (c + length bytes) (text-within bytes s c h)
-ends-rise (Len n) s c h = end_if-rises c (length s) (nat_le (c + n) (length s)) (c + n) (λ e. (omega arith, leb-true (c + n) (length s) e))
-ends-rise (Pos n) s c h = end_if-rises c (length s) (c == n) c (λ e. (omega arith, h))
-ends-rise (Rpos n) s c h = end_if-rises c (length s) (c + n == length s) c (λ e. (omega arith, h))
-ends-rise (Tab n) s c h = end_if-rises c (length s) (nat_le c n && nat_le n (length s)) n
+ends-rise (Counted Len n) s c h = end_if-rises c (length s) (nat_le (c + n) (length s)) (c + n) (λ e. (omega arith, leb-true (c + n) (length s) e))
+ends-rise (Counted Pos n) s c h = end_if-rises c (length s) (c == n) c (λ e. (omega arith, h))
+ends-rise (Counted Rpos n) s c h = end_if-rises c (length s) (c + n == length s) c (λ e. (omega arith, h))
+ends-rise (Counted Tab n) s c h = end_if-rises c (length s) (nat_le c n && nat_le n (length s)) n
     (λ e. let both : (nat_le c n ≡ true) × (nat_le n (length s) ≡ true) = first-of-and (nat_le c n) (nat_le n (length s)) e in
     (leb-true c n both.0, leb-true n (length s) both.1))
-ends-rise (Rtab n) s c h =
+ends-rise (Counted Rtab n) s c h =
     end_if-rises c (length s) (nat_le (c + n) (length s)) (length s - n) (λ e. let k : c + n ≤ length s = leb-true (c + n) (length s) e in
     (omega arith, omega arith))
-ends-rise (Any set) s c h = end_after-rises (is_in set) c (length s) (slice_get s c) (λ x e. slice_get_within s c x e)
-ends-rise (NotAny set) s c h = end_after-rises (λ byte. not (is_in set byte)) c (length s) (slice_get s c) (λ x e. slice_get_within s c x e)
-ends-rise (Span set) s c h = end_if-rises c (length s) (not (run_length set (drop c s) == 0)) (c + run_length set (drop c s))
+ends-rise (Counted kind n) s c h = tt
+ends-rise (Among Any set) s c h = end_after-rises (is_in set) c (length s) (slice_get s c) (λ x e. slice_get_within s c x e)
+ends-rise (Among NotAny set) s c h = end_after-rises (λ byte. not (is_in set byte)) c (length s) (slice_get s c) (λ x e. slice_get_within s c x e)
+ends-rise (Among Span set) s c h = end_if-rises c (length s) (not (run_length set (drop c s) == 0)) (c + run_length set (drop c s))
     (λ e. (omega arith, omega (arith, run_length-le set (drop c s), length-drop c s)))
-ends-rise (Break set) s c h = first_in-rises set c c (length s) (drop c s) (omega arith) (omega (arith, length-drop c s))
-ends-rise (BreakX set) s c h = all_in-rises set c c (length s) (drop c s) (omega arith) (omega (arith, length-drop c s))
+ends-rise (Among Break set) s c h = first_in-rises set c c (length s) (drop c s) (omega arith) (omega (arith, length-drop c s))
+ends-rise (Among BreakX set) s c h = all_in-rises set c c (length s) (drop c s) (omega arith) (omega (arith, length-drop c s))
+ends-rise (Among kind set) s c h = tt
 ends-rise Arb s c h = count_from-rises c (length s + 1 - c) (length s) (omega arith)
 ends-rise Bal s c h =
     filter-rises (λ e. is_balanced (take (e - c) (drop c s))) c (length s) (count_from (c + 1) (length s - c))

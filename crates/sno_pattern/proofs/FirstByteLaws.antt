@@ -3,7 +3,8 @@ use Rattle.std.proofs.Common.{◌≡◌, ℕ, ◌+◌, ◌==◌, Bool, true, fal
 use Rattle.std.proofs.Common.{get_or, slice_get, slice_index, refl, sym, ◌∙◌, ap, subst}
 use Rattle.std.specs.Option.{is_some}
 use Rattle.std.proofs.lemmas.Bool.{eq-eqb}
-use Rattle.sno_pattern.specs.Pattern.{Text, Any, Span}
+use Rattle.sno_value.specs.declared.kind.PrimitiveKind.TheVariants.{Any, Span}
+use Rattle.sno_pattern.specs.Pattern.{Text, Among}
 use Rattle.sno_pattern.specs.Ends.{is_in, end_after, run_length}
 use Rattle.sno_pattern.specs.Places.{IsAmong, stands_at}
 use Rattle.sno_pattern.specs.inner.Places.{leaf_has_end, byte_passes}
@@ -51,15 +52,15 @@ text_among text old new s c first some is joined h =
     (λ b none. sym (turned first b) ∙ none_of_these old new (λ b. first == b) joined b none) h))
 
 pub any_among : (set old new s : List ℕ) (c : ℕ) → ((b : ℕ) → is_in new b ≡ (is_in old b || is_in set b)) → stands_at new s c ≡ false
-    → leaf_has_end (Any set) s c ≡ false
+    → leaf_has_end (Among Any set) s c ≡ false
 any_among set old new s c joined = passes-fewer (is_in set) (is_in new) s c (none_of_these old new (is_in set) joined)
 
 pub span_among : (set old new s : List ℕ) (c : ℕ) → ((b : ℕ) → is_in new b ≡ (is_in old b || is_in set b)) → stands_at new s c ≡ false
-    → leaf_has_end (Span set) s c ≡ false
+    → leaf_has_end (Among Span set) s c ≡ false
 span_among set old new s c joined h = sym (span_begins set s c c (c + run_length set (drop c s))) ∙ any_among set old new s c joined h
 
 -- a run has an end just where a byte of its set stands
-pub span_without : (set s : List ℕ) (c : ℕ) → stands_at set s c ≡ false → leaf_has_end (Span set) s c ≡ false
+pub span_without : (set s : List ℕ) (c : ℕ) → stands_at set s c ≡ false → leaf_has_end (Among Span set) s c ≡ false
 span_without set s c h = sym (span_begins set s c c (c + run_length set (drop c s))) ∙ h
 
 pub no_first : (end : Option ℕ) (es : List ℕ) → end ≡ slice_get es 0 → is_some end ≡ false → is_some (slice_get es 0) ≡ false

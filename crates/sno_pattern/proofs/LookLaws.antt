@@ -5,7 +5,8 @@ use Rattle.std.specs.Prelude.{unwrap_or}
 use Rattle.std.specs.Option.{is_some}
 use Rattle.std.proofs.lemmas.Bool.{ne_eqb}
 use Rattle.std.proofs.lemmas.List.{drop-drop, get_or-set_same, get_or-set_other, length-set}
-use Rattle.sno_pattern.specs.Pattern.{Pattern, Bal, Span, Break, BreakX, Leaf}
+use Rattle.sno_value.specs.declared.kind.PrimitiveKind.TheVariants.{Span, Break, BreakX}
+use Rattle.sno_pattern.specs.Pattern.{Pattern, Bal, Leaf, Among}
 use Rattle.sno_pattern.specs.Ends.{is_in, end_if, run_length, first_in, ends}
 use Rattle.sno_pattern.specs.Places.{IsFirstPlace, has_end}
 use Rattle.sno_pattern.specs.inner.Places.{leaf_has_end}
@@ -49,7 +50,8 @@ the_end c zero e h = absurd (cc)
 the_end c (suc n) e h = let some : (suc n == 0) ≡ false = ne_eqb (suc n) 0 (λ z. omega arith) in (some_is (c + suc n) e (rw some at h), omega arith)
 
 -- SPAN ends at the same place from each byte of its run
-pub span_run : (set s : List ℕ) (c e d : ℕ) → slice_get (ends (Span set) s c) 0 ≡ Some e → c ≤ d → d ≤ e - 1 → slice_get (ends (Span set) s d) 0 ≡ Some e
+pub span_run : (set s : List ℕ) (c e d : ℕ) → slice_get (ends (Among Span set) s c) 0 ≡ Some e → c ≤ d → d ≤ e - 1
+    → slice_get (ends (Among Span set) s d) 0 ≡ Some e
 span_run set s c e d at low high =
     let is = the_end c (run_length set (drop c s)) e at in
     let left : d - c + run_length set (drop (d - c) (drop c s)) ≡ run_length set (drop c s) = run_left set (drop c s) (d - c) (omega (arith, is.0, is.1)) in
@@ -89,26 +91,28 @@ none_behind set c (byte ∷ bytes) (suc k) at = go (is_in set byte) at (none_beh
     go false is later = rw n (later is)
 
 -- BREAK ends at the same place up to its end
-pub break_run : (set s : List ℕ) (c e d : ℕ) → slice_get (ends (Break set) s c) 0 ≡ Some e → c ≤ d → d ≤ e → slice_get (ends (Break set) s d) 0 ≡ Some e
+pub break_run : (set s : List ℕ) (c e d : ℕ) → slice_get (ends (Among Break set) s c) 0 ≡ Some e → c ≤ d → d ≤ e
+    → slice_get (ends (Among Break set) s d) 0 ≡ Some e
 break_run set s c e d at low high =
     let n : c + (d - c) ≡ d = omega arith in
     ap (λ bytes. slice_get (first_in set d bytes) 0) (sym (drop_to s c d low)) ∙
     ap (λ m. slice_get (first_in set m (drop (d - c) (drop c s))) 0) (sym n) ∙ first_behind set c (drop c s) (d - c) e at (omega arith)
 
 -- where BREAK has no end it has none from a later cursor
-pub break_none : (set s : List ℕ) (c d : ℕ) → slice_get (ends (Break set) s c) 0 ≡ None → c ≤ d → slice_get (ends (Break set) s d) 0 ≡ None
+pub break_none : (set s : List ℕ) (c d : ℕ) → slice_get (ends (Among Break set) s c) 0 ≡ None → c ≤ d → slice_get (ends (Among Break set) s d) 0 ≡ None
 break_none set s c d at low =
     let n : c + (d - c) ≡ d = omega arith in
     ap (λ bytes. slice_get (first_in set d bytes) 0) (sym (drop_to s c d low)) ∙
     ap (λ m. slice_get (first_in set m (drop (d - c) (drop c s))) 0) (sym n) ∙ none_behind set c (drop c s) (d - c) at
 
-stop_first : (set s : List ℕ) (c : ℕ) → slice_get (ends (BreakX set) s c) 0 ≡ slice_get (ends (Break set) s c) 0
+stop_first : (set s : List ℕ) (c : ℕ) → slice_get (ends (Among BreakX set) s c) 0 ≡ slice_get (ends (Among Break set) s c) 0
 stop_first set s c = all_in-first set c (drop c s)
 
-pub stop_run : (set s : List ℕ) (c e d : ℕ) → slice_get (ends (BreakX set) s c) 0 ≡ Some e → c ≤ d → d ≤ e → slice_get (ends (BreakX set) s d) 0 ≡ Some e
+pub stop_run : (set s : List ℕ) (c e d : ℕ) → slice_get (ends (Among BreakX set) s c) 0 ≡ Some e → c ≤ d → d ≤ e
+    → slice_get (ends (Among BreakX set) s d) 0 ≡ Some e
 stop_run set s c e d at low high = stop_first set s d ∙ break_run set s c e d (sym (stop_first set s c) ∙ at) low high
 
-pub stop_none : (set s : List ℕ) (c d : ℕ) → slice_get (ends (BreakX set) s c) 0 ≡ None → c ≤ d → slice_get (ends (BreakX set) s d) 0 ≡ None
+pub stop_none : (set s : List ℕ) (c d : ℕ) → slice_get (ends (Among BreakX set) s c) 0 ≡ None → c ≤ d → slice_get (ends (Among BreakX set) s d) 0 ≡ None
 stop_none set s c d at low = stop_first set s d ∙ break_none set s c d (sym (stop_first set s c) ∙ at) low
 
 -- a table that grows keeps what was found out
@@ -155,19 +159,19 @@ run_tells nodes s first_ends runs found slot other id at is are h same low high 
     sym (one.ends at low high) ∙ ap (λ n. end_of (tree nodes n) s at 0) same
 
 -- the same where a look says whether there is an end
-pub break_look : (set s : List ℕ) (c d : ℕ) (end : Option ℕ) → end ≡ slice_get (ends (Break set) s c) 0 → c ≤ d → d ≤ unwrap_or end (length s)
-    → slice_get (ends (Break set) s d) 0 ≡ end
+pub break_look : (set s : List ℕ) (c d : ℕ) (end : Option ℕ) → end ≡ slice_get (ends (Among Break set) s c) 0 → c ≤ d → d ≤ unwrap_or end (length s)
+    → slice_get (ends (Among Break set) s d) 0 ≡ end
 break_look set s c d None at low high = break_none set s c d (sym at) low
 break_look set s c d (Some e) at low high = break_run set s c e d (sym at) low high
 
-pub stop_look : (set s : List ℕ) (c d : ℕ) (end : Option ℕ) → end ≡ slice_get (ends (BreakX set) s c) 0 → c ≤ d → d ≤ unwrap_or end (length s)
-    → slice_get (ends (BreakX set) s d) 0 ≡ end
+pub stop_look : (set s : List ℕ) (c d : ℕ) (end : Option ℕ) → end ≡ slice_get (ends (Among BreakX set) s c) 0 → c ≤ d → d ≤ unwrap_or end (length s)
+    → slice_get (ends (Among BreakX set) s d) 0 ≡ end
 stop_look set s c d None at low high = stop_none set s c d (sym at) low
 stop_look set s c d (Some e) at low high = stop_run set s c e d (sym at) low high
 
 -- an entry of BREAKX stands for BREAKX
 pub is_stop : (entries : List Entry) (id : ℕ) (entry : Entry) (set : List ℕ) → IsTable entries → id < length entries → get_or entries id entry ≡ entry
-    → entry.kind ≡ K.BreakX set → tree (nodes_of entries) id ≡ Leaf (BreakX set)
+    → entry.kind ≡ K.Among BreakX set → tree (nodes_of entries) id ≡ Leaf (Among BreakX set)
 is_stop entries id entry set t h e is =
     tree-at (nodes_of entries) id (node_of entry.kind) t.parts (node-at entries id entry h e)
     ∙ ap (λ (k : Kind). tree_over (trees_onto [] (nodes_of entries)) (node_of k)) is
@@ -208,7 +212,7 @@ no_place s from place end none is fails c low high =
     (below_or_not c place)
 
 -- behind an end of BREAKX the next is the first from the byte behind it
-pub stop_next : (pattern : Pattern) (set s : List ℕ) (c i last : ℕ) (end : Option ℕ) → pattern ≡ Leaf (BreakX set) → end ≡ end_of pattern s (last + 1) 0
+pub stop_next : (pattern : Pattern) (set s : List ℕ) (c i last : ℕ) (end : Option ℕ) → pattern ≡ Leaf (Among BreakX set) → end ≡ end_of pattern s (last + 1) 0
     → end_of pattern s c i ≡ Some last → end ≡ end_of pattern s c (i + 1)
 stop_next pattern set s c i last end is looked at =
     looked ∙ ap (λ (t : Pattern). end_of t s (last + 1) 0) is ∙ sym (stop_behind set s c i last (sym (ap (λ (t : Pattern). end_of t s c i) is) ∙ at))

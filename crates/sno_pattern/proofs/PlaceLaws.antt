@@ -8,7 +8,8 @@ use Rattle.std.proofs.lemmas.Iterator.Adapters.{position_from-zero}
 use Rattle.std.proofs.lemmas.List.{get_or-take, get_or-drop, length-drop, length-take, take_rest}
 use Rattle.std.proofs.lemmas.List.Quantifiers.{position-Some}
 use Rattle.std.proofs.lemmas.Option.{slice_get-get_or, slice_get_past}
-use Rattle.sno_pattern.specs.Pattern.{Text, Any, Span, Break}
+use Rattle.sno_value.specs.declared.kind.PrimitiveKind.TheVariants.{Any, Span, Break}
+use Rattle.sno_pattern.specs.Pattern.{Text, Among}
 use Rattle.sno_pattern.specs.Ends.{is_in, end_if, end_after, run_length, first_in}
 use Rattle.sno_pattern.proofs.SetLaws.{here_or_behind}
 use Rattle.sno_pattern.proofs.LaneLaws.{turned}
@@ -151,10 +152,11 @@ span_begins set (x ∷ s) zero low high = go (is_in set x)
     go false = refl
 span_begins set (x ∷ s) (suc c) low high = span_begins set s c low high
 
-pub span_place : (set s : List ℕ) (from until place : ℕ) → IsFirstPlace (leaf_has_end (Any set) s) from until place
-    → IsFirstPlace (leaf_has_end (Span set) s) from until place
+pub span_place : (set s : List ℕ) (from until place : ℕ) → IsFirstPlace (leaf_has_end (Among Any set) s) from until place
+    → IsFirstPlace (leaf_has_end (Among Span set) s) from until place
 span_place set s from until place first =
-    same_place (leaf_has_end (Any set) s) (leaf_has_end (Span set) s) from until place (λ c. span_begins set s c c (c + run_length set (drop c s))) first
+    same_place (leaf_has_end (Among Any set) s) (leaf_has_end (Among Span set) s) from until place
+    (λ c. span_begins set s c c (c + run_length set (drop c s))) first
 
 -- no byte of a set is ahead, from wherever places are counted
 none_at_all : (set : List ℕ) (k n : ℕ) (s : List ℕ) → None ≡ slice_get (first_in set k s) 0 → is_some (slice_get (first_in set n s) 0) ≡ false
@@ -185,7 +187,7 @@ none_later set (suc c) (suc d) k n [] h e = refl
 none_later set (suc c) (suc d) k n (x ∷ s) h e = none_later set c d k n s (omega arith) e
 
 pub break_place_here : (set s : List ℕ) (from until end : ℕ) → from ≤ until → Some end ≡ slice_get (first_in set from (drop from s)) 0
-    → IsFirstPlace (leaf_has_end (Break set) s) from until from
+    → IsFirstPlace (leaf_has_end (Among Break set) s) from until from
 break_place_here set s from until end range e = record {
   behind = omega arith;
   before = range;
@@ -194,7 +196,7 @@ break_place_here set s from until end range e = record {
 }
 
 pub break_place_none : (set s : List ℕ) (from until : ℕ) → from ≤ until → None ≡ slice_get (first_in set from (drop from s)) 0
-    → IsFirstPlace (leaf_has_end (Break set) s) from until until
+    → IsFirstPlace (leaf_has_end (Among Break set) s) from until until
 break_place_none set s from until range e = record {
   behind = range;
   before = omega arith;

@@ -1,6 +1,7 @@
 -- Worked rows of the definitions, by computation.
 use Rattle.std.proofs.Common.{◌≡◌, Some, None, [], ◌∷◌, codes, refl}
-use Rattle.sno_pattern.specs.Pattern.{Text, Len, Pos, Rpos, Tab, Rtab, Any, NotAny, Span, Break, BreakX, Arb, Bal, Rem, Fail, Leaf}
+use Rattle.sno_value.specs.declared.kind.PrimitiveKind.TheVariants.{Len, Pos, Rpos, Tab, Rtab, Any, NotAny, Span, Break, BreakX}
+use Rattle.sno_pattern.specs.Pattern.{Text, Arb, Bal, Rem, Fail, Leaf, Counted, Among}
 use Rattle.sno_pattern.specs.Ends.{ends}
 use Rattle.sno_pattern.specs.Sets.{set_of}
 use Rattle.sno_pattern.specs.NextEnd.{next_end}
@@ -35,63 +36,63 @@ arb-all = refl
 arb-end : ends Arb (codes "AB") 2 ≡ 2 ∷ []
 arb-end = refl
 
-break-missing : ends (Break (set_of (codes ","))) (codes "ABC") 0 ≡ []
+break-missing : ends (Among Break (set_of (codes ","))) (codes "ABC") 0 ≡ []
 unfolding set_of
 break-missing = refl
 
-break-here : ends (Break (set_of (codes ","))) (codes ",A") 0 ≡ 0 ∷ []
+break-here : ends (Among Break (set_of (codes ","))) (codes ",A") 0 ≡ 0 ∷ []
 unfolding set_of
 break-here = refl
 
-break-ahead : ends (Break (set_of (codes ";,"))) (codes "A,B;") 0 ≡ 1 ∷ []
+break-ahead : ends (Among Break (set_of (codes ";,"))) (codes "A,B;") 0 ≡ 1 ∷ []
 unfolding set_of
 break-ahead = refl
 
-break-behind : ends (Break (set_of (codes ","))) (codes "A,B") 2 ≡ []
+break-behind : ends (Among Break (set_of (codes ","))) (codes "A,B") 2 ≡ []
 unfolding set_of
 break-behind = refl
 
-breakx-all : ends (BreakX (set_of (codes "B"))) (codes "ABAB") 0 ≡ 1 ∷ 3 ∷ []
+breakx-all : ends (Among BreakX (set_of (codes "B"))) (codes "ABAB") 0 ≡ 1 ∷ 3 ∷ []
 unfolding set_of
 breakx-all = refl
 
-breakx-here : ends (BreakX (set_of (codes "B"))) (codes "BB") 0 ≡ 0 ∷ 1 ∷ []
+breakx-here : ends (Among BreakX (set_of (codes "B"))) (codes "BB") 0 ≡ 0 ∷ 1 ∷ []
 unfolding set_of
 breakx-here = refl
 
-breakx-behind : ends (BreakX (set_of (codes "B"))) (codes "ABAB") 2 ≡ 3 ∷ []
+breakx-behind : ends (Among BreakX (set_of (codes "B"))) (codes "ABAB") 2 ≡ 3 ∷ []
 unfolding set_of
 breakx-behind = refl
 
-breakx-missing : ends (BreakX (set_of (codes "B"))) (codes "AAA") 0 ≡ []
+breakx-missing : ends (Among BreakX (set_of (codes "B"))) (codes "AAA") 0 ≡ []
 unfolding set_of
 breakx-missing = refl
 
-span-run : ends (Span (set_of (codes "AB"))) (codes "ABAC") 0 ≡ 3 ∷ []
+span-run : ends (Among Span (set_of (codes "AB"))) (codes "ABAC") 0 ≡ 3 ∷ []
 unfolding set_of
 span-run = refl
 
-span-to_end : ends (Span (set_of (codes "BA"))) (codes "ABA") 0 ≡ 3 ∷ []
+span-to_end : ends (Among Span (set_of (codes "BA"))) (codes "ABA") 0 ≡ 3 ∷ []
 unfolding set_of
 span-to_end = refl
 
-span-none : ends (Span (set_of (codes "AB"))) (codes "CAB") 0 ≡ []
+span-none : ends (Among Span (set_of (codes "AB"))) (codes "CAB") 0 ≡ []
 unfolding set_of
 span-none = refl
 
-any-in : ends (Any (set_of (codes "BC"))) (codes "ABC") 2 ≡ 3 ∷ []
+any-in : ends (Among Any (set_of (codes "BC"))) (codes "ABC") 2 ≡ 3 ∷ []
 unfolding set_of
 any-in = refl
 
-any-out : ends (Any (set_of (codes "BC"))) (codes "ABC") 0 ≡ []
+any-out : ends (Among Any (set_of (codes "BC"))) (codes "ABC") 0 ≡ []
 unfolding set_of
 any-out = refl
 
-not_any-out : ends (NotAny (set_of (codes "BC"))) (codes "ABC") 0 ≡ 1 ∷ []
+not_any-out : ends (Among NotAny (set_of (codes "BC"))) (codes "ABC") 0 ≡ 1 ∷ []
 unfolding set_of
 not_any-out = refl
 
-not_any-at_end : ends (NotAny (set_of (codes "BC"))) (codes "ABC") 3 ≡ []
+not_any-at_end : ends (Among NotAny (set_of (codes "BC"))) (codes "ABC") 3 ≡ []
 unfolding set_of
 not_any-at_end = refl
 
@@ -100,37 +101,37 @@ set-order : set_of (codes "CABCA") ≡ codes "ABC"
 unfolding set_of
 set-order = refl
 
-len-in : ends (Len 2) (codes "ABC") 0 ≡ 2 ∷ []
+len-in : ends (Counted Len 2) (codes "ABC") 0 ≡ 2 ∷ []
 len-in = refl
 
-len-out : ends (Len 2) (codes "ABC") 2 ≡ []
+len-out : ends (Counted Len 2) (codes "ABC") 2 ≡ []
 len-out = refl
 
-tab-ahead : ends (Tab 1) (codes "ABC") 0 ≡ 1 ∷ []
+tab-ahead : ends (Counted Tab 1) (codes "ABC") 0 ≡ 1 ∷ []
 tab-ahead = refl
 
-tab-behind : ends (Tab 1) (codes "ABC") 2 ≡ []
+tab-behind : ends (Counted Tab 1) (codes "ABC") 2 ≡ []
 tab-behind = refl
 
-tab-out : ends (Tab 4) (codes "ABC") 0 ≡ []
+tab-out : ends (Counted Tab 4) (codes "ABC") 0 ≡ []
 tab-out = refl
 
-rtab-ahead : ends (Rtab 1) (codes "ABC") 0 ≡ 2 ∷ []
+rtab-ahead : ends (Counted Rtab 1) (codes "ABC") 0 ≡ 2 ∷ []
 rtab-ahead = refl
 
-rtab-behind : ends (Rtab 1) (codes "ABC") 3 ≡ []
+rtab-behind : ends (Counted Rtab 1) (codes "ABC") 3 ≡ []
 rtab-behind = refl
 
-pos-here : ends (Pos 1) (codes "ABC") 1 ≡ 1 ∷ []
+pos-here : ends (Counted Pos 1) (codes "ABC") 1 ≡ 1 ∷ []
 pos-here = refl
 
-pos-elsewhere : ends (Pos 1) (codes "ABC") 0 ≡ []
+pos-elsewhere : ends (Counted Pos 1) (codes "ABC") 0 ≡ []
 pos-elsewhere = refl
 
-rpos-here : ends (Rpos 1) (codes "ABC") 2 ≡ 2 ∷ []
+rpos-here : ends (Counted Rpos 1) (codes "ABC") 2 ≡ 2 ∷ []
 rpos-here = refl
 
-rpos-elsewhere : ends (Rpos 1) (codes "ABC") 1 ≡ []
+rpos-elsewhere : ends (Counted Rpos 1) (codes "ABC") 1 ≡ []
 rpos-elsewhere = refl
 
 rem-rest : ends Rem (codes "ABC") 1 ≡ 3 ∷ []

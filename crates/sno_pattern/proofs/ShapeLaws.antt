@@ -2,8 +2,10 @@
 use Rattle.std.proofs.Common.{◌≡◌, ℕ, zero, suc, ◌+◌, ◌<◌, ◌≤◌, List, [], ◌∷◌, length, get_or, refl, sym, ◌∙◌, ap, ◌-◌, arith, Option, Some, None, IfSome}
 use Rattle.std.proofs.Common.{slice_get, ◌≢◌, ◌==◌, ◌&&◌, nat_eq, nat_le, not, Bool, true, false, if◌then◌else◌, drop}
 use Rattle.std.specs.List.{starts_with}
+use Rattle.sno_value.specs.declared.kind.PrimitiveKind.{PrimitiveKind}
+use Rattle.sno_value.specs.declared.kind.PrimitiveKind.TheVariants.{Len, Pos, Rpos, Tab, Rtab, Any, NotAny, Span, Break, BreakX}
 use Rattle.sno_pattern.specs.Pattern.{Pattern, Arb, Leaf}
-use Rattle.sno_pattern.specs.Ends.{is_in, count_from, end_if, end_after, run_length, first_in, ends}
+use Rattle.sno_pattern.specs.Ends.{is_in, count_from, end_if, end_after, run_length, first_in, ends, count_ends, set_ends}
 use Rattle.sno_pattern.specs.Table.{Node, LeafNode, FenceNode, CutNode, AbortNode, SucceedNode, ArbnoNode, AltNode, CatNode, CondNode, ImmNode, PlaceNode}
 use Rattle.sno_pattern.specs.Table.{DeferNode, tree_over, trees_onto, tree}
 use Rattle.sno_pattern.specs.inner.Table.{PartsBelow}
@@ -99,20 +101,29 @@ first_in-one set c (byte ∷ bytes) i h = go (is_in set byte) (first_in-one set 
     go true e = end_if-one true c i h
     go false e = e
 
--- a primitive has one end at most, but for BREAKX, ARB and BAL
-pub one_end : (kind : Kind) (s : List ℕ) (c i : ℕ) → kind ≢ K.Arb → kind ≢ K.Bal → ((set : List ℕ) → kind ≢ K.BreakX set) → i ≢ 0
-    → None ≡ end_of_node (node_of kind) s c i
+pub one_count_end : (prim : PrimitiveKind) (n : ℕ) (s : List ℕ) (c i : ℕ) → i ≢ 0 → None ≡ slice_get (count_ends prim n s c) i
+one_count_end Len n s c i h = end_if-one (nat_le (c + n) (length s)) (c + n) i h
+one_count_end Pos n s c i h = end_if-one (c == n) c i h
+one_count_end Rpos n s c i h = end_if-one (c + n == length s) c i h
+one_count_end Tab n s c i h = end_if-one (nat_le c n && nat_le n (length s)) n i h
+one_count_end Rtab n s c i h = end_if-one (nat_le (c + n) (length s)) (length s - n) i h
+one_count_end prim n s c i h = refl
+
+-- one that takes a set has one end at most, but for BREAKX
+pub one_set_end : (prim : PrimitiveKind) (set s : List ℕ) (c i : ℕ) → prim ≢ BreakX → i ≢ 0 → None ≡ slice_get (set_ends prim set s c) i
+one_set_end Any set s c i x h = end_after-one (is_in set) (slice_get s c) c i h
+one_set_end NotAny set s c i x h = end_after-one (λ byte. not (is_in set byte)) (slice_get s c) c i h
+one_set_end Span set s c i x h = end_if-one (not (run_length set (drop c s) == 0)) (c + run_length set (drop c s)) i h
+one_set_end Break set s c i x h = first_in-one set c (drop c s) i h
+one_set_end BreakX set s c i x h = absurd (x refl)
+one_set_end prim set s c i x h = refl
+
+-- a primitive without a set has one end at most, but for ARB and BAL
+pub one_end : (kind : Kind) (s : List ℕ) (c i : ℕ) → kind ≢ K.Arb → kind ≢ K.Bal → ((prim : PrimitiveKind) (set : List ℕ) → kind ≢ K.Among prim set)
+    → i ≢ 0 → None ≡ end_of_node (node_of kind) s c i
 one_end (K.Text bytes) s c i a b x h = end_if-one (starts_with nat_eq (drop c s) bytes.items) (c + length bytes.items) i h
-one_end (K.Len n) s c i a b x h = end_if-one (nat_le (c + n) (length s)) (c + n) i h
-one_end (K.Pos n) s c i a b x h = end_if-one (c == n) c i h
-one_end (K.Rpos n) s c i a b x h = end_if-one (c + n == length s) c i h
-one_end (K.Tab n) s c i a b x h = end_if-one (nat_le c n && nat_le n (length s)) n i h
-one_end (K.Rtab n) s c i a b x h = end_if-one (nat_le (c + n) (length s)) (length s - n) i h
-one_end (K.Any set) s c i a b x h = end_after-one (is_in set) (slice_get s c) c i h
-one_end (K.NotAny set) s c i a b x h = end_after-one (λ byte. not (is_in set byte)) (slice_get s c) c i h
-one_end (K.Span set) s c i a b x h = end_if-one (not (run_length set (drop c s) == 0)) (c + run_length set (drop c s)) i h
-one_end (K.Break set) s c i a b x h = first_in-one set c (drop c s) i h
-one_end (K.BreakX set) s c i a b x h = absurd (x set refl)
+one_end (K.Counted prim n) s c i a b x h = one_count_end prim n s c i h
+one_end (K.Among prim set) s c i a b x h = absurd (x prim set refl)
 one_end K.Arb s c i a b x h = absurd (a refl)
 one_end K.Bal s c i a b x h = absurd (b refl)
 one_end K.Rem s c i a b x h = end_if-one true (length s) i h

@@ -3,7 +3,8 @@ use Rattle.std.proofs.Common.{◌≡◌, ℕ, zero, suc, ◌+◌, ◌-◌, ◌<�
 use Rattle.std.proofs.Common.{slice_get, refl, sym, ◌∙◌, ap, arith}
 use Rattle.std.proofs.lemmas.List.{drop-drop, length-drop}
 use Rattle.std.specs.Option.{is_some}
-use Rattle.sno_pattern.specs.Pattern.{Break, BreakX}
+use Rattle.sno_value.specs.declared.kind.PrimitiveKind.TheVariants.{Break, BreakX}
+use Rattle.sno_pattern.specs.Pattern.{Among}
 use Rattle.sno_pattern.specs.Ends.{is_in, first_in, all_in, ends}
 use Rattle.sno_pattern.specs.Places.{IsFirstPlace}
 use Rattle.sno_pattern.specs.inner.Places.{leaf_has_end}
@@ -45,21 +46,21 @@ stop_next set c (byte ∷ bytes) k e h = go (is_in set byte) k (λ j. stop_next 
     go true (suc j) next at = let is = later (all_in set (c + 1) bytes) j (next j at) in (is.0, is.1, is.2)
     go false j next at = later (all_in set (c + 1) bytes) j (next j at)
 
-module _ (set s : List ℕ) (c k last : ℕ) (at : slice_get (ends (BreakX set) s c) k ≡ Some last) where
+module _ (set s : List ℕ) (c k last : ℕ) (at : slice_get (ends (Among BreakX set) s c) k ≡ Some last) where
   here : Stop set c (drop c s) (all_in set c (drop c s)) k last
   here = stop_next set c (drop c s) k last at
 
   behind : drop (last + 1 - c) (drop c s) ≡ drop (last + 1) s
   behind = let low : c ≤ last = here.0 in let n : c + (last + 1 - c) ≡ last + 1 = omega arith in drop-drop (last + 1 - c) c s ∙ ap (λ m. drop m s) n
 
-  pub stop_behind : slice_get (ends (BreakX set) s c) (k + 1) ≡ slice_get (ends (BreakX set) s (last + 1)) 0
+  pub stop_behind : slice_get (ends (Among BreakX set) s c) (k + 1) ≡ slice_get (ends (Among BreakX set) s (last + 1)) 0
   stop_behind =
       let more : k + 1 ≡ suc k = omega arith in
       ap (slice_get (all_in set c (drop c s))) more ∙ here.2 ∙ ap (λ bytes. slice_get (first_in set (last + 1) bytes) 0) behind
       ∙ sym (all_in-first set (last + 1) (drop (last + 1) s))
 
   -- a stop stands before the end
-  pub no_stop_behind : length s ≤ last → slice_get (ends (BreakX set) s c) (k + 1) ≡ None
+  pub no_stop_behind : length s ≤ last → slice_get (ends (Among BreakX set) s c) (k + 1) ≡ None
   no_stop_behind h = absurd (omega (arith, here.0, here.1, length-drop c s))
 
 -- from a place without a stop there is none with a greater number
@@ -69,16 +70,17 @@ none_after (x ∷ stops) zero i h e = cc
 none_after (x ∷ stops) (suc k) zero h e = absurd (omega arith)
 none_after (x ∷ stops) (suc k) (suc i) h e = none_after stops k i (omega arith) e
 
-pub none_at_first : (set s : List ℕ) (c i : ℕ) (r q : Option ℕ) → r ≡ slice_get (ends (BreakX set) s c) 0 → r ≡ None → q ≡ None
-    → q ≡ slice_get (ends (BreakX set) s c) i
-none_at_first set s c i r q first is none = none ∙ sym (none_after (ends (BreakX set) s c) 0 i (omega arith) (sym first ∙ is))
+pub none_at_first : (set s : List ℕ) (c i : ℕ) (r q : Option ℕ) → r ≡ slice_get (ends (Among BreakX set) s c) 0 → r ≡ None → q ≡ None
+    → q ≡ slice_get (ends (Among BreakX set) s c) i
+none_at_first set s c i r q first is none = none ∙ sym (none_after (ends (Among BreakX set) s c) 0 i (omega arith) (sym first ∙ is))
 
-pub none_behind : (set s : List ℕ) (c k i : ℕ) (r q : Option ℕ) → k < i → r ≡ slice_get (ends (BreakX set) s c) (k + 1) → r ≡ None → q ≡ None
-    → q ≡ slice_get (ends (BreakX set) s c) i
-none_behind set s c k i r q before next is none = none ∙ sym (none_after (ends (BreakX set) s c) (k + 1) i (omega arith) (sym next ∙ is))
+pub none_behind : (set s : List ℕ) (c k i : ℕ) (r q : Option ℕ) → k < i → r ≡ slice_get (ends (Among BreakX set) s c) (k + 1) → r ≡ None → q ≡ None
+    → q ≡ slice_get (ends (Among BreakX set) s c) i
+none_behind set s c k i r q before next is none = none ∙ sym (none_after (ends (Among BreakX set) s c) (k + 1) i (omega arith) (sym next ∙ is))
 
 -- BREAKX has an end where BREAK has one
-pub stop_place : (set s : List ℕ) (from until place : ℕ) → IsFirstPlace (leaf_has_end (Break set) s) from until place
-    → IsFirstPlace (leaf_has_end (BreakX set) s) from until place
+pub stop_place : (set s : List ℕ) (from until place : ℕ) → IsFirstPlace (leaf_has_end (Among Break set) s) from until place
+    → IsFirstPlace (leaf_has_end (Among BreakX set) s) from until place
 stop_place set s from until place first =
-    same_place (leaf_has_end (Break set) s) (leaf_has_end (BreakX set) s) from until place (λ c. ap is_some (sym (all_in-first set c (drop c s)))) first
+    same_place (leaf_has_end (Among Break set) s) (leaf_has_end (Among BreakX set) s) from until place
+    (λ c. ap is_some (sym (all_in-first set c (drop c s)))) first

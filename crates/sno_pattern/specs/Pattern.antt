@@ -3,20 +3,12 @@ use Rattle.std.specs.Prelude.{ℕ, List, Option}
 use Rattle.sno_value.specs.declared.value.Name.{Name}
 use Rattle.sno_value.specs.declared.kind.PrimitiveKind.{PrimitiveKind}
 
--- a pattern that is matched in one piece: it has a list of ends and leaves nothing behind; a set is in rising order,
--- each byte once
+-- a pattern that is matched in one piece: it has a list of ends and leaves nothing behind
 pub data Primitive : Type 0 where
   Text : (bytes : List ℕ) → Primitive
-  Len : (count : ℕ) → Primitive
-  Pos : (count : ℕ) → Primitive
-  Rpos : (count : ℕ) → Primitive
-  Tab : (count : ℕ) → Primitive
-  Rtab : (count : ℕ) → Primitive
-  Any : (set : List ℕ) → Primitive
-  NotAny : (set : List ℕ) → Primitive
-  Span : (set : List ℕ) → Primitive
-  Break : (set : List ℕ) → Primitive
-  BreakX : (set : List ℕ) → Primitive
+  -- one that takes a count, and one that takes a set of bytes, in rising order, each once
+  Counted : (kind : PrimitiveKind) (count : ℕ) → Primitive
+  Among : (kind : PrimitiveKind) (set : List ℕ) → Primitive
   Arb : Primitive
   Bal : Primitive
   Rem : Primitive

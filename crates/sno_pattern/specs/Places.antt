@@ -1,7 +1,8 @@
 -- The next place at which a pattern has an end.
 use Rattle.std.specs.Prelude.{ℕ, ◌≡◌, ◌<◌, ◌≤◌, Bool, true, false, List, slice_get}
 use Rattle.std.specs.Option.{is_some}
-use Rattle.sno_pattern.specs.Pattern.{Pattern, Any}
+use Rattle.sno_value.specs.declared.kind.PrimitiveKind.TheVariants.{Any}
+use Rattle.sno_pattern.specs.Pattern.{Pattern, Among}
 use Rattle.sno_pattern.specs.Ends.{is_in, ends}
 use Rattle.sno_pattern.specs.Shape.{end_of}
 
@@ -18,7 +19,7 @@ has_end pattern s c = is_some (end_of pattern s c 0)
 
 -- whether a byte of a set stands at a place
 abbrev pub stands_at : List ℕ → List ℕ → ℕ → Bool
-stands_at set s c = is_some (slice_get (ends (Any set) s c) 0)
+stands_at set s c = is_some (slice_get (ends (Among Any set) s c) 0)
 
 -- each byte of the one set is in the other
 pub record IsAmong (set other : List ℕ) : Type 0 where

@@ -6,9 +6,9 @@ ghost use Rattle.sno_pattern.specs.inner.Shape.{end_of_node};
 ghost use Rattle.sno_pattern.specs.inner.Kinds.{node_of};
 
 use crate::balance::{balanced_end, balanced_end_at};
-use crate::counts::{len_end, pos_end, rpos_end, rtab_end, tab_end};
+use crate::counts::count_end;
 use crate::kind::Kind;
-use crate::sets::{any_end, break_end, first_stop, not_any_end, span_end, stop_at, stop_behind};
+use crate::sets::{first_set_end, has_one_set_end, later_set_end, set_end_behind};
 
 /// The end of a primitive node with the number `i`, in order of trial.
 pub(crate) fn end_of_kind(kind: &Kind, subject: &[u8], at: usize, i: usize) -> Option<usize>
@@ -27,7 +27,7 @@ pub(crate) fn end_of_kind(kind: &Kind, subject: &[u8], at: usize, i: usize) -> O
             }
         }
         Kind::Bal => balanced_end_at(subject, at, i),
-        Kind::BreakX(set) => stop_at(set, subject, at, i),
+        Kind::Among(prim, set) => later_set_end(*prim, set, subject, at, i),
         _ => None,
     }
 }
@@ -47,7 +47,7 @@ pub(crate) fn end_behind_of_kind(kind: &Kind, subject: &[u8], last: usize) -> Op
             }
         }
         Kind::Bal => balanced_end(subject, last),
-        Kind::BreakX(set) => stop_behind(set, subject, last),
+        Kind::Among(prim, set) => set_end_behind(*prim, set, subject, last),
         _ => None,
     }
 }
@@ -59,7 +59,7 @@ pub(crate) fn has_one_end(kind: &Kind) -> bool
     match kind {
         Kind::Arb => false,
         Kind::Bal => false,
-        Kind::BreakX(_set) => false,
+        Kind::Among(prim, _set) => has_one_set_end(*prim),
         _ => true,
     }
 }
@@ -71,16 +71,8 @@ pub(crate) fn first_end(kind: &Kind, subject: &[u8], at: usize) -> Option<usize>
 {
     match kind {
         Kind::Text(text) => text_end(text, subject, at),
-        Kind::Len(n) => len_end(*n, subject, at),
-        Kind::Pos(n) => pos_end(*n, at),
-        Kind::Rpos(n) => rpos_end(*n, subject, at),
-        Kind::Tab(n) => tab_end(*n, subject, at),
-        Kind::Rtab(n) => rtab_end(*n, subject, at),
-        Kind::Any(set) => any_end(set, subject, at),
-        Kind::NotAny(set) => not_any_end(set, subject, at),
-        Kind::Span(set) => span_end(set, subject, at),
-        Kind::Break(set) => break_end(set, subject, at),
-        Kind::BreakX(set) => first_stop(set, subject, at),
+        Kind::Counted(prim, n) => count_end(*prim, *n, subject, at),
+        Kind::Among(prim, set) => first_set_end(*prim, set, subject, at),
         Kind::Arb => Some(at),
         Kind::Bal => balanced_end(subject, at),
         Kind::Rem => Some(subject.len()),

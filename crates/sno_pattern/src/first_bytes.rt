@@ -8,6 +8,7 @@ use crate::byte_set::ByteSet;
 use crate::ends::text_end;
 use crate::kind::Kind;
 use crate::sets::any_end;
+use sno_value::Prim;
 
 /// Adds the bytes with which a node's text or run begins to a set. It is false for a node of which they aren't known.
 pub(crate) fn add_first_bytes_of_kind(kind: &Kind, set: &mut ByteSet) -> bool
@@ -23,14 +24,17 @@ pub(crate) fn add_first_bytes_of_kind(kind: &Kind, set: &mut ByteSet) -> bool
             set.add(text[0]);
             true
         }
-        Kind::Any(members) => {
-            set.add_all(members);
-            true
-        }
-        Kind::Span(members) => {
-            set.add_all(members);
-            true
-        }
+        Kind::Among(prim, members) => match prim {
+            Prim::Any => {
+                set.add_all(members);
+                true
+            }
+            Prim::Span => {
+                set.add_all(members);
+                true
+            }
+            _ => false,
+        },
         _ => false,
     }
 }
@@ -43,8 +47,11 @@ pub(crate) fn kind_fails_at(kind: &Kind, subject: &[u8], at: usize) -> bool
 {
     match kind {
         Kind::Text(text) => text_end(text, subject, at).is_none(),
-        Kind::Any(members) => any_end(members, subject, at).is_none(),
-        Kind::Span(members) => any_end(members, subject, at).is_none(),
+        Kind::Among(prim, members) => match prim {
+            Prim::Any => any_end(members, subject, at).is_none(),
+            Prim::Span => any_end(members, subject, at).is_none(),
+            _ => false,
+        },
         _ => false,
     }
 }

@@ -12,16 +12,8 @@ use sno_value::{ExprId, Name, PatId, Prim};
 #[derive(Drop)]
 pub(crate) enum Kind {
     Text(Vec<u8>),
-    Len(u64),
-    Pos(u64),
-    Rpos(u64),
-    Tab(u64),
-    Rtab(u64),
-    Any(ByteSet),
-    NotAny(ByteSet),
-    Span(ByteSet),
-    Break(ByteSet),
-    BreakX(ByteSet),
+    Counted(Prim, u64),
+    Among(Prim, ByteSet),
     Arb,
     Bal,
     Rem,

@@ -1,7 +1,7 @@
 //! Patterns as a table of numbered nodes, and the ends of primitive patterns.
 //!
 //! `table` has the builders and the look-ups, and `kind` is what it stores of a node; `shape` shows the head of a
-//! pattern. `argument` is what a primitive takes: a count, a text or a set of bytes (`byte_set`). `ends` says where a
+//! pattern. `argument` is what a primitive takes: a count or a set of bytes (`byte_set`). `ends` says where a
 //! primitive ends behind a cursor, by `counts`, `sets` and `balance` (with its `balance_table`), and `places` where
 //! the next end is; `first_bytes` are the bytes with which it begins. `looks` keeps what the looks through one subject
 //! have found out, and `lanes` looks at 32 bytes at a time.

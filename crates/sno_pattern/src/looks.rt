@@ -13,7 +13,7 @@ ghost use Rattle.sno_pattern.specs.Table.{Node, tree};
 
 use crate::balance_table::Balance;
 use crate::kind::Kind;
-use sno_value::PatId;
+use sno_value::{PatId, Prim};
 use std::alloc::Global;
 use std::marker::Model;
 
@@ -144,14 +144,17 @@ pub(crate) fn slot_behind(id: PatId, last: usize) -> usize
 
 /// Whether the first end of a primitive may be so far that it is worth remembering.
 pub(crate) fn is_far(kind: &Kind) -> bool {
-    matches!(kind, Kind::Span(_) | Kind::Break(_) | Kind::BreakX(_))
+    matches!(
+        kind,
+        Kind::Among(Prim::Span | Prim::Break | Prim::BreakX, _)
+    )
 }
 
 /// Whether the first end of a primitive is found at once, so that nothing is looked up or remembered for it.
 pub(crate) fn is_near(kind: &Kind) -> bool {
     !matches!(
         kind,
-        Kind::Bal | Kind::Span(_) | Kind::Break(_) | Kind::BreakX(_)
+        Kind::Bal | Kind::Among(Prim::Span | Prim::Break | Prim::BreakX, _)
     )
 }
 
@@ -161,12 +164,15 @@ pub(crate) fn last_with_end(kind: &Kind, subject: &[u8], at: usize, end: Option<
     ensures { (c : ℕ) → at ≤ c → c ≤ result → end_of_node (node_of kind.now) subject.now c 0 ≡ end }
 {
     match kind {
-        Kind::Span(_set) => match end {
-            Some(end) => end.saturating_sub(1),
-            None => at,
+        Kind::Among(prim, _set) => match prim {
+            Prim::Span => match end {
+                Some(end) => end.saturating_sub(1),
+                None => at,
+            },
+            Prim::Break => end.unwrap_or(subject.len()),
+            Prim::BreakX => end.unwrap_or(subject.len()),
+            _ => at,
         },
-        Kind::Break(_set) => end.unwrap_or(subject.len()),
-        Kind::BreakX(_set) => end.unwrap_or(subject.len()),
         _ => at,
     }
 }

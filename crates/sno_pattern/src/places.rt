@@ -1,6 +1,7 @@
 //! The next place at which a primitive has an end.
 ghost use Rattle.std.specs.Prelude.{◌≡◌, ◌≤◌, ◌+◌, ◌==◌, ◌-◌, length, take, drop, position};
-ghost use Rattle.sno_pattern.specs.Pattern.{Text, NotAny, Break};
+ghost use Rattle.sno_value.specs.declared.kind.PrimitiveKind.TheVariants.{NotAny, Break};
+ghost use Rattle.sno_pattern.specs.Pattern.{Text, Among};
 ghost use Rattle.sno_pattern.specs.inner.Kinds.{node_of};
 ghost use Rattle.sno_pattern.specs.Places.{IsFirstPlace, stands_at};
 ghost use Rattle.sno_pattern.specs.inner.Places.{leaf_has_end, node_has_end, byte_passes};
@@ -10,6 +11,7 @@ use crate::ends::first_end;
 use crate::kind::Kind;
 use crate::lanes::first_in;
 use crate::sets::break_end;
+use sno_value::Prim;
 
 /// The first place, from `from` up to `until`, at which a primitive
 /// node has an end; `until` where it has none before that.
@@ -21,11 +23,14 @@ pub(crate) fn first_place_of_kind(kind: &Kind, subject: &[u8], from: usize, unti
 {
     match kind {
         Kind::Text(text) => place_of_text(text, subject, from, until),
-        Kind::Any(set) => place_in_set(set, subject, from, until),
-        Kind::NotAny(set) => place_outside_set(set, subject, from, until),
-        Kind::Span(set) => place_in_set(set, subject, from, until),
-        Kind::Break(set) => place_before_set(set, subject, from, until),
-        Kind::BreakX(set) => place_before_set(set, subject, from, until),
+        Kind::Among(prim, set) => match prim {
+            Prim::Any => place_in_set(set, subject, from, until),
+            Prim::NotAny => place_outside_set(set, subject, from, until),
+            Prim::Span => place_in_set(set, subject, from, until),
+            Prim::Break => place_before_set(set, subject, from, until),
+            Prim::BreakX => place_before_set(set, subject, from, until),
+            _ => place_of_end(kind, subject, from, until),
+        },
         _ => place_of_end(kind, subject, from, until),
     }
 }
@@ -98,7 +103,7 @@ fn place_outside_set(set: &ByteSet, subject: &[u8], from: usize, until: usize) -
     requires start { from ≤ length subject.now }
     requires range { from ≤ until }
     requires inside { until ≤ length subject.now + 1 }
-    ensures { IsFirstPlace (leaf_has_end (NotAny set.now) subject.now) from until result }
+    ensures { IsFirstPlace (leaf_has_end (Among NotAny set.now) subject.now) from until result }
 {
     match set.first_not_in(bytes_between(subject, from, until)) {
         Some(before) => from + before,
@@ -111,7 +116,7 @@ fn place_outside_set(set: &ByteSet, subject: &[u8], from: usize, until: usize) -
 fn place_before_set(set: &ByteSet, subject: &[u8], from: usize, until: usize) -> usize
     requires start { from ≤ length subject.now }
     requires range { from ≤ until }
-    ensures { IsFirstPlace (leaf_has_end (Break set.now) subject.now) from until result }
+    ensures { IsFirstPlace (leaf_has_end (Among Break set.now) subject.now) from until result }
 {
     match break_end(set, subject, from) {
         Some(_end) => from,

@@ -17,7 +17,7 @@ ghost use Rattle.sno_pattern.specs.Looks.{AreTrue};
 ghost use Rattle.sno_pattern.specs.inner.Looks.{IsBal, StopsOften};
 ghost use Rattle.sno_pattern.specs.inner.Kinds.{nodes_of, node_of, IsTable};
 
-use crate::argument::{Arg, among, counted};
+use crate::argument::Arg;
 use crate::byte_set::ByteSet;
 use crate::ends::{end_behind_of_kind, end_of_kind, has_one_end};
 use crate::first_bytes::{add_first_bytes_of_kind, kind_fails_at};
@@ -121,13 +121,13 @@ impl Patterns {
                 if n < 0 {
                     return Err(BuildError::BadCount);
                 }
-                append(&mut self.entries, counted(prim, n as u64))
+                append(&mut self.entries, Kind::Counted(prim, n as u64))
             }
             Arg::Set(bytes) => {
                 if bytes.is_empty() {
                     return Err(BuildError::NullSet);
                 }
-                append(&mut self.entries, among(prim, ByteSet::of(bytes)))
+                append(&mut self.entries, Kind::Among(prim, ByteSet::of(bytes)))
             }
         }
     }
@@ -430,7 +430,10 @@ impl Patterns {
         requires { id.0 < length self.now }
         ensures { IsTrue result → StopsOften (tree self.now id.0) }
     {
-        matches!(&self.entries[id.0 as usize].kind, Kind::BreakX(_))
+        match &self.entries[id.0 as usize].kind {
+            Kind::Among(prim, _set) => matches!(prim, Prim::BreakX),
+            _ => false,
+        }
     }
 
     /// Whether a number's tree is BAL, whose end behind another is its first end from there.

@@ -9,10 +9,10 @@ use Rattle.sno_pattern.specs.declared.argument.Arg.{Arg}
 use Rattle.sno_pattern.specs.declared.argument.Arg.TheVariants.{Count, Set}
 use Rattle.sno_pattern.specs.declared.table.BuildError.{BuildError}
 use Rattle.sno_pattern.specs.declared.table.BuildError.TheVariants as refusal
-use Rattle.sno_pattern.specs.Pattern.{Pattern, Leaf}
+use Rattle.sno_pattern.specs.Pattern.{Pattern, Leaf, Counted, Among}
 use Rattle.sno_pattern.specs.Table.{LeafNode}
 use Rattle.sno_pattern.specs.Built.{Appends}
-use Rattle.sno_pattern.specs.Arguments.{IsGoodArg, IsNullSet, IsBadCount, primitive_of, with_count, with_set}
+use Rattle.sno_pattern.specs.Arguments.{IsGoodArg, IsNullSet, IsBadCount, primitive_of}
 use Rattle.sno_pattern.specs.Sets.{set_of}
 use Rattle.sno_runtime.specs.declared.stops.Exit.TheVariants.{Halt}
 use Rattle.sno_runtime.specs.declared.stops.Stop.TheVariants.{Error as HasError}
@@ -33,7 +33,7 @@ primitive_made kind (Count (negsuc n)) a b id known same good h = absurd (omega 
 primitive_made kind (Set bytes) a b id known same good h = set_made kind bytes.now a b id known same good h
   where
     set_made : (kind : PrimitiveKind) (bytes : List ℕ) (a b : Runtime) (id : PatId) → IsKnown a.nodes a.store → b ≡ record a { nodes = b.nodes }
-        → 0 < length bytes → Appends a.nodes b.nodes (LeafNode (with_set kind (set_of bytes))) id
+        → 0 < length bytes → Appends a.nodes b.nodes (LeafNode (Among kind (set_of bytes))) id
         → Does tree_of IsPatternOf (with_bytes kind bytes) a b (Ok id)
     set_made kind [] a b id known same good h = absurd (omega arith)
     set_made kind (byte ∷ bytes) a b id known same good h = made _ a b id known same h
@@ -64,14 +64,14 @@ bad_count kind (Set bytes) a b same u bad = absurd bad
 
 no_room : (kind : PrimitiveKind) (arg : Arg) (a b : Runtime) → b.nodes ≡ a.nodes → untouched b ≡ untouched a → IsGoodArg arg → length a.nodes ≡ 4000000
     → Does {X = PatId} tree_of IsPatternOf (makes_primitive kind arg) a b (Err (Halt (HasError 9)))
-no_room kind (Count (pos n)) a b same u good full = full_makes (Leaf (with_count kind n)) a b same u full
+no_room kind (Count (pos n)) a b same u good full = full_makes (Leaf (Counted kind n)) a b same u full
 no_room kind (Count (negsuc n)) a b same u good full = absurd (omega (arith, ints))
 no_room kind (Set bytes) a b same u good full = no_room_for kind bytes.now a b same u good full
   where
     no_room_for : (kind : PrimitiveKind) (bytes : List ℕ) (a b : Runtime) → b.nodes ≡ a.nodes → untouched b ≡ untouched a → 0 < length bytes
         → length a.nodes ≡ 4000000 → Does {X = PatId} tree_of IsPatternOf (with_bytes kind bytes) a b (Err (Halt (HasError 9)))
     no_room_for kind [] a b same u good full = absurd (omega arith)
-    no_room_for kind (byte ∷ bytes) a b same u good full = full_makes (Leaf (with_set kind (set_of (byte ∷ bytes)))) a b same u full
+    no_room_for kind (byte ∷ bytes) a b same u good full = full_makes (Leaf (Among kind (set_of (byte ∷ bytes)))) a b same u full
 
 pub primitive_refused : (kind : PrimitiveKind) (arg : Arg) (a b : Runtime) (r : Result PatId BuildError) (e : BuildError) → r ≡ Err e → b.nodes ≡ a.nodes
     → untouched b ≡ untouched a

@@ -1,7 +1,6 @@
 -- The nodes that the stored kinds stand for, and what a table keeps of them. Private contracts alone cite it.
 use Rattle.std.specs.Prelude.{ℕ, ◌<◌, ◌≤◌, Bool, true, false, ◌&&◌, ◌↔◌, List, length, map, get_or, None, Some, IsTrue}
-use Rattle.sno_pattern.specs.Pattern.{Text, Len, Pos, Rpos, Tab, Rtab, Any, NotAny, Span, Break, BreakX, Arb, Bal, Rem}
-use Rattle.sno_pattern.specs.Pattern.{Fail, IsQuiet}
+use Rattle.sno_pattern.specs.Pattern.{Text, Counted, Among, Arb, Bal, Rem, Fail, IsQuiet}
 use Rattle.sno_pattern.specs.Table.{Node, LeafNode, FenceNode, CutNode, AbortNode, SucceedNode, ArbnoNode, AltNode}
 use Rattle.sno_pattern.specs.Table.{CatNode, CondNode, ImmNode, PlaceNode, DeferNode, tree}
 use Rattle.sno_pattern.specs.inner.Table.{AllParts}
@@ -11,16 +10,8 @@ use Rattle.sno_pattern.specs.declared.kind.Entry.{Entry}
 
 abbrev pub node_of : Kind → Node
 node_of (K.Text bytes) = LeafNode (Text bytes.items)
-node_of (K.Len n) = LeafNode (Len n)
-node_of (K.Pos n) = LeafNode (Pos n)
-node_of (K.Rpos n) = LeafNode (Rpos n)
-node_of (K.Tab n) = LeafNode (Tab n)
-node_of (K.Rtab n) = LeafNode (Rtab n)
-node_of (K.Any set) = LeafNode (Any set)
-node_of (K.NotAny set) = LeafNode (NotAny set)
-node_of (K.Span set) = LeafNode (Span set)
-node_of (K.Break set) = LeafNode (Break set)
-node_of (K.BreakX set) = LeafNode (BreakX set)
+node_of (K.Counted prim n) = LeafNode (Counted prim n)
+node_of (K.Among prim set) = LeafNode (Among prim set)
 node_of K.Arb = LeafNode Arb
 node_of K.Bal = LeafNode Bal
 node_of K.Rem = LeafNode Rem

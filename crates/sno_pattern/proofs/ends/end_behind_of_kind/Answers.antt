@@ -17,4 +17,4 @@ returns-in-Bal c =
 
 pub returns-in_default : goal.returns-in_default
 returns-in_default c = λ from k h at. one_end c.args.kind.now c.args.subject.now from (k + 1) c.in_default.not-Arb c.in_default.not-Bal
-    c.in_default.not-BreakX (λ e. omega arith)
+    c.in_default.not-Among (λ e. omega arith)

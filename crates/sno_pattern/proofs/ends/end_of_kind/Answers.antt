@@ -9,4 +9,4 @@ returns-else-i-subject c = rw c.in-Arb.is (arb_no_end c.args.subject.now c.args.
 
 pub returns-in_default : goal.returns-in_default
 returns-in_default c = one_end c.args.kind.now c.args.subject.now c.args.at c.args.i c.in_default.not-Arb c.in_default.not-Bal
-    c.in_default.not-BreakX c.if-i-eq0.false
+    c.in_default.not-Among c.if-i-eq0.false

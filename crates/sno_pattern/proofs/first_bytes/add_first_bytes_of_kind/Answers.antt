@@ -11,4 +11,6 @@ returns-else-is_empty-clause-known c =
 
 pub returns-in-Span-clause-known : goal.returns-in-Span-clause-known
 returns-in-Span-clause-known c =
-    λ _ s place none. rw c.in-Span.is (span_among c.in-Span.members c.args.set.now c.add_all-in-Span.new.self s place c.add_all-in-Span.ensures none)
+    λ _ s place none.
+    rw (c.in-Among.is, c.in-Span.is)
+    (span_among c.in-Among.members c.args.set.now c.add_all-in-Span.new.self s place c.add_all-in-Span.ensures none)

@@ -8,7 +8,8 @@ use Rattle.sno_text.proofs.Judgements.{shape_refused, shaped, grammar_refused, i
 use Rattle.sno_text.proofs.judge.judge.Goals as goal
 
 pub returns-in-Some-clause-refused : goal.returns-in-Some-clause-refused
-returns-in-Some-clause-refused c = inr (λ before k. shape_refused _ _ _ _ before _ _ _ c.requires.place.joined c.requires.place.line k c.in-Some.ensures.refused)
+returns-in-Some-clause-refused c =
+    inr (λ before k. shape_refused _ _ _ _ before _ _ _ c.requires.place.joined c.requires.place.line k c.in-Some.ensures.refused)
 
 pub returns-in_default-2-clause-refused : goal.returns-in_default-2-clause-refused
 returns-in_default-2-clause-refused c = inr (λ before k.
