@@ -8,23 +8,19 @@ ghost use Rattle.sno_runtime.specs.Operators.{answer, argument, called, count_pr
 ghost use Rattle.sno_runtime.specs.Operators.{primitive_value, repetition, set_primitive};
 ghost use Rattle.sno_runtime.specs.Calls.{define};
 ghost use Rattle.sno_runtime.specs.Numbers.{number_of};
-ghost use Rattle.sno_runtime.specs.Functions.{plain};
 ghost use Rattle.sno_runtime.specs.Variables.{text_of};
 ghost use Rattle.sno_runtime.specs.Runtime.{Runtime, tree_of, IsPatternOf};
 ghost use Rattle.sno_runtime.specs.inner.Runtime.{Does};
 
-use crate::builtins::{Builtin, Plain};
+use crate::builtins::{Builtin, plain_value};
 use crate::containers::{array, convert, prototype, table};
 use crate::convert::{as_pattern, number_of, text_of};
 use crate::errors::UNDEFINED_FUNCTION;
-use crate::numbers::{comparison, remainder};
 use crate::runtime::Runtime;
 use crate::stops::{Exit, error};
-use crate::texts::{copies, is_after, replaced, size, trimmed};
-use crate::types::{datatype, define_type, differ, ident, integer};
+use crate::types::{datatype, define_type};
 use sno_pattern::Arg;
 use sno_value::{PatId, Prim, Value};
-use std::alloc::Global;
 
 /// What a function gives of its operands. Missing operands are null, and further ones are dropped.
 pub fn called(
@@ -36,74 +32,36 @@ pub fn called(
     ensures { Does shown IsValueOf (called function (map (shown runtime.old.nodes) operands.old))
         runtime.old runtime.new result }
 {
+    let Some(function) = function else {
+        return Err(error(UNDEFINED_FUNCTION))
+    };
+    let x = argument(operands, 0);
     match function {
-        None => Err(error(UNDEFINED_FUNCTION)),
-        Some(Builtin::Primitive(prim)) => {
-            let operand = argument(operands, 0);
-            primitive_value(runtime, prim, operand)
+        Builtin::Primitive(prim) => primitive_value(runtime, prim, x),
+        Builtin::Arbno => repetition(runtime, x),
+        Builtin::Cut => cut(runtime, x),
+        Builtin::Convert => {
+            let kind = argument(operands, 1);
+            convert(runtime, x, kind)
         }
-        Some(Builtin::Arbno) => {
-            let operand = argument(operands, 0);
-            repetition(runtime, operand)
+        Builtin::MakeArray => {
+            let value = argument(operands, 1);
+            array(runtime, x, &value)
         }
-        Some(Builtin::Cut) => {
-            let operand = argument(operands, 0);
-            cut(runtime, operand)
+        Builtin::MakeTable => table(runtime),
+        Builtin::Prototype => prototype(runtime, &x),
+        Builtin::Define => {
+            let entry = argument(operands, 1);
+            define(runtime, x, entry)
         }
-        Some(Builtin::Convert) => {
-            let x = argument(operands, 0);
-            let t = argument(operands, 1);
-            convert(runtime, x, t)
-        }
-        Some(Builtin::MakeArray) => {
-            let p = argument(operands, 0);
-            let v = argument(operands, 1);
-            array(runtime, p, &v)
-        }
-        Some(Builtin::MakeTable) => table(runtime),
-        Some(Builtin::Prototype) => {
-            let a = argument(operands, 0);
-            prototype(runtime, &a)
-        }
-        Some(Builtin::Define) => {
-            let p = argument(operands, 0);
-            let e = argument(operands, 1);
-            define(runtime, p, e)
-        }
-        Some(Builtin::Data) => {
-            let p = argument(operands, 0);
-            define_type(runtime, p)
-        }
-        Some(Builtin::Datatype) => {
-            let x = argument(operands, 0);
-            datatype(runtime, &x)
-        }
-        Some(Builtin::Plain(function)) => {
+        Builtin::Data => define_type(runtime, x),
+        Builtin::Datatype => datatype(runtime, &x),
+        Builtin::Plain(function) => {
             let alloc = runtime.alloc();
-            let x = argument(operands, 0);
             let y = argument(operands, 1);
             let z = argument(operands, 2);
-            plain(alloc, function, x, y, z)
+            plain_value(alloc, function, x, y, z)
         }
-    }
-}
-
-/// A function that changes nothing, on its arguments.
-fn plain(alloc: Global, function: Plain, x: Value, y: Value, z: Value) -> Result<Value, Exit>
-    ensures { (s : Runtime) → IsValueOf s.nodes x
-        → Does shown IsValueOf (plain function (shown s.nodes x) (shown s.nodes y) (shown s.nodes z)) s s result }
-{
-    match function {
-        Plain::Compare(relation) => comparison(relation, &x, &y),
-        Plain::Remdr => remainder(&x, &y),
-        Plain::Ident => ident(&x, &y),
-        Plain::Differ => differ(&x, &y),
-        Plain::Lgt => is_after(alloc, x, y),
-        Plain::Integer => integer(&x),
-        Plain::Size => size(alloc, x),
-        Plain::Trim => trimmed(alloc, x),
-        Plain::Dupl => copies(alloc, x, &y),
-        Plain::Replace => replaced(alloc, x, y, z),
     }
 }
 

@@ -1,4 +1,4 @@
-use Rattle.sno_runtime.proofs.functions.plain.Goals as goal
+use Rattle.sno_runtime.proofs.builtins.plain_value.Goals as goal
 
 pub returns-in-Compare : goal.returns-in-Compare
 returns-in-Compare c s k = rw c.in-Compare.is (c.comparison.ensures s)
