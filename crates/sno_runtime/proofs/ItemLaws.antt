@@ -1,6 +1,6 @@
 -- Items of arrays and tables, as the code finds them.
 use Rattle.std.proofs.Common.{Vec, Global, ◌≡◌, ℕ, zero, suc, ◌+◌, ◌<◌, arith, ℤ, List, [], ◌∷◌, ◌++◌, take, length, get_or, map, refl, ap, ◌∙◌, Option, None}
-use Rattle.std.proofs.Common.{IfSome, Some, Result, Ok, Err}
+use Rattle.std.proofs.Common.{IfSome, Some, Result, Ok, Err, subst}
 use Rattle.std.specs.Option.{option_map}
 use Rattle.sno_value.specs.declared.ids.ObjId.{ObjId}
 use Rattle.sno_value.specs.declared.value.Name.{Name as Target}
@@ -8,7 +8,11 @@ use Rattle.sno_value.specs.declared.value.Value.{Value as Stored}
 use Rattle.sno_value.specs.declared.value.Value.TheVariants as stored
 use Rattle.sno_pattern.specs.Table.{Node}
 use Rattle.sno_store.specs.Arrays.{element_name}
+use Rattle.sno_store.specs.Store.{Store}
 use Rattle.sno_store.specs.Tables.{find_entry}
+use Rattle.sno_store.specs.Stored.{stored_notions}
+use Rattle.sno_store.specs.Outcomes.{IsAnswered, itself as as_told}
+use Rattle.sno_store.specs.declared.error.StoreError.{StoreError}
 use Rattle.sno_runtime.specs.declared.stops.Exit.{Exit}
 use Rattle.sno_runtime.specs.declared.stops.Exit.TheVariants.{Failure, Halt}
 use Rattle.sno_runtime.specs.declared.stops.Stop.TheVariants.{Error as HasError, ErrorIn as HasErrorIn, NoMemory, ReadFault, WriteFault, Ended as HasEnded}
@@ -19,8 +23,10 @@ use Rattle.sno_runtime.specs.Numbers.{number_of}
 use Rattle.sno_runtime.specs.Containers.{notions, asks, before, numbers_of, element_numbered, entry_read, item, item_named}
 use Rattle.sno_runtime.specs.inner.Converted.{IsThere}
 use Rattle.sno_runtime.specs.Runtime.{Runtime, itself}
-use Rattle.sno_runtime.specs.inner.Runtime.{Does, any}
+use Rattle.sno_runtime.specs.inner.Runtime.{Does, any, exit_of_store}
 use Rattle.sno_runtime.proofs.Outcomes.{gives_does, fails_does, then_got, then_err}
+use Rattle.sno_runtime.proofs.ObjectLaws.{asked_does, asked_err, shown_agrees}
+use Rattle.sno_runtime.proofs.ObjectOperations.{element_name_map, find_entry_map}
 
 -- the numbers of subscripts
 
@@ -76,6 +82,28 @@ numbers_refused nodes xs k x (Halt HasEnded) h is there = there
 
 pub unnumbered : (id : ObjId) (o : Option (List ℤ)) → o ≡ None → element_numbered id o ≡ wrong_type
 unnumbered id o h = rw h refl
+
+-- what the store tells is what an action asks
+
+module _ (id : ObjId) (s : Runtime) (store : Store) (same : store ≡ s.store) where
+  pub element_told : (numbers : List ℤ) (found : Option Target) → IsAnswered as_told (element_name store.objects id numbers) (Ok found)
+      → Does itself any (asks (λ objects. element_name objects id numbers)) s s (Ok found)
+  element_told numbers found h = asked_does s _ _ found (element_name_map (shown s.nodes) _ id numbers) (rw same at h)
+
+  pub element_untold : (numbers : List ℤ) (e : StoreError) → IsAnswered as_told (element_name store.objects id numbers) (Err e)
+      → Does {X = Option Target} itself any (asks (λ objects. element_name objects id numbers)) s s (Err (exit_of_store e))
+  element_untold numbers e h = asked_err as_told s _ _ itself any e (element_name_map (shown s.nodes) _ id numbers)
+      (subst (λ (it : Store). IsAnswered as_told (element_name it.objects id numbers) (Err e)) same h)
+
+  pub entry_told : (key : Stored) (found : Option Target) → IsAnswered as_told (find_entry stored_notions store.objects id key) (Ok found)
+      → Does itself any (asks (λ objects. find_entry notions objects id (shown s.nodes key))) s s (Ok found)
+  entry_told key found h = asked_does s _ _ found (find_entry_map (shown s.nodes) stored_notions notions (shown_agrees s.nodes) _ id key) (rw same at h)
+
+  pub entry_untold : (key : Stored) (e : StoreError) → IsAnswered as_told (find_entry stored_notions store.objects id key) (Err e)
+      → Does {X = Option Target} itself any (asks (λ objects. find_entry notions objects id (shown s.nodes key))) s s (Err (exit_of_store e))
+  entry_untold key e h =
+      asked_err as_told s _ _ itself any e (find_entry_map (shown s.nodes) stored_notions notions (shown_agrees s.nodes) _ id key)
+      (subst (λ (it : Store). IsAnswered as_told (find_entry stored_notions it.objects id key) (Err e)) same h)
 
 -- the element that numbers name
 

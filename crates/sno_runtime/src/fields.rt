@@ -38,7 +38,7 @@ pub fn field_as_name(runtime: &Runtime, function: &[u8], object: &Value) -> Resu
     ensures { Does shown IsValueOf (field_as_name function.now (shown runtime.now.nodes object.now))
         runtime.now runtime.now result }
 {
-    let Some(symbol) = runtime.find_symbol(function) else {
+    let Some(symbol) = runtime.store().find_symbol(function) else {
         return Err(error(DATA_TYPE));
     };
     let name = field_of(runtime, symbol, object)?;
@@ -58,8 +58,8 @@ pub fn ask_field(runtime: &Runtime, function: &[u8]) -> Result<Value, Exit>
 fn is_field_named(runtime: &Runtime, function: &[u8]) -> bool
     ensures { result ≡ is_field_named (found function.now runtime.now.store.symbols) runtime.now.store.functions }
 {
-    match runtime.find_symbol(function) {
-        Some(symbol) => runtime.is_field(symbol),
+    match runtime.store().find_symbol(function) {
+        Some(symbol) => runtime.store().is_field(symbol),
         None => false,
     }
 }
@@ -71,7 +71,7 @@ fn field_of(runtime: &Runtime, symbol: SymId, object: &Value) -> Result<Name, Ex
     let Value::Data(id) = object else {
         return Err(error(DATA_TYPE));
     };
-    match runtime.field(*id, symbol) {
+    match runtime.store().field(*id, symbol) {
         Some(name) => Ok(name),
         None => Err(error(DATA_TYPE)),
     }

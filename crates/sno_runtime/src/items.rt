@@ -77,7 +77,7 @@ fn element(runtime: &Runtime, array: ObjId, subscripts: &[Value]) -> Result<Name
         runtime.now runtime.now result }
 {
     let numbers = numbers_of(runtime.alloc(), subscripts)?;
-    match runtime.element(array, &numbers)? {
+    match runtime.store().element(array, &numbers)? {
         Some(name) => Ok(name),
         None => Err(Exit::Failure),
     }
@@ -90,7 +90,7 @@ pub fn element_at(runtime: &Runtime, array: ObjId, subscript: i64) -> Option<Nam
         runtime.now runtime.now (Ok name)) }
 {
     let subscripts = std::slice::from_ref(&subscript);
-    match runtime.element(array, subscripts) {
+    match runtime.store().element(array, subscripts) {
         Ok(name) => name,
         Err(_refused) => None,
     }
@@ -123,7 +123,7 @@ fn only(subscripts: &mut [Value]) -> Result<Value, Exit>
 fn entry_read(runtime: &Runtime, table: ObjId, key: &Value) -> Result<Value, Exit>
     ensures { Does shown IsValueOf (entry_read table (shown runtime.now.nodes key.now)) runtime.now runtime.now result }
 {
-    match runtime.find(table, key)? {
+    match runtime.store().find(table, key)? {
         Some(name) => runtime.stored(name),
         None => Ok(Value::null()),
     }

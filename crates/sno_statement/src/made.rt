@@ -102,10 +102,10 @@ pub(crate) fn call_made<R: Source, W: Sink, S: Calls<R, W>>(
         (map (shown runtime.old.nodes) arguments.old)) runtime.old runtime.new
         (devices (R.feed reader.old) (W.drain writer.old)) (devices (R.feed reader.new) (W.drain writer.new)) result }
 {
-    if let Some(number) = runtime.constructor(function) {
+    if let Some(number) = runtime.store().constructor(function) {
         return construct(runtime, number, arguments);
     }
-    if runtime.is_field(function) {
+    if runtime.store().is_field(function) {
         let object = argument(arguments, 0);
         return field_value(runtime, function, &object);
     }

@@ -1,14 +1,13 @@
 //! Arrays, tables and objects by their numbers.
 ghost use Rattle.std.specs.Prelude.{◌≡◌, ◌<◌, [], length, option_copied, option_map, unwrap_or};
 ghost use Rattle.sno_value.specs.declared.value.Value.TheVariants.{Str};
-ghost use Rattle.sno_store.specs.Arrays.{new_array, element_name, prototype_of};
+ghost use Rattle.sno_store.specs.Arrays.{new_array};
 ghost use Rattle.sno_store.specs.Objects.{DataOf, TableOf, array_at, table_at, fields_at, type_at, changed};
 ghost use Rattle.sno_store.specs.Objects.{element_value, entry_value, field_value, joined, with_element};
 ghost use Rattle.sno_store.specs.Objects.{with_entry_value, with_field};
-ghost use Rattle.sno_store.specs.Outcomes.{IsAnswered, itself};
 ghost use Rattle.sno_store.specs.inner.Seen.{seen, Does};
 ghost use Rattle.sno_store.specs.Stored.{stored_notions};
-ghost use Rattle.sno_store.specs.Tables.{find_entry, make_entry, table_to_array};
+ghost use Rattle.sno_store.specs.Tables.{make_entry, table_to_array};
 ghost use Rattle.sno_store.specs.Types.{field_values};
 
 use crate::elements::{Elements, of_rows, uniform};
@@ -200,48 +199,6 @@ impl Objects {
         let fields = field_values(self.alloc, count, values)?;
         let id = self.add(Object::Data(Instance { data_type, fields }))?;
         Ok(id)
-    }
-
-    /// The element of an array that subscripts name.
-    pub(crate) fn element(&self, id: ObjId, subscripts: &[i64]) -> Result<Option<Name>, StoreError>
-        ensures { IsAnswered itself (element_name self.now id subscripts.now) result }
-    {
-        let Some(elements) = self.array(id) else {
-            return Err(StoreError::WrongType)
-        };
-        if subscripts.len() != elements.rank() {
-            return Err(StoreError::BadPrototype);
-        }
-        match elements.place(subscripts) {
-            Some(place) => Ok(Some(Name::Elem(id, place))),
-            None => Ok(None),
-        }
-    }
-
-    /// The text that an array was made by.
-    pub(crate) fn prototype(&self, id: ObjId) -> Result<&[u8], StoreError>
-        ensures { IsAnswered (λ text. text.now) (prototype_of self.now id) result }
-    {
-        match self.array(id) {
-            Some(elements) => Ok(elements.prototype()),
-            None => Err(StoreError::WrongType),
-        }
-    }
-
-    /// The entry of a table with a key, if there is one.
-    pub(crate) fn find(&self, id: ObjId, key: &Value) -> Result<Option<Name>, StoreError>
-        ensures { IsAnswered itself (find_entry stored_notions self.now id key.now) result }
-    {
-        let Some(entries) = self.table(id) else {
-            return Err(StoreError::WrongType)
-        };
-        if !is_key(key) {
-            return Err(StoreError::WrongType);
-        }
-        match entries.find(key) {
-            Some(place) => Ok(Some(Name::Entry(id, place))),
-            None => Ok(None),
-        }
     }
 
     /// The entry of a table with a key, which is made where there is none.

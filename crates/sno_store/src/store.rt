@@ -23,6 +23,7 @@ ghost use Rattle.sno_store.specs.Types.{field_name, makes_type, new_data, object
 use crate::calls::Calls;
 use crate::data_type::DataType;
 use crate::definition::Definition;
+use crate::entries::is_key;
 use crate::error::StoreError;
 use crate::function_prototype::{FunctionPrototype, MOST_NAMES, entry_label};
 use crate::functions::Functions;
@@ -260,14 +261,26 @@ impl Store {
     pub fn element(&self, array: ObjId, subscripts: &[i64]) -> Result<Option<Name>, StoreError>
         ensures { IsAnswered itself (element_name self.now.objects array subscripts.now) result }
     {
-        self.objects.element(array, subscripts)
+        let Some(elements) = self.objects.array(array) else {
+            return Err(StoreError::WrongType)
+        };
+        if subscripts.len() != elements.rank() {
+            return Err(StoreError::BadPrototype);
+        }
+        match elements.place(subscripts) {
+            Some(place) => Ok(Some(Name::Elem(array, place))),
+            None => Ok(None),
+        }
     }
 
     /// The text of the prototype that an array was made by. It is `WrongType` where the number is no array's.
     pub fn prototype(&self, array: ObjId) -> Result<&[u8], StoreError>
         ensures { IsAnswered (λ text. text.now) (prototype_of self.now.objects array) result }
     {
-        self.objects.prototype(array)
+        match self.objects.array(array) {
+            Some(elements) => Ok(elements.prototype()),
+            None => Err(StoreError::WrongType),
+        }
     }
 
     /// The entry of a table with this key, if there is one. Keys are equal where their types and values are,
@@ -278,7 +291,16 @@ impl Store {
     pub fn find(&self, table: ObjId, key: &Value) -> Result<Option<Name>, StoreError>
         ensures { IsAnswered itself (find_entry stored_notions self.now.objects table key.now) result }
     {
-        self.objects.find(table, key)
+        let Some(entries) = self.objects.table(table) else {
+            return Err(StoreError::WrongType)
+        };
+        if !is_key(key) {
+            return Err(StoreError::WrongType);
+        }
+        match entries.find(key) {
+            Some(place) => Ok(Some(Name::Entry(table, place))),
+            None => Ok(None),
+        }
     }
 
     /// The entry of a table with this key. Where there was none, it is a new last one, whose value is null.

@@ -58,13 +58,6 @@ impl Runtime {
         }
     }
 
-    /// `&FNCLEVEL`: how many calls are open.
-    pub fn level(&self) -> u32
-        ensures { result ≡ length self.now.store.calls }
-    {
-        self.store.level()
-    }
-
     /// `&STNO`: the number of the statement that is performed.
     pub fn statement(&self) -> u32
         ensures { result ≡ self.now.keywords.statement }

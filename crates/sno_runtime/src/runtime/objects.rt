@@ -1,9 +1,9 @@
 //! What evaluation asks of arrays and tables.
 ghost use Rattle.std.specs.Prelude.{◌≤◌, length};
-ghost use Rattle.sno_store.specs.Arrays.{new_array, element_name};
-ghost use Rattle.sno_store.specs.Tables.{new_table, find_entry, make_entry, table_to_array};
+ghost use Rattle.sno_store.specs.Arrays.{new_array};
+ghost use Rattle.sno_store.specs.Tables.{new_table, make_entry, table_to_array};
 ghost use Rattle.sno_runtime.specs.Values.{shown, IsValueOf, Array};
-ghost use Rattle.sno_runtime.specs.Containers.{notions, does, asks, prototype};
+ghost use Rattle.sno_runtime.specs.Containers.{notions, does, prototype};
 ghost use Rattle.sno_runtime.specs.Runtime.{itself};
 ghost use Rattle.sno_runtime.specs.inner.Runtime.{Does, any};
 
@@ -32,16 +32,6 @@ impl Runtime {
         Ok(id)
     }
 
-    /// The element that subscripts name, which is None where one is out of range. It is error 1 where there is no such
-    /// array, and error 12 where there are more or fewer subscripts than dimensions.
-    pub fn element(&self, array: ObjId, subscripts: &[i64]) -> Result<Option<Name>, Exit>
-        ensures { Does itself any (asks (λ objects. element_name objects array subscripts.now))
-            self.now self.now result }
-    {
-        let name = self.store.element(array, subscripts)?;
-        Ok(name)
-    }
-
     /// The text of the prototype that an array was made by; error 1 where there is no such array.
     pub fn prototype(&self, array: ObjId) -> Result<Value, Exit>
         ensures { Does shown IsValueOf (prototype (Array array.0)) self.now self.now result }
@@ -50,18 +40,8 @@ impl Runtime {
         Ok(Value::Str(text))
     }
 
-    /// The entry of a table with this key, if there is one. It is error 1 where there is no such table, and where the
-    /// value may be no key.
-    pub fn find(&self, table: ObjId, key: &Value) -> Result<Option<Name>, Exit>
-        ensures { Does itself any (asks (λ objects. find_entry notions objects table (shown self.now.nodes key.now)))
-            self.now self.now result }
-    {
-        let name = self.store.find(table, key)?;
-        Ok(name)
-    }
-
     /// The entry of a table with this key, which is a new last one with null where there was none. It is error 1 where
-    /// `find` is, and error 9 where there are 1,000,000 entries.
+    /// there is no such table, and where the value may be no key, and error 9 where there are 1,000,000 entries.
     pub fn entry(&mut self, table: ObjId, key: Value) -> Result<Name, Exit>
         requires { IsValueOf self.old.nodes key }
         ensures { Does itself any (does (make_entry notions table (shown self.old.nodes key)))

@@ -1,9 +1,7 @@
 //! What evaluation asks of types that a program makes, and of their objects.
-ghost use Rattle.std.specs.Prelude.{◌≡◌, ◌≤◌, ℕ, List, length, map, option_map};
+ghost use Rattle.std.specs.Prelude.{◌≡◌, ◌≤◌, ℕ, List, length, map};
 ghost use Rattle.std.specs.List.{AllByRecursion};
-ghost use Rattle.sno_store.specs.Functions.{constructor_at, function_at, is_field_at};
-ghost use Rattle.sno_store.specs.Symbols.{found};
-ghost use Rattle.sno_store.specs.Types.{field_name};
+ghost use Rattle.sno_store.specs.Functions.{function_at};
 ghost use Rattle.sno_runtime.specs.Fields.{makes_object, is_made};
 ghost use Rattle.sno_runtime.specs.Types.{makes_type, type_name};
 ghost use Rattle.sno_runtime.specs.Values.{shown, IsValueOf};
@@ -33,20 +31,6 @@ impl Runtime {
         Ok(())
     }
 
-    /// The number of the type whose constructor has this name, if it is one's.
-    pub fn constructor(&self, function: SymId) -> Option<u32>
-        ensures { result ≡ constructor_at self.now.store.functions function.0 }
-    {
-        self.store.constructor(function)
-    }
-
-    /// Whether a function is a field.
-    pub fn is_field(&self, function: SymId) -> bool
-        ensures { result ≡ is_field_at self.now.store.functions function.0 }
-    {
-        self.store.is_field(function)
-    }
-
     /// Whether the program has made a function of this name: one with a definition, a constructor or a field.
     pub fn is_made(&self, function: SymId) -> bool
         ensures { result ≡ is_made (function_at self.now.store.functions function.0) }
@@ -54,13 +38,6 @@ impl Runtime {
         self.store.definition(function).is_some()
             || self.store.constructor(function).is_some()
             || self.store.is_field(function)
-    }
-
-    /// The symbol that a text is, which joins none.
-    pub fn find_symbol(&self, name: &[u8]) -> Option<SymId>
-        ensures { option_map (λ id. id.0) result ≡ found name.now self.now.store.symbols }
-    {
-        self.store.find_symbol(name)
     }
 
     /// A new object of a type, into which the values of its fields are moved: missing ones are null, and extra ones are
@@ -72,13 +49,6 @@ impl Runtime {
     {
         let id = self.store.new_data_with(number, fields)?;
         Ok(id)
-    }
-
-    /// The field of an object that a symbol names, if its type has one.
-    pub fn field(&self, object: ObjId, symbol: SymId) -> Option<Name>
-        ensures { result ≡ field_name self.now.store.types self.now.store.objects object symbol.0 }
-    {
-        self.store.field(object, symbol)
     }
 
     /// The name of a value's type: of an object that of the type that the program made it of.

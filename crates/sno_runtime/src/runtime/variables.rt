@@ -1,8 +1,7 @@
 //! Variables by their names, and what names hold.
-ghost use Rattle.std.specs.Prelude.{◌≡◌, IfSome, List, ℕ, Ok, option_map, true};
+ghost use Rattle.std.specs.Prelude.{◌≡◌, IfSome, List, ℕ, Ok, true};
 ghost use Rattle.sno_value.specs.Keys.{IsKeyOf};
 ghost use Rattle.sno_store.specs.Store.{with_value};
-ghost use Rattle.sno_store.specs.Symbols.{found};
 ghost use Rattle.sno_runtime.specs.Action.{and_then};
 ghost use Rattle.sno_runtime.specs.Values.{shown, IsValueOf};
 ghost use Rattle.sno_runtime.specs.Runtime.{itself};
@@ -66,13 +65,6 @@ impl Runtime {
         ensures { IfSome result (λ id. Does itself any (variable_named name.now) self.now self.now (Ok (Name.Var id))) }
     {
         self.known(place % FOUND_SYMBOLS, name)
-    }
-
-    /// The symbol that a name is, if it is one.
-    pub fn symbol_of(&self, name: &[u8]) -> Option<SymId>
-        ensures { option_map (λ id. id.0) result ≡ found name.now self.now.store.symbols }
-    {
-        self.store.find_symbol(name)
     }
 
     /// Whether a symbol is known to be the variable whose name has this key (`sno_value::name_key`).

@@ -10,14 +10,14 @@ returns-in-Some g c =
     constructed_runs (g.S.Calls.caller c.args.scope.now) c.args.function.0
     (map (shown c.args.runtime.now.nodes) c.args.arguments.now)
     c.args.runtime.now c.construct.new.runtime _ c.construct.result c.in-Some.number c.requires.within.ready
-    (sym c.constructor.ensures ∙ c.in-Some.is) c.construct.ensures
+    (sym (rw c.store.ensures at c.constructor.ensures) ∙ c.in-Some.is) c.construct.ensures
 
 pub returns-then-is_field : goal.returns-then-is_field
 returns-then-is_field g c =
     let nodes = c.args.runtime.now.nodes in
     let object = c.argument-object.ensures.value nodes in
     field_runs (g.S.Calls.caller c.args.scope.now) c.args.function.0 (map (shown nodes) c.args.arguments.now)
-    c.args.runtime.now c.args.runtime.now _ c.field_value.result c.requires.within.ready (sym c.is_field.ensures ∙ c.if-is_field.true)
+    c.args.runtime.now c.args.runtime.now _ c.field_value.result c.requires.within.ready (sym (rw c.store-2.ensures at c.is_field.ensures) ∙ c.if-is_field.true)
     (subst (λ (v : Shown). Does shown IsValueOf (field_value c.args.function.0 v) c.args.runtime.now c.args.runtime.now c.field_value.result)
     object c.field_value.ensures)
 
@@ -25,5 +25,5 @@ pub returns : goal.returns
 returns g c =
     defined_runs (g.S.Calls.caller c.args.scope.now) c.args.function.0
     (map (shown c.args.runtime.now.nodes) c.args.arguments.now)
-    c.args.runtime.now c.call.new.runtime _ c.call.result _ (sym c.constructor.ensures ∙ c.in_default.is) (sym c.is_field.ensures ∙ c.if-is_field.false)
+    c.args.runtime.now c.call.new.runtime _ c.call.result _ (sym (rw c.store.ensures at c.constructor.ensures) ∙ c.in_default.is) (sym (rw c.store-2.ensures at c.is_field.ensures) ∙ c.if-is_field.false)
     c.call.ensures

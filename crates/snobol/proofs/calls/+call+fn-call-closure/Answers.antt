@@ -49,7 +49,7 @@ returns-in_err-success g t c =
     begun e.1 e.2 c.level-level.result c.chain.new.runtime
     (devices (g.R.Source.feed c.args.reader.now) (g.W.Sink.drain c.args.writer.now))
     (devices (g.R.Source.feed c.chain.new.reader) (g.W.Sink.drain c.chain.new.writer))
-    c.in_err-success.field-0.0 c.level-level.ensures c.in_err-success.ensures.halts c.in_err-success.ensures.does)
+    c.in_err-success.field-0.0 (rw c.store.ensures at c.level-level.ensures.value) c.in_err-success.ensures.halts c.in_err-success.ensures.does)
 
 pub returns-then-success : goal.returns-then-success
 returns-then-success g t c =
@@ -62,7 +62,7 @@ returns-then-success g t c =
     c.leave.result true
     (devices (g.R.Source.feed c.args.reader.now) (g.W.Sink.drain c.args.writer.now))
     (devices (g.R.Source.feed c.chain.new.reader) (g.W.Sink.drain c.chain.new.writer))
-    c.level-level.ensures (rw c.if-success.true at c.in_ok-success.ensures.does) (rw c.statement-statement.ensures at c.leave.ensures)
+    (rw c.store.ensures at c.level-level.ensures.value) (rw c.if-success.true at c.in_ok-success.ensures.does) (rw c.statement-statement.ensures at c.leave.ensures)
 
 pub returns-else-success : goal.returns-else-success
 returns-else-success g t c =
@@ -75,4 +75,4 @@ returns-else-success g t c =
     c.leave-else-success.result false
     (devices (g.R.Source.feed c.args.reader.now) (g.W.Sink.drain c.args.writer.now))
     (devices (g.R.Source.feed c.chain.new.reader) (g.W.Sink.drain c.chain.new.writer))
-    c.level-level.ensures (rw c.if-success.false at c.in_ok-success.ensures.does) (rw c.statement-statement.ensures at c.leave-else-success.ensures)
+    (rw c.store.ensures at c.level-level.ensures.value) (rw c.if-success.false at c.in_ok-success.ensures.does) (rw c.statement-statement.ensures at c.leave-else-success.ensures)
