@@ -16,12 +16,15 @@ returns-in_err-numbers c =
 pub returns-in_err-name : goal.returns-in_err-name
 returns-in_err-name c =
     let p = err_from_is_err_and c.from_residual-in_err-name.result c.from_residual-in_err-name.ensures.1 in
-    rw (p.1, p.2, c.in_ok-numbers.ensures c.args.runtime.now.nodes, ← c.deref.ensures.value) (element_refused _ _ _ _ (element_untold c.args.array c.args.runtime.now _ c.store.ensures _ _ c.in_err-name.ensures))
+    rw (p.1, p.2, c.in_ok-numbers.ensures c.args.runtime.now.nodes, ← c.deref.ensures.value)
+    (element_refused _ _ _ _ (element_untold c.args.array c.args.runtime.now _ c.store.ensures _ _ c.in_err-name.ensures))
 
 pub returns-in-Some : goal.returns-in-Some
 returns-in-Some c =
-    rw (c.in_ok-numbers.ensures c.args.runtime.now.nodes, ← c.deref.ensures.value) (element_there _ _ _ _ (rw c.in-Some.is at (element_told c.args.array c.args.runtime.now _ c.store.ensures _ _ c.in_ok-name.ensures)))
+    rw (c.in_ok-numbers.ensures c.args.runtime.now.nodes, ← c.deref.ensures.value)
+    (element_there _ _ _ _ (rw c.in-Some.is at (element_told c.args.array c.args.runtime.now _ c.store.ensures _ _ c.in_ok-name.ensures)))
 
 pub returns : goal.returns
 returns c =
-    rw (c.in_ok-numbers.ensures c.args.runtime.now.nodes, ← c.deref.ensures.value) (out_of_range _ _ _ (rw c.in-None.is at (element_told c.args.array c.args.runtime.now _ c.store.ensures _ _ c.in_ok-name.ensures)))
+    rw (c.in_ok-numbers.ensures c.args.runtime.now.nodes, ← c.deref.ensures.value)
+    (out_of_range _ _ _ (rw c.in-None.is at (element_told c.args.array c.args.runtime.now _ c.store.ensures _ _ c.in_ok-name.ensures)))

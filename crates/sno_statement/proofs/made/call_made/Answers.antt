@@ -25,5 +25,6 @@ pub returns : goal.returns
 returns g c =
     defined_runs (g.S.Calls.caller c.args.scope.now) c.args.function.0
     (map (shown c.args.runtime.now.nodes) c.args.arguments.now)
-    c.args.runtime.now c.call.new.runtime _ c.call.result _ (sym (rw c.store.ensures at c.constructor.ensures) ∙ c.in_default.is) (sym (rw c.store-2.ensures at c.is_field.ensures) ∙ c.if-is_field.false)
+    c.args.runtime.now c.call.new.runtime _ c.call.result _
+    (sym (rw c.store.ensures at c.constructor.ensures) ∙ c.in_default.is) (sym (rw c.store-2.ensures at c.is_field.ensures) ∙ c.if-is_field.false)
     c.call.ensures

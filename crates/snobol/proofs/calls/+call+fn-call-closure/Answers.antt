@@ -62,7 +62,8 @@ returns-then-success g t c =
     c.leave.result true
     (devices (g.R.Source.feed c.args.reader.now) (g.W.Sink.drain c.args.writer.now))
     (devices (g.R.Source.feed c.chain.new.reader) (g.W.Sink.drain c.chain.new.writer))
-    (rw c.store.ensures at c.level-level.ensures.value) (rw c.if-success.true at c.in_ok-success.ensures.does) (rw c.statement-statement.ensures at c.leave.ensures)
+    (rw c.store.ensures at c.level-level.ensures.value) (rw c.if-success.true at c.in_ok-success.ensures.does)
+    (rw c.statement-statement.ensures at c.leave.ensures)
 
 pub returns-else-success : goal.returns-else-success
 returns-else-success g t c =
@@ -75,4 +76,5 @@ returns-else-success g t c =
     c.leave-else-success.result false
     (devices (g.R.Source.feed c.args.reader.now) (g.W.Sink.drain c.args.writer.now))
     (devices (g.R.Source.feed c.chain.new.reader) (g.W.Sink.drain c.chain.new.writer))
-    (rw c.store.ensures at c.level-level.ensures.value) (rw c.if-success.false at c.in_ok-success.ensures.does) (rw c.statement-statement.ensures at c.leave-else-success.ensures)
+    (rw c.store.ensures at c.level-level.ensures.value) (rw c.if-success.false at c.in_ok-success.ensures.does)
+    (rw c.statement-statement.ensures at c.leave-else-success.ensures)
