@@ -19,7 +19,7 @@ use Rattle.sno_text.specs.inner.Program.{number_of, IsIndex, IsWhole}
 use Rattle.sno_text.specs.inner.Parsed.{Extends}
 use Rattle.sno_text.specs.Statements.{StatementTree}
 use Rattle.sno_text.specs.Phrases.{phrase_ids, StandsStatement, StandsProgram}
-use Rattle.sno_text.specs.Programs.{HasLabelled, IsRefusedAt, none, one_more, IsProgram, IsRefusedProgram, statement, no_end}
+use Rattle.sno_text.specs.Programs.{HasLabelled, IsRefusedAt, none, one_more, IsProgram, IsRefusedProgram, LacksMemory, statement, no_end}
 use Rattle.sno_text.specs.inner.Judging.{Knows, Accepts, statement_of, IsTabled, IsReading}
 use Rattle.sno_text.proofs.Tables.{uses_none, uses_both, extends_none, extends_trans, length_grown, grown_of}
 use Rattle.sno_text.proofs.Standing.{stands_cores_more, stands_jump_more}
@@ -299,8 +299,9 @@ running_endless s i place nodes sts es r e small = reading_endless s i r.at node
 
 pub running_refused : (s : List ℕ) (i count : ℕ) (place : Place) (nodes : List Node) (sts : List Statement) (es : Entries) (span : Span) (e : ReadError)
     (r : Running s i place nodes sts es) → slice_get (extents s) i ≡ Some span → length s ≤ 4000000 → count ≡ length sts →
-    (e ≡ NoMemory) ⊎ ((before : List StatementTree) → Knows s before count es → IsRefusedAt s before span e) → (e ≡ NoMemory) ⊎ IsRefusedProgram s e
-running_refused s i count place nodes sts es span e r here small many (inl h) = inl h
+    (e ≡ NoMemory) ⊎ ((before : List StatementTree) → Knows s before count es → IsRefusedAt s before span e)
+    → LacksMemory s e ⊎ IsRefusedProgram s e
+running_refused s i count place nodes sts es span e r here small many (inl h) = inl (h, small)
 running_refused s i count place nodes sts es span e r here small many (inr h) =
     inr (reading_refused s i r.at nodes sts es span e r.reading here small (h r.reading.before (reading_knows s i r.at nodes sts es count r.reading many)))
 

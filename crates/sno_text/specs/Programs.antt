@@ -2,7 +2,7 @@
 use Rattle.std.specs.Prelude.{◌≡◌, ◌≢◌, ℕ, ◌<◌, ◌≤◌, ◌⊎◌, true, false, List, [], ◌∷◌, ◌++◌, length, take, Some}
 use Rattle.std.specs.Prelude.{slice_get, codes}
 use Rattle.sno_text.specs.declared.error.ReadError.{ReadError}
-use Rattle.sno_text.specs.declared.error.ReadError.TheVariants.{Syntax, DuplicateLabel, NoEnd, TooLarge}
+use Rattle.sno_text.specs.declared.error.ReadError.TheVariants.{Syntax, DuplicateLabel, NoEnd, TooLarge, NoMemory}
 use Rattle.sno_text.specs.declared.node.Span.{Span}
 use Rattle.sno_text.specs.Refusals.{HasOpenLiteral, is_deep}
 use Rattle.sno_text.specs.Lines.{joined, extents, part, size, line_of}
@@ -95,3 +95,7 @@ pub data IsRefusedProgram (s : List ℕ) (x : ReadError) : Type 0 where
       IsRefusedAt s before span x → IsRefusedProgram s x
   no_end : {before : List StatementTree} → length s ≤ 4000000 → Begins s before → length (extents s) ≡ length before
       → x ≡ NoEnd → IsRefusedProgram s x
+
+-- Memory was refused: no text that is too long asks for any.
+abbrev pub LacksMemory : List ℕ → ReadError → Type 0
+LacksMemory s x = (x ≡ NoMemory) × (length s ≤ 4000000)

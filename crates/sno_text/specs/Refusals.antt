@@ -51,7 +51,7 @@ IsRefused s (Syntax line code) = (line ≡ 1) × IsSyntax code s
 IsRefused s (TooLarge line) = (line ≡ 1) × (HasOpenLiteral s → ⊥) × IsTooLarge s
 IsRefused s (DuplicateLabel line) = ⊥
 IsRefused s NoEnd = ⊥
-IsRefused s NoMemory = Unit {0}
+IsRefused s NoMemory = (HasOpenLiteral s → ⊥) × (IsTooLarge s → ⊥)
 
 -- The text is accepted, and this is its tree: the only one.
 pub record IsAccepted (s : List ℕ) (t : Tree) : Type 0 where

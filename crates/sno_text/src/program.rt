@@ -70,13 +70,14 @@ impl Program {
         &self.nodes[id.0 as usize]
     }
 
-    /// The bytes of a token of this text.
+    /// The bytes of the text that lie in a span: those of a token of this text, and null where there are none.
+    #[tactic(auto, using(crate::proofs::Spans::clamped_range))]
     pub fn text(&self, span: Span) -> &[u8]
-        requires order { span.start ≤ span.end }
-        requires within { span.end ≤ length self.now.text }
         ensures { result.now ≡ slice_range self.now.text span.start span.end }
     {
-        &self.text.as_slice()[span.start..span.end]
+        let end = span.end.min(self.text.len());
+        let start = span.start.min(end);
+        &self.text.as_slice()[start..end]
     }
 
     /// The statement with this number, from 1; None where there are fewer, and at 0. A program has at most 100,000.

@@ -34,7 +34,8 @@ fn has_line_end(text: &[u8]) -> bool
 /// Reads a text that is one expression between blanks, as one statement in line 1. An LF is no blank there: it ends the
 /// line, and the text is refused. The errors, the first that fits: code 1, a literal is open at the end of a line;
 /// TooLarge, the text has more than 8,000 bytes or more than 40 open brackets; code 3, it is no expression; code 2, an
-/// integer is greater than 9223372036854775807. NoMemory comes where memory is refused.
+/// integer is greater than 9223372036854775807. NoMemory comes where memory is refused, which is asked for when the
+/// first two are known not to fit.
 #[tactic(auto, using(crate::proofs::Expressions::expression_facts))]
 pub fn read_expression(alloc: Global, text: &[u8]) -> Result<(Program, ExprId), ReadError>
     ensures accepted { IfOk result (λ r. (t : Tree) × IsAccepted text.now t × Stands r.0.nodes r.1 t

@@ -5,7 +5,7 @@ ghost use Rattle.std.specs.List.{count_by, prefix_len};
 ghost use Rattle.sno_text.specs.Program.{IsWithin, IsOptionWithin};
 ghost use Rattle.sno_text.specs.Lines.{part};
 ghost use Rattle.sno_text.specs.Statements.{StatementTree};
-ghost use Rattle.sno_text.specs.Programs.{IsProgram, IsRefusedProgram};
+ghost use Rattle.sno_text.specs.Programs.{IsProgram, IsRefusedProgram, LacksMemory};
 ghost use Rattle.sno_text.specs.Phrases.{StandsProgram};
 
 use crate::error::ReadError;
@@ -80,12 +80,12 @@ fn is_end(text: &[u8], phrase: Phrase) -> bool
 /// 2, an integer is greater than 9223372036854775807; DuplicateLabel, an earlier statement has its label; code 4, it is
 /// `END L`, and L is no label of the program. The line told is that in which the statement begins. A text of more than
 /// 4,000,000 bytes is TooLarge in line 0, and one whose statements are accepted, with no END among them, is NoEnd.
-/// NoMemory comes where memory is refused.
+/// NoMemory comes where memory is refused, and never for a text of more than 4,000,000 bytes.
 pub fn read_program(alloc: Global, text: &[u8]) -> Result<Program, ReadError>
     ensures accepted { IfOk result (λ p. (ts : List StatementTree) × IsProgram text.now ts
         × StandsProgram p text.now ts) }
     ensures source { IfOk result (λ p. p.text ≡ text.now) }
-    ensures refused { IfErr result (λ e. (e ≡ ReadError.NoMemory) ⊎ IsRefusedProgram text.now e) }
+    ensures refused { IfErr result (λ e. LacksMemory text.now e ⊎ IsRefusedProgram text.now e) }
 {
     if text.len() > LONGEST_TEXT {
         return Err(ReadError::TooLarge { line: 0 });
