@@ -1,15 +1,16 @@
 //! Standard input and output, of which the one knows the other: what was written is written out before more is read, so
 //! that who reads the output and answers it never waits for a line that is held back.
+ghost use Rattle.std.specs.Prelude.{◌≡◌};
+
 use std::cell::RefCell;
 use std::io::{self, BufWriter, ErrorKind, IsTerminal, Read, Stdin, Stdout, Write};
 
 /// Standard output behind a buffer, which is written out at each line feed where it is a terminal. Where that has
-/// failed each call fails.
+/// failed the buffer is let go, so that what it held is written by nobody, and each call fails.
 #[derive(Drop)]
 pub(crate) struct Output {
-    buffer: BufWriter<Stdout>,
+    buffer: Option<BufWriter<Stdout>>,
     by_lines: bool,
-    has_failed: bool,
 }
 
 impl Output {
@@ -19,16 +20,36 @@ impl Output {
         let by_lines = stdout.is_terminal();
         let buffer = BufWriter::new(rt.alloc(), stdout)?;
         Ok(Output {
-            buffer,
+            buffer: Some(buffer),
             by_lines,
-            has_failed: false,
         })
+    }
+
+    /// Lets the buffer go where a call of it has failed: dropped as it is, it would write what it holds.
+    fn settle<T>(&mut self, done: io::Result<T>) -> io::Result<T>
+        ensures { result ≡ done }
+    {
+        match done {
+            Ok(value) => Ok(value),
+            Err(error) => {
+                if error.kind() != ErrorKind::Interrupted {
+                    if let Some(buffer) = self.buffer.take() {
+                        let (_stdout, _held) = buffer.into_parts();
+                    }
+                }
+                Err(error)
+            }
+        }
     }
 }
 
 impl Write for Output {
     fn write(&mut self, bytes: &[u8]) -> io::Result<usize> {
-        let count = self.buffer.write(bytes)?;
+        let Some(buffer) = &mut self.buffer else {
+            return Err(ErrorKind::BrokenPipe.into());
+        };
+        let done = buffer.write(bytes);
+        let count = self.settle(done)?;
         if self.by_lines && bytes[..count].contains(&b'\n') {
             self.flush()?;
         }
@@ -36,12 +57,11 @@ impl Write for Output {
     }
 
     fn flush(&mut self) -> io::Result<()> {
-        if self.has_failed {
+        let Some(buffer) = &mut self.buffer else {
             return Err(ErrorKind::BrokenPipe.into());
-        }
-        let done = self.buffer.flush();
-        self.has_failed = done.is_err();
-        done
+        };
+        let done = buffer.flush();
+        self.settle(done)
     }
 }
 
