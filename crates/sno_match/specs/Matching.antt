@@ -147,6 +147,12 @@ pub record IsTold (old new : Matching) (event : Told) : Type 0 where
   pub paid : old.steps + cost event ≤ new.steps
   pub way : new.way ≡ pending_after (in_trace event new.way) old.way
 
+-- the event told is the one of the trace before which as many stand as were told before
+abbrev pub ToldInOrder : Type 0
+ToldInOrder =
+    (old new : Matching) (event : Told) → IsTold old new event → old.ended ≡ false →
+    slice_get (trace_of new) old.told ≡ Some (in_trace event new.way, new.steps)
+
 -- nothing was told
 pub record StaysAt (old new : Matching) : Type 0 where
   pub told : new.told ≡ old.told

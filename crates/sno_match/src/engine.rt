@@ -334,6 +334,15 @@ impl<P: Points> Engine<P> {
         self.points.count_records()
     }
 
+    /// The stack of resumption points, to be looked at: it has as many points and records as `points` and `records`
+    /// count.
+    pub fn stack(&self) -> &P
+        ensures points { length (P.points result.now) ≡ self.now.points }
+        ensures records { P.records result.now ≡ self.now.records }
+    {
+        &self.points
+    }
+
     /// The pending list of the last way that was told, empty before the first.
     pub fn pending(&self) -> &[Pending]
         ensures value { result.now ≡ self.now.way }

@@ -26,7 +26,7 @@ pub use copied::CopiedGoals;
 pub use engine::Engine;
 pub use event::{Event, Pending};
 pub use goal::{Goal, Mark, Top};
-pub use laws::{cuts_end, none_begins, quiet_ways, search_rows};
+pub use laws::{cuts_end, none_begins, quiet_ways, search_rows, told_in_order};
 pub use points::Points;
 pub use shared::SharedGoals;
 
