@@ -1,7 +1,7 @@
 //! Statements: their parts, their trees, and texts that are none.
 use super::reading::Programs;
 use super::rows::{check_rows, check_texts};
-use sno_text::read_program;
+use sno_text::{Span, read_program};
 use std::test::Fail;
 
 const LABELS_AND_CORES: &str = r"
@@ -259,5 +259,30 @@ fn numbers_of_labels(rt: HostRuntime) -> Result<(), Fail> {
     }
     assert!(rt; program.statement(0).is_none());
     assert!(rt; program.statement(5).is_none());
+    Ok(())
+}
+
+/// Spans, and what of this program's 33 bytes lies in them.
+const SPANS: [(usize, usize, &str); 8] = [
+    (2, 3, "X"),
+    (28, 31, "END"),
+    (28, 33, "END B"),
+    (28, 34, "END B"),
+    (0, 0, ""),
+    (3, 2, ""),
+    (33, 34, ""),
+    (1000, 2000, ""),
+];
+
+#[test]
+fn texts_of_spans(rt: HostRuntime) -> Result<(), Fail> {
+    let program = read_program(rt.alloc(), LABELLED)?;
+    for (start, end, text) in &SPANS {
+        let span = Span {
+            start: *start,
+            end: *end,
+        };
+        assert_eq!(rt; program.text(span), text.as_bytes(), "{start} {end}");
+    }
     Ok(())
 }
