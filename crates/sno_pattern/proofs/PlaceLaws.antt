@@ -1,6 +1,7 @@
 -- The next place at which a primitive has an end.
 use Rattle.std.proofs.Common.{◌≡◌, ℕ, zero, suc, ◌+◌, ◌-◌, ◌<◌, ◌≤◌, ◌==◌, nat_eq, Bool, true, false, not, ◌||◌, cond, if◌then◌else◌, Some, None, List, [], ◌∷◌}
 use Rattle.std.proofs.Common.{length, min, take, drop, get_or, position, slice_get, slice_index, refl, sym, ◌∙◌, ap, arith, ◌⊎◌, inl, inr, ⊎_elim}
+use Rattle.std.specs.Cmp.Lexicographic.{same_text}
 use Rattle.std.specs.Option.{is_some}
 use Rattle.std.specs.List.{position_from, starts_with}
 use Rattle.std.proofs.lemmas.Bool.{eq-eqb, ne_eqb}
@@ -215,3 +216,13 @@ same_eight byte bytes = ap (λ (p : ℕ → Bool). position p bytes) (λ i b. sa
 
     same : (b : ℕ) → is_in (byte ∷ byte ∷ byte ∷ byte ∷ byte ∷ byte ∷ byte ∷ byte ∷ []) b ≡ (b == byte)
     same b = once (byte == b) ∙ turned byte b
+
+-- where one byte of a text differs the text does not stand
+pub one_differs : (text bytes : List ℕ) (i : ℕ) → i < length text → (get_or bytes i 0 ≡ get_or text i 0 → ⊥) → starts_with nat_eq bytes text ≡ false
+one_differs text bytes i below apart = go (starts_with nat_eq bytes text) refl
+  where
+    go : (b : Bool) → starts_with nat_eq bytes text ≡ b → starts_with nat_eq bytes text ≡ false
+    go false e = e
+    go true e =
+        let same : text ≡ take (length text) bytes = same_text text (take (length text) bytes) (sym e) in
+        absurd (apart (sym (ap (λ (xs : List ℕ). get_or xs i 0) same ∙ get_or-take (length text) bytes i 0 below)))

@@ -8,7 +8,7 @@ use Rattle.sno_pattern.specs.Table.{Node, LeafNode, FenceNode, CutNode, AbortNod
 use Rattle.sno_pattern.specs.Table.{DeferNode, tree_over, trees_onto, tree, no_pattern}
 use Rattle.sno_pattern.specs.inner.Table.{AllParts, PartsBelow}
 use Rattle.sno_pattern.specs.Built.{Appends}
-use Rattle.sno_pattern.specs.inner.Kinds.{node_of, nodes_of, flags_of, quiet_over, IsTable}
+use Rattle.sno_pattern.specs.inner.Kinds.{node_of, nodes_of, flags_of, quiet_over, IsBegun, IsTable}
 use Rattle.sno_pattern.specs.declared.kind.Kind.{Kind}
 use Rattle.sno_pattern.specs.declared.kind.Entry.{Entry}
 
@@ -168,13 +168,33 @@ quiet-appended xs kind quiet h p q id below =
     (λ i more. h.quiet i (omega arith)) q)
     (old_or_last (length xs) id (omega (arith, length-append xs (entry ∷ [])))))
 
+-- the bytes that are kept with a choice stay its first
+begun-appended : (xs : List Entry) (entry : Entry) → IsTable xs → IsBegun entry.kind (tree_over (trees_onto [] (nodes_of xs)) (node_of entry.kind)) →
+    (id : ℕ) (other : Entry) → id < length (xs ++ entry ∷ []) → IsBegun (get_or (xs ++ entry ∷ []) id other).kind (tree (nodes_of (xs ++ entry ∷ [])) id)
+begun-appended xs entry h begun id other below =
+    rw (nodes_of-append xs entry)
+    (⊎_elim
+    (λ old.
+        let at : get_or (xs ++ entry ∷ []) id other ≡ get_or xs id other = get_or-append xs (entry ∷ []) other id old in
+        let stays = tree-append (nodes_of xs) (node_of entry.kind ∷ []) id (omega (arith, length-nodes xs, old)) in
+        rw (at, stays) (h.begins id other old))
+    (λ at.
+        let here : get_or (xs ++ entry ∷ []) id other ≡ entry = rw (← at) (get_or-append_seam xs entry [] other) in
+        let n : id ≡ length (nodes_of xs) = omega (arith, at, length-nodes xs) in
+        let last : tree (nodes_of xs ++ node_of entry.kind ∷ []) id ≡ tree_over (trees_onto [] (nodes_of xs)) (node_of entry.kind) =
+        rw n (tree-last (nodes_of xs) (node_of entry.kind)) in
+        rw (here, last) begun)
+    (old_or_last (length xs) id (omega (arith, length-append xs (entry ∷ []), below))))
+
 pub appended : (xs ys : List Entry) (kind : Kind) (quiet : Bool) → IsTable xs → PartsBelow (node_of kind) (length xs) → suc (length xs) ≤ 4000000 →
-    quiet ≡ quiet_over (flags_of xs) (node_of kind) → ys ≡ xs ++ record { kind = kind; quiet = quiet } ∷ [] → IsTable ys
-appended xs ys kind quiet h p room q e = record {
+    IsBegun kind (tree_over (trees_onto [] (nodes_of xs)) (node_of kind)) → quiet ≡ quiet_over (flags_of xs) (node_of kind)
+    → ys ≡ xs ++ record { kind = kind; quiet = quiet } ∷ [] → IsTable ys
+appended xs ys kind quiet h p room begun q e = record {
   room = rw e (omega (arith, length-append xs (record { kind = kind; quiet = quiet } ∷ []), room));
   parts = rw (e, nodes_of-append) (AllParts-append 0 (nodes_of xs) (node_of kind) h.parts
       (let e' : 0 + length (nodes_of xs) ≡ length xs = omega (arith, length-nodes xs) in rw e' p));
   quiet = rw e (quiet-appended xs kind quiet h p q);
+  begins = rw e (begun-appended xs (record { kind = kind; quiet = quiet }) h begun);
 }
 
 -- what `append` says of the nodes and the trees

@@ -1,8 +1,8 @@
 -- The next place at which a pattern has an end.
-use Rattle.std.specs.Prelude.{ℕ, ◌≡◌, ◌<◌, ◌≤◌, Bool, true, false, List, slice_get}
+use Rattle.std.specs.Prelude.{ℕ, ◌≡◌, ◌<◌, ◌≤◌, ◌+◌, Bool, true, false, List, slice_get}
 use Rattle.std.specs.Option.{is_some}
 use Rattle.sno_value.specs.declared.kind.PrimitiveKind.TheVariants.{Any}
-use Rattle.sno_pattern.specs.Pattern.{Pattern, Among}
+use Rattle.sno_pattern.specs.Pattern.{Pattern, Among, Leaf, Alt, Cat, Cond, Imm}
 use Rattle.sno_pattern.specs.Ends.{is_in, ends}
 use Rattle.sno_pattern.specs.Shape.{end_of}
 
@@ -28,3 +28,13 @@ pub record IsAmong (set other : List ℕ) : Type 0 where
 -- a primitive pattern begins with a byte of the set: it has no end where none of them stands
 pub record BeginsAmong (pattern : Pattern) (set : List ℕ) : Type 0 where
   pub fails : (s : List ℕ) (c : ℕ) → stands_at set s c ≡ false → has_end pattern s c ≡ false
+
+-- a pattern begins with a byte of the set behind heads and choices: where none stands its search takes so many steps in vain
+abbrev pub BeginsWith : List ℕ → ℕ → Pattern → Type 0
+BeginsWith set steps (Leaf a) = (steps ≡ 1) × BeginsAmong (Leaf a) set
+BeginsWith set steps (Alt p q) =
+    (before : ℕ) × (behind : ℕ) × (steps ≡ before + behind + 2) × BeginsWith set before p × BeginsWith set behind q
+BeginsWith set steps (Cat p q) = (part : ℕ) × (steps ≡ part + 1) × BeginsWith set part p
+BeginsWith set steps (Cond p target) = (part : ℕ) × (steps ≡ part + 1) × BeginsWith set part p
+BeginsWith set steps (Imm p target) = (part : ℕ) × (steps ≡ part + 1) × BeginsWith set part p
+BeginsWith set steps pattern = ⊥

@@ -3,6 +3,7 @@ ghost use Rattle.std.specs.Prelude.{◌≡◌, ◌==◌, ℕ, Bool, false, not, 
 ghost use Rattle.sno_pattern.specs.Ends.{is_in};
 ghost use Rattle.sno_pattern.specs.Sets.{set_of};
 ghost use Rattle.sno_pattern.specs.inner.Lanes.{passes};
+ghost use Rattle.sno_pattern.specs.inner.Masks.{members};
 
 use crate::lanes;
 use std::marker::Model;
@@ -54,6 +55,20 @@ impl ByteSet {
             words: [0; 4],
             eight: None,
         }
+    }
+
+    /// The bytes whose bits are set in four words.
+    pub(crate) fn with_words(words: [u64; 4]) -> ByteSet
+        ensures { result ≡ members words }
+    {
+        ByteSet { words, eight: None }
+    }
+
+    /// Its bits, in four words.
+    pub(crate) fn words(&self) -> [u64; 4]
+        ensures { members result ≡ self.now }
+    {
+        self.words
     }
 
     /// The byte joins the set.

@@ -1,5 +1,6 @@
 //! Where a primitive ends.
-ghost use Rattle.std.specs.Prelude.{◌≡◌, ℕ, ◌≤◌, ◌+◌, length, slice_get, IsTrue, List, None, Some};
+ghost use Rattle.std.specs.Prelude.{◌≡◌, ℕ, ◌≤◌, ◌+◌, length, slice_get, IsTrue, List, None, Some, nat_eq};
+ghost use Rattle.std.specs.List.{starts_with};
 ghost use Rattle.sno_pattern.specs.Pattern.{Text};
 ghost use Rattle.sno_pattern.specs.Ends.{ends};
 ghost use Rattle.sno_pattern.specs.inner.Shape.{end_of_node};
@@ -85,9 +86,23 @@ pub(crate) fn text_end(text: &[u8], subject: &[u8], at: usize) -> Option<usize>
     requires { at ≤ length subject.now }
     ensures { result ≡ slice_get (ends (Text text.now) subject.now at) 0 }
 {
-    if subject[at..].starts_with(text) {
+    if begins_with(&subject[at..], text) {
         Some(at + text.len())
     } else {
         None
     }
+}
+
+/// Whether bytes begin with a text. Its last byte is looked at first, since a long text that fails there again and again
+/// would else be gone through each time.
+pub(crate) fn begins_with(bytes: &[u8], text: &[u8]) -> bool
+    ensures { result ≡ starts_with nat_eq bytes.now text.now }
+{
+    if text.len() > bytes.len() {
+        return false;
+    }
+    if text.len() > 1 && bytes[text.len() - 1] != text[text.len() - 1] {
+        return false;
+    }
+    bytes.starts_with(text)
 }

@@ -5,6 +5,7 @@ ghost use Rattle.sno_pattern.specs.inner.Shape.{shape_of};
 ghost use Rattle.sno_pattern.specs.inner.Kinds.{node_of, flags_of, quiet_over};
 
 use crate::byte_set::ByteSet;
+use crate::first_bytes::FirstBytes;
 use crate::shape::Shape;
 use sno_value::{ExprId, Name, PatId, Prim};
 
@@ -23,7 +24,8 @@ pub(crate) enum Kind {
     Abort,
     Succeed,
     Arbno(PatId),
-    Alt(PatId, PatId),
+    /// With the bytes with which it begins.
+    Alt(PatId, PatId, FirstBytes),
     Cat(PatId, PatId),
     Cond(PatId, Name),
     Imm(PatId, Name),
@@ -49,7 +51,7 @@ pub(crate) fn shape_of_kind(kind: &Kind) -> Shape
         Kind::Abort => Shape::Abort,
         Kind::Succeed => Shape::Succeed,
         Kind::Arbno(p) => Shape::Arbno(*p),
-        Kind::Alt(p, q) => Shape::Alt(*p, *q),
+        Kind::Alt(p, q, _begins) => Shape::Alt(*p, *q),
         Kind::Cat(p, q) => Shape::Cat(*p, *q),
         Kind::Cond(p, target) => Shape::Cond(*p, *target),
         Kind::Imm(p, target) => Shape::Imm(*p, *target),
@@ -69,7 +71,7 @@ pub(crate) fn is_quiet_over(entries: &[Entry], kind: &Kind) -> bool
         Kind::Fence | Kind::Abort | Kind::Succeed | Kind::Defer(_) | Kind::DeferPrim(_, _) => false,
         Kind::Cut(p) | Kind::Arbno(p) | Kind::Cond(p, _) | Kind::Imm(p, _) =>
             entries[p.0 as usize].quiet,
-        Kind::Alt(p, q) | Kind::Cat(p, q) => {
+        Kind::Alt(p, q, _) | Kind::Cat(p, q) => {
             entries[p.0 as usize].quiet && entries[q.0 as usize].quiet
         }
         _ => true,

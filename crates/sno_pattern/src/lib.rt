@@ -24,6 +24,7 @@ mod table;
 
 pub use argument::Arg;
 pub use byte_set::ByteSet;
+pub use first_bytes::Beginning;
 pub use lanes::{first_in, first_not_in};
 pub use looks::Looks;
 pub use places::place_in_set;

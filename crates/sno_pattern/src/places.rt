@@ -7,7 +7,7 @@ ghost use Rattle.sno_pattern.specs.Places.{IsFirstPlace, stands_at};
 ghost use Rattle.sno_pattern.specs.inner.Places.{leaf_has_end, node_has_end, byte_passes};
 
 use crate::byte_set::{ByteSet, FEW};
-use crate::ends::first_end;
+use crate::ends::{begins_with, first_end};
 use crate::kind::Kind;
 use crate::lanes::first_in;
 use crate::sets::break_end;
@@ -47,7 +47,7 @@ fn place_of_text(text: &[u8], subject: &[u8], from: usize, until: usize) -> usiz
     }
     let first = text[0];
     let mut place = place_of_byte(first, subject, from, until);
-    'places: while place < until && !subject[place..].starts_with(text) {
+    'places: while place < until && !begins_with(&subject[place..], text) {
         place = place_of_byte(first, subject, place + 1, until);
     }
     place

@@ -12,15 +12,15 @@ ghost use Rattle.sno_pattern.specs.inner.Table.{PartsBelow};
 ghost use Rattle.sno_pattern.specs.Arguments.{IsArgOf, IsNullSet, IsBadCount, IsGoodArg, primitive_of};
 ghost use Rattle.sno_pattern.specs.Built.{Appends, Builds};
 ghost use Rattle.sno_pattern.specs.NextEnd.{ends_of, next_end};
-ghost use Rattle.sno_pattern.specs.Places.{IsFirstPlace, has_end, IsAmong, BeginsAmong};
+ghost use Rattle.sno_pattern.specs.Places.{IsFirstPlace, has_end, IsAmong, BeginsAmong, BeginsWith};
 ghost use Rattle.sno_pattern.specs.Looks.{AreTrue};
 ghost use Rattle.sno_pattern.specs.inner.Looks.{IsBal, StopsOften};
-ghost use Rattle.sno_pattern.specs.inner.Kinds.{nodes_of, node_of, IsTable};
+ghost use Rattle.sno_pattern.specs.inner.Kinds.{nodes_of, node_of, IsBegun, IsTable};
 
 use crate::argument::Arg;
 use crate::byte_set::ByteSet;
 use crate::ends::{end_behind_of_kind, end_of_kind, has_one_end};
-use crate::first_bytes::{add_first_bytes_of_kind, kind_fails_at};
+use crate::first_bytes::{Beginning, add_first_bytes_of_kind, first_bytes_of_choice, kind_fails_at};
 use crate::kind::{Entry, Kind, is_quiet_over, shape_of_kind};
 use crate::looks::{Looks, Run, is_far, is_near, last_with_end, slot_behind, slot_of_first};
 use crate::places::first_place_of_kind;
@@ -204,7 +204,8 @@ impl Patterns {
         ensures built { Builds (AltNode first.0 second.0) (Alt (tree self.old first.0) (tree self.old second.0))
             self.old self.new result }
     {
-        append(&mut self.entries, Kind::Alt(first, second))
+        let begins = first_bytes_of_choice(&self.entries, first, second);
+        append(&mut self.entries, Kind::Alt(first, second, begins))
     }
 
     /// P Q: P, and Q behind it.
@@ -329,6 +330,21 @@ impl Patterns {
         ensures known { IsTrue result → BeginsAmong (tree self.now id.0) set.new }
     {
         add_first_bytes_of_kind(&self.entries[id.0 as usize].kind, set)
+    }
+
+    /// The bytes with which a choice begins, where each of its sides begins with a literal, ANY or SPAN, behind further
+    /// choices, and concatenations or assignments of a part, that are not too deep in one another. It is None for any
+    /// other pattern. The node keeps them, so that they are not put together anew.
+    pub fn choice_begins(&self, id: PatId) -> Option<Beginning>
+        requires { id.0 < length self.now }
+        ensures { IfSome result (λ begins. BeginsWith begins.set begins.steps (tree self.now id.0)) }
+    {
+        let Kind::Alt(_first, _second, begins) = &self.entries[id.0 as usize].kind else {
+            return None;
+        };
+        let steps = begins.steps?;
+        let set = ByteSet::with_words(begins.words);
+        Some(Beginning { set, steps })
     }
 
     /// Whether a primitive whose first bytes are known has no end from a cursor. It looks at no more bytes than a text
@@ -497,6 +513,7 @@ impl Patterns {
 fn append(entries: &mut Vec<Entry>, kind: Kind) -> Result<PatId, BuildError>
     requires table { IsTable entries.old.items }
     requires parts { PartsBelow (node_of kind) (length entries.old.items) }
+    requires begins { IsBegun kind (tree_over (trees_onto [] (nodes_of entries.old.items)) (node_of kind)) }
     ensures table { IsTable entries.new.items }
     ensures ok { IfOk result (Appends (nodes_of entries.old.items) (nodes_of entries.new.items) (node_of kind)) }
     ensures stands { IfOk result

@@ -1,8 +1,10 @@
 -- The nodes that the stored kinds stand for, and what a table keeps of them. Private contracts alone cite it.
-use Rattle.std.specs.Prelude.{ℕ, ◌<◌, ◌≤◌, Bool, true, false, ◌&&◌, ◌↔◌, List, length, map, get_or, None, Some, IsTrue}
-use Rattle.sno_pattern.specs.Pattern.{Text, Counted, Among, Arb, Bal, Rem, Fail, IsQuiet}
+use Rattle.std.specs.Prelude.{ℕ, ◌<◌, ◌≤◌, Bool, true, false, ◌&&◌, ◌↔◌, List, length, map, get_or, None, Some, IsTrue, IfSome}
+use Rattle.sno_pattern.specs.Pattern.{Pattern, Text, Counted, Among, Arb, Bal, Rem, Fail, IsQuiet}
 use Rattle.sno_pattern.specs.Table.{Node, LeafNode, FenceNode, CutNode, AbortNode, SucceedNode, ArbnoNode, AltNode}
 use Rattle.sno_pattern.specs.Table.{CatNode, CondNode, ImmNode, PlaceNode, DeferNode, tree}
+use Rattle.sno_pattern.specs.Places.{BeginsWith}
+use Rattle.sno_pattern.specs.inner.Masks.{members}
 use Rattle.sno_pattern.specs.inner.Table.{AllParts}
 use Rattle.sno_pattern.specs.declared.kind.Kind.{Kind}
 use Rattle.sno_pattern.specs.declared.kind.Kind.TheVariants as K
@@ -21,7 +23,7 @@ node_of (K.Cut p) = CutNode p.0
 node_of K.Abort = AbortNode
 node_of K.Succeed = SucceedNode
 node_of (K.Arbno p) = ArbnoNode p.0
-node_of (K.Alt p q) = AltNode p.0 q.0
+node_of (K.Alt p q begins) = AltNode p.0 q.0
 node_of (K.Cat p q) = CatNode p.0 q.0
 node_of (K.Cond p target) = CondNode p.0 target
 node_of (K.Imm p target) = ImmNode p.0 target
@@ -50,9 +52,17 @@ quiet_over flags (ImmNode p target) = get_or flags p false
 quiet_over flags (PlaceNode target) = true
 quiet_over flags (DeferNode primitive expression) = false
 
--- not too many, each names parts before it, and each flag says whether the tree is quiet
+-- the bytes that are kept with a choice are those with which its tree begins
+abbrev pub IsBegun : Kind → Pattern → Type 0
+IsBegun (K.Alt p q begins) pattern = IfSome begins.steps (λ steps. BeginsWith (members begins.words) steps pattern)
+IsBegun kind pattern = Unit {0}
+
+-- not too many, each names parts before it, and each flag says whether the tree is quiet, and the bytes that are
+-- kept with a choice are its first
 pub record IsTable (entries : List Entry) : Type 0 where
   pub room : length entries ≤ 4000000
   pub parts : AllParts 0 (nodes_of entries)
   pub quiet : (id : ℕ) → id < length entries → IsTrue (get_or (flags_of entries) id false) ↔ IsQuiet
+      (tree (nodes_of entries) id)
+  pub begins : (id : ℕ) (other : Entry) → id < length entries → IsBegun (get_or entries id other).kind
       (tree (nodes_of entries) id)

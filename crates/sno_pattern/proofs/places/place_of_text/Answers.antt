@@ -17,7 +17,7 @@ places-preserved c = record {
   before = c.place_of_byte-place-in-places.ensures.before;
   none = text_next c.args.text.now c.args.subject.now (sym c.is_empty.ensures ∙ c.if-is_empty.false) c.args.until c.args.from c.places.place
       c.place_of_byte-place-in-places.result c.places.invariant.none
-      (not_there c.args.text.now c.args.subject.now c.places.place (sym c.starts_with.ensures.value ∙ c.if-not-starts_with.true))
+      (not_there c.args.text.now c.args.subject.now c.places.place (sym c.begins_with.ensures ∙ c.if-not-begins_with.true))
       c.place_of_byte-place-in-places.ensures;
   found = c.place_of_byte-place-in-places.ensures.found;
 }
