@@ -1,6 +1,9 @@
 # Proves and builds the program with the kit.
 # Read behind program.sh.
 
+# (as there)
+unset takes log waited began kit signal status crates told now
+
 # What it takes from nothing, as README.md has it.
 takes='half an hour or more on 4 processors, and 5 GB of disk'
 

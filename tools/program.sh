@@ -1,6 +1,9 @@
 # Finds a program: the one built here, the one that ships, or none.
 # Read by scripts that have set top to the repository's root.
 
+# What the environment has by these names would be exported with what they are set to here, to each command that is called.
+unset cache answers name crate built shipped one part looks answer why program
+
 cache=$top/.cache
 answers=$cache/answers
 
