@@ -6,7 +6,7 @@
 # does: a byte comes on descriptor 9 for it and for each write to standard output behind it.
 make_refusing() {
     if ! command -v cc >/dev/null; then
-        why='no cc'
+        why='there is no cc'
         return 1
     fi
     why='cc fails'
