@@ -2,7 +2,7 @@
 # Read by scripts that have set top to the repository's root.
 
 # What the environment has by these names would be exported with what they are set to here, to each command that is called.
-unset cache answers name crate built shipped one part looks answer why program
+unset cache answers name crate built shipped one part link looks answer why program
 
 cache=$top/.cache
 answers=$cache/answers
@@ -70,6 +70,13 @@ sources_digest() (
         sort -z | xargs -0 sha256sum | sha256sum | cut -d ' ' -f 1
 )
 
+# The first link under the paths $*, from the root: the digest does not see what it leads to, so no source may be one. The kit
+# minds what it made.
+link_under() (
+    cd "$top"
+    find "$@" -regex 'crates/[^/]*/out' -prune -o -type l -print | head -n 1
+)
+
 # Whether the file $1 is older than a source. A folder's time counts too: it tells that a file went or was moved in.
 is_older() {
     [ -n "$(cd "$top" && find $(source_places) \
@@ -93,6 +100,11 @@ is_told() {
 
 # Why the shipped programs are not those of these sources; `fits` where they are.
 judge_shipped() (
+    link=$(link_under $(source_places))
+    if [ -n "$link" ]; then
+        echo "$link is a link, and the sources are files"
+        return
+    fi
     if [ "$(told_of_shipped sources)" != "$(sources_digest)" ]; then
         echo "the sources are not those that the program in bin/ was built from"
         return
