@@ -44,7 +44,8 @@ OVER.   OUTPUT = EQ(ENDED.,1) 'exhausted'               :S(RETURN)
 VARS.   OUTPUT = 'left X=' X ' Y=' Y ' N=' N            :(RETURN)
 CASES.
 """
-NULL_ALONE = ('ARB', 'REM', 'FENCE', 'SUCCEED')
+# What variables hold before a match that fails.
+OLD = 'old'
 
 
 def names(tree):
@@ -90,13 +91,26 @@ def is_portable(mode, pattern):
     return ' ' not in mode and not repeats_null(read(pattern)) and 'SUCCEED' not in pattern
 
 
-def shown(pattern, subject, lines):
+def is_of_book(pattern):
+    return 'BREAKX(' not in pattern and 'FENCE(' not in pattern
+
+
+def note(mode, pattern, subject):
+    """The comment above a case: what it matches, and whether the book has it."""
+    quoted = '"%s"' % pattern if "'" in pattern else "'%s'" % pattern
+    return "ways %s on '%s', %s%s" % (quoted, subject, mode, '' if is_of_book(pattern) else ', not of the book')
+
+
+def shown(pattern, subject, lines, group=''):
     """What the program of a case writes where its listing has these lines.
 
-    A pattern with `.` is matched once for each way, and what its variables hold then stands behind the way.
+    A pattern with `.` is matched once for each way, and what its variables hold then stands behind the way. One of `failing` is
+    matched once, and its variables held something before.
     """
     tree = read(pattern)
     waits, held, told = has(tree, '.'), {}, []
+    if group == 'failing':
+        held = {'X': OLD, 'Y': OLD}
     for line in lines[:-1]:
         words = line.split(' ')
         if words[0] == 'set':
@@ -110,7 +124,7 @@ def shown(pattern, subject, lines):
             for name, begin, end in (re.match(r'(\w+)=(\d+)-(\d+)$', entry).groups() for entry in words[3:]):
                 then[name] = subject[int(begin):int(end)]
             told.append(' '.join(words[:3] + values(then)))
-    told.append(lines[-1])
+    told.append('failed' if group == 'failing' else lines[-1])
     if names(tree):
         told.append(' '.join(['left'] + values(held)))
     return told
@@ -134,12 +148,15 @@ def card(statement, label='', goto=''):
 def statements(title, mode, pattern, subject):
     """The statements of a case."""
     tree = read(pattern)
-    waits = has(tree, '.')
-    told = write(tree, 2, not waits)
+    waits, fails = has(tree, '.'), title.startswith('failing ')
+    told = write(tree, 2, not waits and not fails)
     ended = '*DONE.()' if mode == 'anchor' else 'RPOS(0) *DONE.()'
-    text = "*\n        CASE.('%s')\n        &ANCHOR = %d\n" % (title, mode == 'anchor')
+    text = "*       %s\n        CASE.('%s')\n        &ANCHOR = %d\n" % (note(mode, pattern, subject), title, mode == 'anchor')
+    label = 'L' + title.split(' ')[1]
+    if fails:
+        text += card("X = '%s'" % OLD) + card("Y = '%s'" % OLD) + card('%s %s' % (write(subject), told), '', ':S(%s)' % label)
+        return text + card("OUTPUT = 'failed'") + card('VARS.()', label)
     if waits:
-        label = 'L' + title.split(' ')[1]
         text += card('AGAIN.()', label, ':F(%sE)' % label)
         text += card("%s @S. %s @E. *KTH.() | %s" % (write(subject), told, ended), '', ':S(%s)' % label)
         text += card('OVER.()', label + 'E')
@@ -157,5 +174,5 @@ def programs(table):
             continue
         source, output = made.setdefault(name, ([HEAD % {'name': name, 'group': group}], []))
         source.append(statements('%s %s' % (group, number), mode, pattern, subject))
-        output += ['# %s %s' % (group, number)] + shown(pattern, subject, lines.split('|'))
+        output += ['# %s %s' % (group, number)] + shown(pattern, subject, lines.split('|'), group)
     return {name: (''.join(source) + 'END\n', '\n'.join(output) + '\n') for name, (source, output) in made.items()}
