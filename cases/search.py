@@ -37,16 +37,19 @@ class Search:
 
     def listing(self, pattern):
         try:
-            pattern = as_pattern(self.value(read(pattern)))
-            for start in range(0, 1 if self.anchored else self.size + 1):
-                if start > 0:
-                    self.step()
-                self.start = start
-                self.go((pattern, None), start, ())
-            raise Ended('exhausted')
+            self.look_for(as_pattern(self.value(read(pattern))))
         except Ended as how:
             self.lines.append(str(how))
         return self.lines
+
+    def look_for(self, pattern):
+        """Matches a pattern from each start; tells by an exception how the match ended."""
+        for start in range(0, 1 if self.anchored else self.size + 1):
+            if start > 0:
+                self.step()
+            self.start = start
+            self.go((pattern, None), start, ())
+        raise Ended('exhausted')
 
     def step(self):
         if self.left == 0:
