@@ -44,6 +44,8 @@ OVER.   OUTPUT = EQ(ENDED.,1) 'exhausted'               :S(RETURN)
 VARS.   OUTPUT = 'left X=' X ' Y=' Y ' N=' N            :(RETURN)
 CASES.
 """
+# So many cases stand in a program.
+A_PROGRAM = 50
 # What variables hold before a match that fails.
 OLD = 'old'
 

@@ -3,10 +3,9 @@ import itertools
 import random
 
 from expressions import read, write
-from programs import is_of_book, is_portable
+from programs import A_PROGRAM, is_of_book, is_portable
 from search import listing
 
-A_PROGRAM = 50
 MOST_LINES, MOST_STEPS = 30, 1500
 # The random cases are those of this seed, so that they are the same each time.
 SEED = 1971
