@@ -6,6 +6,8 @@ cases use it: (sign, left, right) for the binary signs `|`, ` `, `+`, `-`, `.` a
 """
 import re
 
+from reader import Reading, Refused
+
 # The signs of binary operators, from the loosest to the closest; a blank where no sign and no end follows is one too.
 BINARY = [re.compile(sign) for sign in (r" (\|) ", r"( )(?![|+.$-] )", r" ([+-]) ", r" ([.$]) ")]
 PRIMARY = re.compile(r"'([^']*)'|\"([^\"]*)\"|([0-9]+)|([A-Z]+)(\(?)|(\()")
@@ -16,6 +18,18 @@ def read(text):
     tree, end = read_level(text, 0, 0)
     assert end == len(text), text
     return tree
+
+
+def read_any(text):
+    """The same of any expression of the language, of which reader.py has the whole grammar."""
+    try:
+        return read(text)
+    except (AssertionError, AttributeError, IndexError):
+        reading = Reading(text)
+        tree = reading.expression()
+        if reading.at != len(text):
+            raise Refused(text)
+        return tree
 
 
 def read_level(text, at, level):
@@ -64,6 +78,14 @@ def write(tree, level=0, told=False):
         return tree[1]
     if kind == 'call':
         return '%s(%s)' % (tree[1], ','.join(write(part, 0, told) for part in tree[2:]))
+    if kind == 'key':
+        return '&' + tree[1]
+    if kind == 'item':
+        return '%s<%s>' % (tree[1][1], ','.join(write(part) for part in tree[2:]))
+    if kind in ('?', '~') or kind[0] == 'u':
+        return kind[-1] + write(tree[1], 4)
+    if kind in ('/', '*2', '**'):
+        return '(%s %s %s)' % (write(tree[1], 3), kind.rstrip('2'), write(tree[2], 3))
     if kind == '*':
         return '*' + write(tree[1], 4, told)
     if kind == '@':

@@ -28,29 +28,27 @@ def groups():
     return sorted(set(by_hand) | set(RULES))
 
 
-def by_hand(group):
+def by_hand(text):
     """The cases of a file: `= MARK: WHAT`, statements, lines `< INPUT` (`<!` is one without an end), and `> OUTPUT`.
 
     A mark with `alone` behind it is that of a case which ends the run by an error, and has a program of its own.
     """
-    path = os.path.join(HERE, 'hand', group + '.txt')
-    if not os.path.exists(path):
-        return
-    with open(path) as file:
-        blocks = ('\n' + file.read()).split('\n= ')[1:]
-    for block in blocks:
+    for block in ('\n' + text).split('\n= ')[1:]:
         head, *lines = block.rstrip('\n').split('\n')
         mark, what = head.split(': ', 1)
         read = [line for line in lines if line.startswith('<')]
-        wanted = [line[1:] for line in lines if line.startswith('>')]
+        wanted = [line[2:] for line in lines if line.startswith('>')]
         statements = [line for line in lines if line[:1] not in ('<', '>')]
         given = ''.join(line[2:] + ('' if line[1:2] == '!' else '\n') for line in read)
-        yield mark, what, '\n'.join(statements), given if read else None, '\n'.join(line[1:] for line in wanted)
+        yield mark, what, '\n'.join(statements), given if read else None, '\n'.join(wanted)
 
 
 def cases(group):
     """The cases of a group: mark, what, statements, input or None, and the lines that are wanted."""
-    yield from by_hand(group)
+    path = os.path.join(HERE, 'hand', group + '.txt')
+    if os.path.exists(path):
+        with open(path) as file:
+            yield from by_hand(file.read())
     for mark, what, statements, wanted in computed(group):
         yield mark, what, statements, None, wanted
 
@@ -66,19 +64,23 @@ def plain(cell):
 
 def rows():
     for group in groups():
-        shared = {'book': 0, 'profile': 0}
-        for number, (mark, what, statements, given, wanted) in enumerate(cases(group), 1):
-            statements = statements.replace('%', str(number))
-            alone = mark.endswith(' alone')
-            mark = mark.split(' ')[0]
-            assert mark in shared, mark
-            if alone or given is not None or 'END' in statements:
-                name = '%s-case-%d' % (group, number)
-            else:
-                shared[mark] += 1
-                name = '%s%s-%d' % (group, '' if mark == 'book' else '-profile', (shared[mark] - 1) // A_PROGRAM + 1)
-            cells = (what, statements, given or '', wanted.replace('%', str(number)))
-            yield '\t'.join((group, str(number), name, mark, *map(escaped, (cell.replace('%', str(number)) for cell in cells))))
+        yield from rows_of(group, cases(group))
+
+
+def rows_of(group, held):
+    """The rows of the cases of a group, of which `%` becomes the number."""
+    shared = {'book': 0, 'profile': 0}
+    for number, (mark, what, statements, given, wanted) in enumerate(held, 1):
+        alone = mark.endswith(' alone') or given is not None or 'END' in statements
+        mark = mark.split(' ')[0]
+        assert mark in shared, mark
+        if alone:
+            name = '%s-case-%d' % (group, number)
+        else:
+            shared[mark] += 1
+            name = '%s%s-%d' % (group, '' if mark == 'book' else '-profile', (shared[mark] - 1) // A_PROGRAM + 1)
+        cells = (escaped(cell.replace('%', str(number))) for cell in (what, statements, given or '', wanted))
+        yield '\t'.join((group, str(number), name, mark, *cells))
 
 
 def laid_out(statements):

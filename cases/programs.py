@@ -1,7 +1,7 @@
 """The cases as plain programs of SNOBOL4 that write the listings themselves, and what these write."""
 import re
 
-from expressions import read, write
+from expressions import read, read_any, write
 
 HEAD = """*       %(name)s: cases of the group %(group)s, in plain SNOBOL4. It writes %(name)s.out.
 *       Quickscan is turned off where it is on; elsewhere the keyword is left alone.
@@ -109,7 +109,7 @@ def shown(pattern, subject, lines, group=''):
     A pattern with `.` is matched once for each way, and what its variables hold then stands behind the way. One of `failing` is
     matched once, and its variables held something before.
     """
-    tree = read(pattern)
+    tree = read_any(pattern)
     waits, held, told = has(tree, '.'), {}, []
     if group == 'failing':
         held = {'X': OLD, 'Y': OLD}
@@ -149,7 +149,7 @@ def card(statement, label='', goto=''):
 
 def statements(title, mode, pattern, subject):
     """The statements of a case."""
-    tree = read(pattern)
+    tree = read_any(pattern)
     waits, fails = has(tree, '.'), title.startswith('failing ')
     told = write(tree, 2, not waits and not fails)
     ended = '*DONE.()' if mode == 'anchor' else 'RPOS(0) *DONE.()'
