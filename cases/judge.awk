@@ -1,6 +1,6 @@
-# Tells which cases of one program came out otherwise. Read by cases/compare, with the program, what is wanted and what was told.
-# They go by titles, lines `# GROUP NUMBER`; a banner before the first is passed over. Of each case 100 lines are looked at: so
-# many are wanted nowhere.
+# Tells which cases of one program came out otherwise. Read by cases/compare, with the program, what is wanted and what was
+# told. They go by titles, lines `# GROUP NUMBER`; a banner before the first is passed over. Of each case 100 lines are
+# looked at: so many are wanted nowhere.
 FNR == 1 { file++; title = "" }
 file == 1 && /^[*]       / { note = substr($0, 9) }
 file == 1 && /^        CASE[.][(]/ {

@@ -1,4 +1,4 @@
-"""The cases of the language: by hand from cases/hand, and computed by language_rules.py; their table and their programs."""
+"""The cases of the language, by hand from cases/hand and computed by language_rules.py: their table and their programs."""
 import glob
 import os
 
@@ -112,4 +112,5 @@ def language_programs(table):
         source.append(case_text(title, mark, what, plain(statements)))
         output.append('# %s\n' % title + (plain(lines) + '\n'))
         inputs.append(plain(given))
-    return {name: (''.join(source) + 'END\n', ''.join(output), ''.join(inputs)) for name, (source, output, inputs) in made.items()}
+    return {name: (''.join(source) + 'END\n', ''.join(output), ''.join(inputs))
+            for name, (source, output, inputs) in made.items()}

@@ -92,11 +92,14 @@ def precedence():
         yield 'book', 'signs that bind more and less closely', written(told), str(found)
     for told, found in (('2 ** 3 ** 2', 2 ** 9), ('2 ** 2 ** 3', 2 ** 8), ('3 ** 1 ** 2', 3)):
         yield 'profile', '** groups to the right', written(told), str(found)
-    for told, found in (('2 * 3 ** 2', 18), ('2 ** 3 * 2', 16), ('2 ** 3 + 1', 9), ('20 - 2 ** 4', 4), ('64 / 2 ** 3', 8)):
+    for told, found in (
+            ('2 * 3 ** 2', 18), ('2 ** 3 * 2', 16), ('2 ** 3 + 1', 9), ('20 - 2 ** 4', 4), ('64 / 2 ** 3', 8)):
         yield 'book', '** binds more closely', written(told), str(found)
-    for told, found in (('-3 + 5', 2), ('-3 * -5', 15), ('2 - -3', 5), ('-(2 + 3)', -5), ('7 - -7 / 2', 10), ('+3 - +4', -1)):
+    for told, found in (
+            ('-3 + 5', 2), ('-3 * -5', 15), ('2 - -3', 5), ('-(2 + 3)', -5), ('7 - -7 / 2', 10), ('+3 - +4', -1)):
         yield 'book', 'unary signs bind most closely', written(told), str(found)
-    for left, right, found in (('1', '1 + 1', '12'), ('2 * 3', '4', '64'), ('1 + 2', '3 + 4', '37'), ('8 / 3', '8 - 3', '25')):
+    for left, right, found in (
+            ('1', '1 + 1', '12'), ('2 * 3', '4', '64'), ('1 + 2', '3 + 4', '37'), ('8 / 3', '8 - 3', '25')):
         yield 'book', 'a concatenation binds less closely', written('%s %s' % (left, right)), found
 
 
@@ -126,7 +129,8 @@ def predicates():
              'GT': lambda x, y: x > y, 'GE': lambda x, y: x >= y}
     for name, test in tests.items():
         for x, y in itertools.product((0, 1, -1, 10, '', '01', '-1'), (0, 1, -2, '1')):
-            yield 'book', 'numbers are compared', judged('%s(%s,%s)' % (name, literal(x), literal(y))), yes(test(int(x or 0), int(y or 0)))
+            told = judged('%s(%s,%s)' % (name, literal(x), literal(y)))
+            yield 'book', 'numbers are compared', told, yes(test(int(x or 0), int(y or 0)))
     letters = ('', 'A', 'AA', 'AB', 'B', 'BA')
     for x, y in itertools.product(letters, letters):
         yield 'book', 'texts are compared', judged("LGT('%s','%s')" % (x, y)), yes(x > y)
@@ -138,10 +142,12 @@ def predicates():
         same = type(x) is type(y) and x == y
         yield 'book', 'type and value are compared', judged('IDENT(%s,%s)' % (literal(x), literal(y))), yes(same)
         if values.index(x) % 2 == 0 or same:
-            yield 'book', 'type and value are compared', judged('DIFFER(%s,%s)' % (literal(x), literal(y))), yes(not same)
-    for x, truth in (('12', True), ('-12', True), ('+12', True), ('007', True), (12, True), (-1, True), ('A', False), ('1A', False),
-                     ('A1', False), ('-', False), ('+', False), ('1-', False), ('--1', False), ('1+1', False)):
-        yield 'book', 'what is an integer', judged('INTEGER(%s)' % literal(x)), yes(truth)
+            told = judged('DIFFER(%s,%s)' % (literal(x), literal(y)))
+            yield 'book', 'type and value are compared', told, yes(not same)
+    for x in ('12', '-12', '+12', '007', 12, -1):
+        yield 'book', 'what is an integer', judged('INTEGER(%s)' % literal(x)), 'yes'
+    for x in ('A', '1A', 'A1', '-', '+', '1-', '--1', '1+1'):
+        yield 'book', 'what is an integer', judged('INTEGER(%s)' % literal(x)), 'no'
     for pattern in ('LEN(1)', 'ARRAY(1)', 'TABLE()', "'A' | 'B'"):
         yield 'book', 'what is no integer', judged('INTEGER(%s)' % pattern), 'no'
 
@@ -162,36 +168,40 @@ def strings():
         yield 'book', 'copies of a number', written('DUPL(%d,%d)' % (x, n)), str(x) * n
     for n in (-1, -7):
         yield 'profile', 'copies fewer than none', judged("DUPL('A',%d)" % n), 'no'
-    for x, y, z in itertools.product(('', 'A', 'ABC', 'CABBAC', 'XYZ'), ('A', 'AB', 'CBA'), ('1', '12', 'AB', '123', 'ABC')):
+    subjects, others = ('', 'A', 'ABC', 'CABBAC', 'XYZ'), ('1', '12', 'AB', '123', 'ABC')
+    for x, y, z in itertools.product(subjects, ('A', 'AB', 'CBA'), others):
         if len(y) == len(z):
-            yield 'book', 'letters are replaced', written("'(' REPLACE('%s','%s','%s') ')'" % (x, y, z)), '(%s)' % x.translate(
-                str.maketrans(y, z))
+            told = written("'(' REPLACE('%s','%s','%s') ')'" % (x, y, z))
+            yield 'book', 'letters are replaced', told, '(%s)' % x.translate(str.maketrans(y, z))
         elif x == 'ABC':
             yield 'profile', 'alphabets of two lengths', judged("REPLACE('%s','%s','%s')" % (x, y, z)), 'no'
     for x, y, z in (('ABA', 'AA', '12'), ('ABA', 'ABA', '123'), ('BBB', 'BAB', '123')):
         yield 'profile', 'a letter that stands twice', written("REPLACE('%s','%s','%s')" % (x, y, z)), x.translate(
             {ord(old): new for old, new in zip(y, z)})
     for x, n in itertools.product(('A', '-7', '12'), range(4)):
-        yield 'book', 'a text that grows', " X = 'B'\n X = X DUPL('%s',%d)\n OUTPUT = SIZE(X) X" % (x, n), '%dB%s' % (1 + len(x) * n, x * n)
+        told = " X = 'B'\n X = X DUPL('%s',%d)\n OUTPUT = SIZE(X) X" % (x, n)
+        yield 'book', 'a text that grows', told, '%dB%s' % (1 + len(x) * n, x * n)
 
 
 def in_range():
     """Each subscript of an array of one dimension, and one on both sides of the bounds."""
-    for prototype, low, high in (('1', 1, 1), ('3', 1, 3), ('0:2', 0, 2), ('-2:0', -2, 0), ('-1:1', -1, 1), ('5:7', 5, 7), ('2:2', 2, 2)):
+    for prototype, low, high in (
+            ('1', 1, 1), ('3', 1, 3), ('0:2', 0, 2), ('-2:0', -2, 0), ('-1:1', -1, 1), ('5:7', 5, 7), ('2:2', 2, 2)):
         yield 'book', 'the prototype', written("PROTOTYPE(ARRAY('%s'))" % prototype), prototype
         for index in range(low - 1, high + 2):
             inside = low <= index <= high
             head = " A = ARRAY('%s','v')\n R = 'no'\n" % prototype
             yield 'book', 'a subscript at the bounds', head + ' R = A<%d>\n OUTPUT = R' % index, 'v' if inside else 'no'
-            set_ = " A = ARRAY('%s')\n R = 'no'\n A<%d> = 'x' :F(A%%)\n R = A<%d>\nA%% OUTPUT = R" % (prototype, index, index)
-            yield 'book', 'an assignment at the bounds', set_, 'x' if inside else 'no'
+            told = " A = ARRAY('%s')\n R = 'no'\n A<%d> = 'x' :F(A%%)\n R = A<%d>\nA%% OUTPUT = R"
+            yield 'book', 'an assignment at the bounds', told % (prototype, index, index), 'x' if inside else 'no'
     for prototype in ('2,3', '2,2,2', '0:1,3', '-1:1,-1:1', '1,1', '10'):
         yield 'book', 'the prototype', written("PROTOTYPE(ARRAY('%s'))" % prototype), prototype
     for i, j in itertools.product(range(0, 4), range(1, 5)):
         head = " A = ARRAY('2,2:3','v')\n R = 'no'\n R = A<%d,%d>\n OUTPUT = R" % (i, j)
         yield 'book', 'two subscripts at the bounds', head, 'v' if 1 <= i <= 2 and 2 <= j <= 3 else 'no'
     for i, j in itertools.product(range(1, 4), range(1, 4)):
-        fill = (" A = ARRAY('3,3')\n I = 0\nA% I = LT(I,3) I + 1 :F(C%)\n J = 0\nB% J = LT(J,3) J + 1 :F(A%)\n A<I,J> = 10 * I + J :(B%)\n"
+        fill = (" A = ARRAY('3,3')\n I = 0\nA% I = LT(I,3) I + 1 :F(C%)\n J = 0\n"
+                "B% J = LT(J,3) J + 1 :F(A%)\n A<I,J> = 10 * I + J :(B%)\n"
                 "C% OUTPUT = A<{},{}>".format(i, j))
         yield 'book', 'each element has its own place', fill, str(10 * i + j)
     for size in (1, 2, 5, 10):
@@ -227,8 +237,8 @@ def counted_matches():
         yield 'book', 'a letter is taken out', told, subject.replace(letter, '')
 
 
-RULES = {'arithmetic': (arithmetic, precedence, range_ends), 'predicates': (predicates,), 'strings': (strings,), 'arrays': (in_range,),
-         'tables': (keys,), 'replacement': (counted_matches,)}
+RULES = {'arithmetic': (arithmetic, precedence, range_ends), 'predicates': (predicates,), 'strings': (strings,),
+         'arrays': (in_range,), 'tables': (keys,), 'replacement': (counted_matches,)}
 
 
 def computed(group):

@@ -1,8 +1,8 @@
 """Random cases of the common language for cases/fuzz: patterns, and small programs that always end, without errors.
 
-A case is a tuple, ('ways', mode, pattern, subject) or ('program', statements, input): its statements are (label, core, goto),
-where a core is ('=', name, E) or ('match', name, P, E or None), and a goto is a dictionary of S, F or '' to a later label. An
-expression is a text, a number, or a tuple: (sign, left, right), ('name', X), ('item', X, E) or ('call', F, E, ..).
+A case is a tuple, ('ways', mode, pattern, subject) or ('program', statements): its statements are (label, core, goto),
+where a core is ('=', name, E) or ('match', name, P, E or None), and a goto is a dictionary of S, F or '' to a later label.
+An expression is a text, a number, or a tuple: (sign, left, right), ('name', X), ('item', X, E) or ('call', F, E, ..).
 """
 import expressions
 from programs import HEAD, is_portable, names, statements
@@ -14,14 +14,19 @@ TWICE   TWICE = X X                                     :(RETURN)
 LATER   LATER = LGT(X,'AB') X                           :S(RETURN)F(FRETURN)
 DEFINED.
 """
+# What each program begins with.
+BEGINS = ('&ANCHOR = 0', 'I = 4', 'J = -3', "A = 'ABA'", 'B =', "C = 'AB'", "R = ARRAY('0:4','r')", 'T = TABLE()')
 TEXTS, NUMBERS = 'ABC', 'IJ'
+PREDICATES = ('EQ', 'NE', 'LT', 'LE', 'GT', 'GE', 'IDENT', 'DIFFER', 'LGT')
+# Functions whose first argument may stand in their place.
+OF_TEXTS = ('DUPL', 'REPLACE', 'TRIM', 'TWICE', 'LATER')
 LITERALS = ('', 'A', 'B', 'AB', 'BA', 'CAB', ' ', '12', 'A,B')
 
 
 def random_pattern(source):
     """A pattern of the group `ways`."""
-    leaves = [expressions.read(part) for part in PARTS] + ['B', 'A', ('call', 'LEN', 1), ('@', ('name', 'N')), ('*', ('name', 'X')),
-                                                          ('name', 'FENCE'), ('name', 'ABORT'), ('name', 'FAIL')]
+    leaves = [expressions.read(part) for part in PARTS] + [
+        'B', 'A', ('call', 'LEN', 1), ('@', ('name', 'N')), ('*', ('name', 'X')), *(('name', cut) for cut in ('FENCE', 'ABORT', 'FAIL'))]
 
     def pattern(depth):
         if depth == 0 or source.random() < 0.15:
@@ -59,8 +64,8 @@ class Maker:
 
     def predicate(self, depth):
         if self.source.random() < 0.5:
-            return ('call', self.source.choice(['EQ', 'NE', 'LT', 'LE', 'GT', 'GE']), self.number(depth), self.number(depth))
-        return ('call', self.source.choice(['IDENT', 'DIFFER', 'LGT']), self.text(depth), self.text(depth))
+            return ('call', self.source.choice(PREDICATES[:6]), self.number(depth), self.number(depth))
+        return ('call', self.source.choice(PREDICATES[6:]), self.text(depth), self.text(depth))
 
     def text(self, depth):
         pick = self.source.random()
@@ -85,8 +90,9 @@ class Maker:
     def pattern(self, depth):
         pick = self.source.random()
         if depth == 0 or pick < 0.3:
-            return self.source.choice(['A', 'B', ('name', 'ARB'), ('name', 'REM'), ('call', 'LEN', 1), ('call', 'ANY', 'AB'),
-                                       ('call', 'SPAN', 'AB'), ('call', 'BREAK', 'B'), ('name', 'C')])
+            return self.source.choice([
+                'A', 'B', ('name', 'ARB'), ('name', 'REM'), ('call', 'LEN', 1), ('call', 'ANY', 'AB'), ('call', 'SPAN', 'AB'),
+                ('call', 'BREAK', 'B'), ('name', 'C')])
         if pick < 0.6:
             return (' ', self.pattern(depth - 1), self.pattern(depth - 1))
         if pick < 0.8:
@@ -107,7 +113,8 @@ class Maker:
         elif pick < 0.72:
             core = ('=', ('name', 'OUTPUT'), self.text(2))
         else:
-            core = ('match', ('name', self.source.choice(TEXTS)), self.pattern(2), self.source.choice([None, self.text(1)]))
+            value = self.source.choice([None, self.text(1)])
+            core = ('match', ('name', self.source.choice(TEXTS)), self.pattern(2), value)
         return ('L%d' % number, core, goto)
 
 
@@ -129,15 +136,15 @@ def written(tree):
         return 'REMDR(%s,%d)' % (written(tree[1]), tree[2])
     if kind == 'call':
         return '%s(%s)' % (tree[1], ','.join(map(written, tree[2:])))
-    left, right = (('(%s)' if isinstance(part, tuple) and part[0] in ' |+-*/.$' else '%s') % written(part) for part in tree[1:])
+    left, right = (
+        ('(%s)' if isinstance(part, tuple) and part[0] in ' |+-*/.$' else '%s') % written(part) for part in tree[1:])
     return left + (' ' if kind == ' ' else ' %s ' % kind) + right
 
 
 def program_text(case, title):
     """The statements of a program, behind which the variables are told. Its labels end with the number of the case."""
     number = title.split(' ')[1]
-    lines = ["        CASE.('%s')" % title, "        &ANCHOR = 0", "        I = 4", "        J = -3", "        A = 'ABA'", "        B =",
-             "        C = 'AB'", "        R = ARRAY('0:4','r')", "        T = TABLE()"]
+    lines = ["        CASE.('%s')" % title] + ['        ' + one for one in BEGINS]
     wanted = {target for _, _, goto in case[1] for target in goto.values()}
     for label, core, goto in case[1]:
         text = written(core[1])
@@ -149,12 +156,11 @@ def program_text(case, title):
         branches = ''.join('%s(%sC%s)' % (kind, target, number) for kind, target in goto.items())
         label = label + 'C' + number if label in wanted else ''
         lines.append(('%-7s %s %s' % (label, text, ':' + branches if branches else '')).rstrip())
-    count = len(case[1])
     kept = {label for label, _, _ in case[1]}
     for label in sorted(wanted - kept):
         lines.append('%sC%s' % (label, number))
     lines.append("        OUTPUT = I ',' J ',(' A '),(' B '),(' C ')'")
-    lines.append("        OUTPUT = '(' R<0> R<1> R<4> ')(' T<0> T<1> T<4> ')' SIZE(B) %s" % ("''" if count else "'-'"))
+    lines.append("        OUTPUT = '(' R<0> R<1> R<4> ')(' T<0> T<1> T<4> ')' SIZE(B)")
     return '*       a random program\n' + '\n'.join(lines) + '\n'
 
 
@@ -177,11 +183,10 @@ def parts(tree):
     if not isinstance(tree, tuple) or tree[0] in ('name', 'item'):
         return []
     if tree[0] == 'call':
-        return [part for part in tree[2:] if tree[1] in ('DUPL', 'REPLACE', 'TRIM', 'TWICE', 'LATER') and part is tree[2]]
+        return [tree[2]] if tree[1] in OF_TEXTS else []
     if tree[0] in ('.', '$'):
         return [tree[1]]
-    return [part for part in tree[1:] if not (tree[0] == ' ' and isinstance(part, tuple) and part[0] == 'call' and part is tree[1]
-                                              and part[1] in ('EQ', 'NE', 'LT', 'LE', 'GT', 'GE', 'IDENT', 'DIFFER', 'LGT'))]
+    return [part for part in tree[1:] if not (isinstance(part, tuple) and part[0] == 'call' and part[1] in PREDICATES)]
 
 
 def smaller_trees(tree):
@@ -194,6 +199,17 @@ def smaller_trees(tree):
                     yield tree[:index] + (part,) + tree[index + 1:]
 
 
+def inner_patterns(tree):
+    """The parts of a pattern that are patterns."""
+    if not isinstance(tree, tuple):
+        return ()
+    if tree[0] in ('|', ' '):
+        return tree[1:]
+    if tree[0] in ('.', '$', '*'):
+        return tree[1:2]
+    return tree[2:] if tree[:2] == ('call', 'ARBNO') else ()
+
+
 def smaller(case):
     """Cases that are smaller by one part."""
     if case[0] == 'ways':
@@ -202,9 +218,7 @@ def smaller(case):
             part = tree
             for index in path:
                 part = part[index]
-            inner = [] if not isinstance(part, tuple) else list(part[1:]) if part[0] in '| ' else list(part[1:2]) if part[0] in '.$*' else \
-                list(part[2:]) if part[:2] == ('call', 'ARBNO') else []
-            for found in inner:
+            for found in inner_patterns(part):
                 one = changed(tree, path, lambda _, found=found: found)
                 if is_portable(mode, expressions.write(one)):
                     yield ('ways', mode, one, subject)
@@ -219,4 +233,5 @@ def smaller(case):
         for place in range(1, len(core)):
             if isinstance(core[place], tuple):
                 for tree in smaller_trees(core[place]):
-                    yield ('program', held[:index] + [(label, core[:place] + (tree,) + core[place + 1:], goto)] + held[index + 1:])
+                    one = core[:place] + (tree,) + core[place + 1:]
+                    yield ('program', held[:index] + [(label, one, goto)] + held[index + 1:])

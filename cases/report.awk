@@ -1,4 +1,4 @@
-# Numbers the cases that cases/compare told, counts them by groups, and writes a report for JUnit where `junit` names a file.
+# Numbers the cases that cases/compare told, counts them by groups, and writes a report for JUnit into the file `junit`.
 function escaped(text) {
     gsub(/&/, "\\&amp;", text); gsub(/</, "\\&lt;", text); gsub(/>/, "\\&gt;", text); gsub(/"/, "\\&quot;", text)
     gsub(/[^\t\n -~]/, "?", text)
