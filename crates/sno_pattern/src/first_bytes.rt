@@ -14,7 +14,7 @@ use crate::sets::any_end;
 use sno_value::{PatId, Prim};
 
 /// How many heads are gone through up to the choice or the primitive that a pattern begins with.
-const MOST_HEADS: u32 = 16;
+const MOST_HEADS: u32 = 100;
 
 /// The bytes with which a choice begins.
 #[derive(Drop)]
