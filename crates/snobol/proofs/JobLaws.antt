@@ -7,7 +7,7 @@ use Rattle.sno_io.specs.Devices.{Begins, TakesBytes}
 use Rattle.sno_io.proofs.Bytes.{appends_then}
 use Rattle.sno_text.specs.declared.error.ReadError.{ReadError}
 use Rattle.sno_text.specs.declared.error.ReadError.TheVariants as why
-use Rattle.sno_text.specs.Programs.{IsRefusedProgram}
+use Rattle.sno_text.specs.Programs.{IsRefusedProgram, LacksMemory}
 use Rattle.snobol.specs.Jobs.{Report, IsChecked, no_memory_is, refused, refused_is, well}
 
 -- no refusal is told as if all were well
@@ -19,9 +19,9 @@ some_status (why.TooLarge line) e = let same = ap (λ (r : Report). r.status) e 
 some_status why.NoMemory e = let same = ap (λ (r : Report). r.status) e in absurd (cc)
 
 -- a text that is no program
-pub refusal_checked : (text : List ℕ) (error : ReadError) → (error ≡ why.NoMemory) ⊎ IsRefusedProgram text error
+pub refusal_checked : (text : List ℕ) (error : ReadError) → LacksMemory text error ⊎ IsRefusedProgram text error
     → IsChecked text (refused error) × (refused error ≢ well)
-refusal_checked text error (inl is) = (no_memory_is (ap refused is), some_status error)
+refusal_checked text error (inl is) = (no_memory_is (ap refused is.0) is.1, some_status error)
 refusal_checked text error (inr r) = (refused_is error refl r, some_status error)
 
 -- a beginning of the bytes was taken

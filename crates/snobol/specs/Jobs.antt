@@ -1,6 +1,6 @@
 -- What the program does for a job, its status, and what it tells on standard error.
-use Rattle.std.specs.Prelude.{◌≡◌, ◌≢◌, ℕ, ◌==◌, Bool, false, List, [], ◌++◌, Option, None, Some, codes, decimal}
-use Rattle.std.specs.Prelude.{if◌then◌else◌}
+use Rattle.std.specs.Prelude.{◌≡◌, ◌≢◌, ◌≤◌, ℕ, ◌==◌, Bool, false, List, [], ◌++◌, Option, None, Some, codes, decimal}
+use Rattle.std.specs.Prelude.{length, if◌then◌else◌}
 use Rattle.std.specs.Io.KnownBytes.{Appends}
 use Rattle.sno_io.specs.Devices.{Begins}
 use Rattle.std.specs.Borrow.{Bor}
@@ -102,11 +102,11 @@ Tells old new failed line = (told : List ℕ) × Begins told line × Appends old
 
 -- ---- what a job does
 
--- accepted, refused, or memory was refused
+-- accepted, refused, or memory was refused, which a text that is too long doesn't ask for
 pub data IsChecked (text : List ℕ) (report : Report) : Type 0 where
   accepted_is : report ≡ well → (statements : List StatementTree) → IsProgram text statements → IsChecked text report
   refused_is : (error : ReadError) → report ≡ refused error → IsRefusedProgram text error → IsChecked text report
-  no_memory_is : report ≡ no_memory → IsChecked text report
+  no_memory_is : report ≡ no_memory → length text ≤ 4000000 → IsChecked text report
 
 -- The text is a program, which was read and run: for whatever
 -- input there may be it wrote what it means, or a beginning.

@@ -23,3 +23,6 @@ pub use job::perform;
 pub use machine::Machine;
 pub use sno_io::{Device, DeviceFault, Job, Limits, Sink, Source, command, put, status_of};
 pub use sno_text::ReadError;
+
+/// Why a machine has stopped: how a run ends, `Ended` where a function that was called went to END.
+pub type Stop = Outcome;
