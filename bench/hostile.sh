@@ -8,13 +8,32 @@ work=$(mktemp -d)
 trap 'rm -rf "$work"' EXIT
 TIMEFORMAT=%U
 
-# time_row SUBJECT PATTERN
-time_row() {
-    printf ' S = %s\n S %s :S(YES)F(NO)\nYES OUTPUT = "found" :(END)\nNO OUTPUT = "none"\nEND\n' "$1" "$2" >"$work/program"
+# run_row NAME WHAT: the program that was written
+run_row() {
     local seconds told
     seconds=$({ time "$program" run "$work/program" >"$work/out" 2>"$work/err" </dev/null || true; } 2>&1)
     told=$(cat "$work/out" "$work/err")
     printf '%7s s  %-26s %-52s %s\n' "$seconds" "$1" "$2" "${told#snobol4: }"
+}
+
+# time_row SUBJECT PATTERN
+time_row() {
+    printf ' S = %s\n S %s :S(YES)F(NO)\nYES OUTPUT = "found" :(END)\nNO OUTPUT = "none"\nEND\n' "$1" "$2" >"$work/program"
+    run_row "$1" "$2"
+}
+
+# time_choice COUNT SUBJECT WORD CHOICE: five searches for COUNT words, each joined to the choice P before it
+time_choice() {
+    printf ' I = %s\n T = DUPL("A",5000) "B"\n P = %s\nMORE P = %s\n I = GT(I,2) I - 1 :S(MORE)\n' "$1" "$3" "$4" >"$work/program"
+    printf ' S = %s\n J = 5\nLOOK S P :S(END)\n J = GT(J,1) J - 1 :S(LOOK)\n OUTPUT = "none"\nEND\n' "$2" >>"$work/program"
+    run_row "$2" "$1 words $3, P = $4"
+}
+
+# alternatives COUNT PRIMITIVE: so many of the primitive, each before a byte that doesn't follow, behind one another
+alternatives() {
+    local i choice="$2 '1'"
+    for ((i = 2; i <= $1; i++)); do choice+=" | $2 '$i'"; done
+    printf '(%s)' "$choice"
 }
 
 same="DUPL('A',1000000)" mixed="DUPL('AB',500000)" open="DUPL('(',1000000)"
@@ -44,3 +63,10 @@ time_row "$open" "ARBNO(BAL) 'B'"
 time_row "$nested" "BAL 'B'"
 time_row "$unclosed" "BAL 'B'"
 time_row "$unclosed" "ARBNO(BAL) 'B'"
+for count in 600 4000; do
+    time_choice $count "DUPL('W9 ',133)" "'W' I 'Q'" "P | ('W' I 'Q')"
+    time_choice $count "DUPL('W9 ',133)" "'W' I 'Q'" "('W' I 'Q') | P"
+done
+time_choice 10000 "DUPL('A',20000)" T "P | T"
+time_choice 10000 "DUPL('A',20000)" T "T | P"
+time_row "$same" "(DUPL('A',500000) 'B')"

@@ -19,7 +19,7 @@ use Rattle.sno_match.specs.inner.Remaining.{goals_of, remaining, resume, AllMark
 use Rattle.sno_match.specs.inner.Plan.{IsPlan, IsDue, IsCut, BacksIntoFence, BacksIntoCut, KeepsScopes, goals_in, point_at}
 use Rattle.sno_match.specs.inner.Scopes.{opens, RiseFrom, HasCuts}
 use Rattle.sno_match.specs.inner.State.{after_move, HasAsked}
-use Rattle.sno_match.specs.inner.Move.{Makes, CarriesOut, EnteredFails, entries, price, way_after, standing}
+use Rattle.sno_match.specs.inner.Move.{Makes, CarriesOut, entries, price, way_after, standing}
 use Rattle.sno_match.specs.Top.{Finishes}
 use Rattle.sno_match.proofs.ReadingLaws.{resume-emit, resume-exhausted, emit-none}
 use Rattle.sno_match.proofs.CutLaws.{drop-marked}
@@ -173,21 +173,7 @@ module _ (nodes : List Node) (s : List ℕ) (goal : Numbered) (goals : List Numb
         marked = drop-marked s 0 nodes (length rest - depth) rest st.marked;
       })
 
--- a pattern that is entered in vain leads to the points below
-vain_goes : (nodes : List Node) (s : List ℕ) (start : ℕ) (goal : Numbered) (goals : List Numbered) (c : ℕ) (pending : List Pending) (mark : Mark)
-    (rest : List Point) (cost : ℕ) → AllMarked rest → EnteredFails nodes s goal mark cost c → (answers : List Answer) (due left : ℕ) → due ≡ left + cost →
-    remaining nodes s start (point_at goal goals c pending mark ∷ rest) answers due ≡ remaining nodes s start rest answers left
-vain_goes nodes s start (N.Match id) goals c pending Enter rest cost marked fails answers due left e =
-    ap (resume nodes s start rest) (fails.fails start (goals_of nodes goals) pending answers due left e)
-    ∙ resume-exhausted nodes s start rest answers left marked
-vain_goes nodes s start (N.Match id) goals c pending (Next at) rest cost marked fails answers due left e = elim fails [ ]
-vain_goes nodes s start (N.CloseCond target from) goals c pending mark rest cost marked fails answers due left e = elim fails [ ]
-vain_goes nodes s start (N.CloseImm target from) goals c pending mark rest cost marked fails answers due left e = elim fails [ ]
-vain_goes nodes s start (N.CloseRepeat id from) goals c pending mark rest cost marked fails answers due left e = elim fails [ ]
-vain_goes nodes s start (N.CloseCut m depth) goals c pending mark rest cost marked fails answers due left e = elim fails [ ]
-
 -- the same, at a stack that is known to begin with a point
-
 module _ (nodes : List Node) (s : List ℕ) (old : List Point) (goal : Numbered) (goals : List Numbered) (c : ℕ) (pending : List Pending) (mark : Mark)
     (rest : List Point) (is : old ≡ point_at goal goals c pending mark ∷ rest) where
   pub fits_at : IsStack nodes s old → Fits nodes s (point_at goal goals c pending mark)
@@ -253,30 +239,6 @@ module _ (nodes : List Node) (s : List ℕ) (old : List Point) (goal : Numbered)
       pending = refl;
       leads = λ answers. ap (λ (ps : List Point). remaining nodes s start ps answers (limit - steps)) is ∙ p start goals pending rest answers (limit - steps);
     }
-
-    -- the first goal is searched in vain
-    pub vain_at : (cost : ℕ) → steps + cost ≤ limit → AllMarked (below old) → EnteredFails nodes s goal mark cost c → (new : List Point) → new ≡ below old
-        → Makes nodes s start limit old steps was None new (steps + cost) was
-    vain_at cost within m fails new e =
-        let under : new ≡ rest = e ∙ ap below is in
-        let marked : AllMarked rest = subst (λ (ps : List Point). AllMarked (below ps)) is m in
-        let size = ap length is in
-        let size' = ap length under in
-        record {
-          steps_in = within;
-          paid = omega arith;
-          grows = omega (arith, size, size');
-          falls = λ none. omega (arith, size, size');
-          more = λ e. cc;
-          asked = tt;
-          pending = refl;
-          leads = λ answers.
-              ap (λ (ps : List Point). remaining nodes s start ps answers (limit - steps)) is ∙
-              vain_goes nodes s start goal goals c pending mark rest cost marked fails answers (limit - steps) (limit - (steps + cost))
-              (omega (arith, within)) ∙
-              ap (λ (ps : List Point). remaining nodes s start ps answers (limit - (steps + cost))) (sym under)
-              ∙ sym (emit-none (remaining nodes s start new answers (limit - (steps + cost))));
-        }
 
     -- FENCE(P) is backed into
     pub dropped_at : steps ≤ limit → AllMarked (below old) → BacksIntoCut nodes s goal c mark → (new : List Point) → new ≡ below old

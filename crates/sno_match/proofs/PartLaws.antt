@@ -1,5 +1,5 @@
 -- Steps that tell nothing, one after another.
-use Rattle.std.proofs.Common.{◌≡◌, ℕ, ◌+◌, ◌-◌, ◌≤◌, ◌<◌, List, [], ◌∷◌, Option, None, refl, sym, ◌∙◌, ap, subst, arith}
+use Rattle.std.proofs.Common.{◌≡◌, ℕ, ◌+◌, ◌-◌, ◌≤◌, ◌<◌, List, [], ◌∷◌, length, Option, None, refl, sym, ◌∙◌, ap, subst, arith}
 use Rattle.sno_value.specs.declared.ids.PatId.{PatId}
 use Rattle.sno_pattern.specs.Table.{Node}
 use Rattle.sno_match.specs.declared.event.Event.{Event as Told}
@@ -14,9 +14,11 @@ use Rattle.sno_match.specs.declared.plan.Front.TheVariants.{Two}
 use Rattle.sno_match.specs.declared.plan.Plan.TheVariants as P
 use Rattle.sno_match.specs.Point.{Point, replaced}
 use Rattle.sno_match.specs.Top.{IsTop}
-use Rattle.sno_match.specs.inner.Remaining.{remaining, IsStack, HasPoint, MarkFits}
+use Rattle.sno_match.specs.inner.Plan.{point_at}
+use Rattle.sno_match.specs.inner.Remaining.{goals_of, remaining, resume, IsStack, HasPoint, MarkFits}
 use Rattle.sno_match.specs.inner.Scopes.{HasCuts}
-use Rattle.sno_match.specs.inner.Move.{Makes, EntersParts, LeadsOn}
+use Rattle.sno_match.specs.inner.Move.{Makes, EnteredGivesWay, EntersParts, LeadsOn}
+use Rattle.sno_match.proofs.CutMoves.{cuts-later}
 use Rattle.sno_match.proofs.ReadingLaws.{emit-none}
 use Rattle.sno_match.proofs.MoveLaws as laws
 
@@ -101,3 +103,51 @@ module _ (nodes : List Node) (old new : List Point) (id first : PatId) (second :
             (refl, is);
         leads = λ start answers. (made start).leads answers ∙ emit-none (remaining nodes s start new answers left);
       }
+
+-- a choice that is entered gives way to what is left of it
+passed_here : (nodes : List Node) (s : List ℕ) (limit steps cost : ℕ) (goal : Numbered) (goals : List Numbered) (c : ℕ) (pending : List Pending) (mark : Mark)
+    (rest : List Point) (id : PatId) → id.0 < length nodes → EnteredGivesWay nodes s goal mark id cost c → steps + cost ≤ limit
+    → IsStack nodes s (point_at goal goals c pending mark ∷ rest) → HasCuts nodes (limit - steps) (point_at goal goals c pending mark ∷ rest)
+    → LeadsOn nodes s limit (point_at goal goals c pending mark ∷ rest) steps (point_at (N.Match id) goals c pending Enter ∷ rest) (steps + cost)
+passed_here nodes s limit steps cost (N.Match first) goals c pending Enter rest id known way room st cuts = record {
+  steps_in = room;
+  paid = omega arith;
+  grows = omega arith;
+  falls = omega (arith, room);
+  stack = record { fit = (record { known = (known, st.fit.0.known.1); inside = st.fit.0.inside; next = tt }, st.fit.1); marked = st.marked };
+  cuts = cuts-later nodes (limit - (steps + cost)) (limit - steps) (point_at (N.Match id) goals c pending Enter ∷ rest) (omega arith)
+      (record { scoped = cuts.scoped; rising = cuts.rising });
+  leads = λ start answers.
+      ap (resume nodes s start rest)
+      (way.gives_way start (goals_of nodes goals) pending answers (limit - steps) (limit - (steps + cost)) (omega (arith, room)));
+}
+passed_here nodes s limit steps cost (N.Match first) goals c pending (Next at) rest id known way room st cuts = elim way [ ]
+passed_here nodes s limit steps cost (N.CloseCond target from) goals c pending mark rest id known way room st cuts = elim way [ ]
+passed_here nodes s limit steps cost (N.CloseImm target from) goals c pending mark rest id known way room st cuts = elim way [ ]
+passed_here nodes s limit steps cost (N.CloseRepeat other from) goals c pending mark rest id known way room st cuts = elim way [ ]
+passed_here nodes s limit steps cost (N.CloseCut m depth) goals c pending mark rest id known way room st cuts = elim way [ ]
+
+pub sides_passed : (nodes : List Node) (s : List ℕ) (limit steps cost : ℕ) (old new : List Point) (goal : Numbered) (c : ℕ) (mark : Mark)
+    → IsTop old (T.Open goal c mark) → (id : PatId) → id.0 < length nodes → EnteredGivesWay nodes s goal mark id cost c → steps + cost ≤ limit
+    → new ≡ replaced (N.Match id ∷ []) c old → IsStack nodes s old → HasCuts nodes (limit - steps) old
+    → LeadsOn nodes s limit old steps new (steps + cost)
+sides_passed nodes s limit steps cost old new goal c mark top id known way room is st cuts =
+    let made : new ≡ point_at (N.Match id) top.0 c top.1 Enter ∷ top.2 = is ∙ ap (replaced (N.Match id ∷ []) c) top.3 in
+    subst (λ (ps : List Point). LeadsOn nodes s limit ps steps new (steps + cost)) (sym top.3)
+    (subst (λ (ps : List Point). LeadsOn nodes s limit (point_at goal top.0 c top.1 mark ∷ top.2) steps ps (steps + cost)) (sym made)
+    (passed_here nodes s limit steps cost goal top.0 c top.1 mark top.2 id known way room (subst (IsStack nodes s) top.3 st)
+    (subst (HasCuts nodes (limit - steps)) top.3 cuts)))
+
+-- steps that tell nothing are a move
+pub leads_makes : (nodes : List Node) (s : List ℕ) (limit : ℕ) (old new : List Point) (steps0 steps start : ℕ) (was : List Pending) → steps0 < steps
+    → LeadsOn nodes s limit old steps0 new steps → Makes nodes s start limit old steps0 was None new steps was
+leads_makes nodes s limit old new steps0 steps start was more on = record {
+  steps_in = on.steps_in;
+  paid = omega (arith, on.paid);
+  grows = on.grows;
+  falls = λ none. omega (arith, on.falls, more);
+  more = λ e. cc;
+  asked = tt;
+  pending = refl;
+  leads = λ answers. on.leads start answers ∙ sym (emit-none (remaining nodes s start new answers (limit - steps)));
+}

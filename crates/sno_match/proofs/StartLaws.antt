@@ -7,10 +7,9 @@ use Rattle.sno_value.specs.declared.value.Name.{Name}
 use Rattle.sno_pattern.specs.Pattern.{Pattern, Primitive, Leaf, Alt, Cat, Cond, Imm}
 use Rattle.sno_pattern.specs.Ends.{ends, count_from}
 use Rattle.sno_pattern.specs.Shape.{end_of, IsPrimitive}
-use Rattle.sno_pattern.specs.Places.{has_end, stands_at, IsAmong, BeginsAmong}
-use Rattle.sno_pattern.proofs.FirstByteLaws.{stands-fewer}
+use Rattle.sno_pattern.specs.Places.{has_end, stands_at, BeginsWith}
 use Rattle.sno_match.specs.Search.{Match, CloseCond, CloseImm, Exhausted, Gives, further, search}
-use Rattle.sno_match.specs.inner.Starts.{searches_behind, FailsAt, FailsWith, FailsOutside, Passes}
+use Rattle.sno_match.specs.inner.Starts.{searches_behind, FailsAt, GivesWay, FailsWith, FailsOutside, Passes}
 use Rattle.sno_match.proofs.SearchLaws.{search-step}
 use Rattle.sno_match.proofs.ReadingLaws.{emit-none, tries-none}
 
@@ -170,21 +169,65 @@ pub choice_vain : (p first second : Pattern) (s : List ℕ) (before behind c : �
 choice_vain p first second s before behind c is one other =
     subst (λ q. FailsAt q s (before + behind + 2) c) (sym is) (alt_fails first second s before behind c one other)
 
--- patterns that fail where no byte of a set stands, and what is built of them
-pub primitive_outside : (p : Pattern) (set : List ℕ) → IsPrimitive p → BeginsAmong p set → FailsOutside p set 1
-primitive_outside p set leaf begins = record { outside = λ s c none. primitive_vain p s c leaf (begins.fails s c none) }
+-- a pattern that begins with bytes of a set fails where none of them stands
+pub begins_outside : (set : List ℕ) (p : Pattern) (steps : ℕ) → BeginsWith set steps p → FailsOutside p set steps
+begins_outside set (Leaf a) steps h = record {
+  outside = λ s c none. subst (λ n. FailsAt (Leaf a) s n c) (sym h.0) (primitive_vain (Leaf a) s c (a, refl) (h.1.fails s c none));
+}
+begins_outside set (Alt p q) steps h =
+    let first = begins_outside set p h.0 h.3 in
+    let second = begins_outside set q h.1 h.4 in
+    record {
+      outside = λ s c none. subst (λ n. FailsAt (Alt p q) s n c) (sym h.2) (alt_fails p q s h.0 h.1 c (first.outside s c none) (second.outside s c none));
+    }
+begins_outside set (Cat p q) steps h =
+    let part = begins_outside set p h.0 h.2 in
+    record { outside = λ s c none. subst (λ n. FailsAt (Cat p q) s n c) (sym h.1) (cat_fails p q s h.0 c (part.outside s c none)) }
+begins_outside set (Cond p target) steps h =
+    let part = begins_outside set p h.0 h.2 in
+    record { outside = λ s c none. subst (λ n. FailsAt (Cond p target) s n c) (sym h.1) (cond_fails p target s h.0 c (part.outside s c none)) }
+begins_outside set (Imm p target) steps h =
+    let part = begins_outside set p h.0 h.2 in
+    record { outside = λ s c none. subst (λ n. FailsAt (Imm p target) s n c) (sym h.1) (imm_fails p target s h.0 c (part.outside s c none)) }
+begins_outside set p steps h = absurd h
 
-pub part_outside : (p part : Pattern) (set : List ℕ) (steps : ℕ) → FailsWith p part 1 → FailsOutside part set steps → FailsOutside p set (steps + 1)
-part_outside p part set steps with_part fails = record { outside = λ s c none. with_part.vain s steps c (fails.outside s c none) }
+-- goals above it
+pub outside_under : (p head : Pattern) (set : List ℕ) (steps above : ℕ) → FailsWith p head above → FailsOutside head set steps
+    → FailsOutside p set (steps + above)
+outside_under p head set steps above with_head fails = record { outside = λ s c none. with_head.vain s steps c (fails.outside s c none) }
 
--- the bytes of the second have joined those of the first
-pub choice_outside : (p first second : Pattern) (set all : List ℕ) (before behind : ℕ) → p ≡ Alt first second
-    → FailsOutside first set before → IsAmong set all → FailsOutside second all behind → FailsOutside p all (2 + before + behind)
-choice_outside p first second set all before behind is one among other = record {
-  outside = λ s c none.
-      let same : before + behind + 2 ≡ 2 + before + behind = omega arith in
-      subst (λ price. FailsAt p s price c) same
-      (choice_vain p first second s before behind c is (one.outside s c (stands-fewer set all s c among none)) (other.outside s c none));
+-- a choice gives way to what is left of it behind the sides that fail
+pub way_same : (p : Pattern) (s : List ℕ) (c : ℕ) → GivesWay p p s 0 c
+way_same p s c = record {
+  gives_way = λ start rest pending answers due left e.
+      let is : due ≡ left = omega (arith, e) in
+      ap (λ n. search s start (Match p ∷ rest) c pending answers n) is;
+}
+
+alt_gives_way : (p q : Pattern) (s : List ℕ) (before c : ℕ) → FailsAt p s before c → GivesWay (Alt p q) q s (before + 2) c
+alt_gives_way p q s before c first = record {
+  gives_way = λ start rest pending answers due left e.
+      let is : due ≡ suc (suc left + before) = omega (arith, e) in
+      ap (λ n. search s start (Match (Alt p q) ∷ rest) c pending answers n) is ∙
+      search-step s start (Match (Alt p q)) rest c pending answers (suc left + before) ∙
+      ap (λ r. further r (search s start (Match q ∷ rest) c pending ∷ []))
+      (first.fails start rest pending answers (suc left + before) (suc left) refl) ∙
+      emit-none (search s start (Match q ∷ rest) c pending answers left);
+}
+
+pub way_more : (whole p first second : Pattern) (s : List ℕ) (before cost c : ℕ) → GivesWay whole p s before c → p ≡ Alt first second
+    → FailsAt first s cost c → GivesWay whole second s (before + (cost + 2)) c
+way_more whole p first second s before cost c way is vain = record {
+  gives_way = λ start rest pending answers due left e.
+      let side = subst (λ q. GivesWay q second s (cost + 2) c) (sym is) (alt_gives_way first second s cost c vain) in
+      way.gives_way start rest pending answers due (left + (cost + 2)) (omega (arith, e)) ∙
+      side.gives_way start rest pending answers (left + (cost + 2)) left refl;
+}
+
+pub way_fails : (p q : Pattern) (s : List ℕ) (before last c : ℕ) → GivesWay p q s before c → FailsAt q s last c → FailsAt p s (before + last) c
+way_fails p q s before last c way vain = record {
+  fails = λ start rest pending answers due left e.
+      way.gives_way start rest pending answers due (left + last) (omega (arith, e)) ∙ vain.fails start rest pending answers (left + last) left refl;
 }
 
 -- where it isn't anchored

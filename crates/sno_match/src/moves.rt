@@ -2,13 +2,13 @@
 ghost use Rattle.std.specs.Prelude.{◌≡◌, ℕ, List, ◌<◌, ◌≤◌, ◌+◌, ◌*◌, length, IfOk, IfSome, OnOk, OnErr};
 ghost use Rattle.sno_match.specs.Point.{HasFirst};
 ghost use Rattle.sno_match.specs.inner.Remaining.{IsKnown, HasPoint};
-ghost use Rattle.sno_match.specs.inner.Move.{IsAtTop, Stands, Makes, LeadsOn, EnteredFails, answered, owed_by};
+ghost use Rattle.sno_match.specs.inner.Move.{IsAtTop, Stands, Makes, LeadsOn, EnteredGivesWay, answered, owed_by};
 
 use crate::event::{Event, Pending};
 use crate::goal::{Goal, Mark, Top};
 use crate::parts::first_goal;
 use crate::points::Points;
-use crate::starts::{MOST_DEPTH, steps_in_vain};
+use crate::starts::{Sides, sides_in_vain};
 use crate::steps::{Due, due_at, take_step};
 use sno_pattern::{Looks, Patterns, Shape};
 use sno_value::PatId;
@@ -91,9 +91,9 @@ fn make_step<P: Points>(
 {
     let first = first_goal(points, steps, patterns, goal, cursor, mark, limit)?;
     let left = limit - *steps;
-    if let Some(vain) = lone_choice_in_vain(points, patterns, subject, first, cursor, mark, left) {
-        points.pop();
-        *steps += vain;
+    if let Some(rest) = lone_sides_in_vain(points, patterns, subject, first, cursor, mark, left) {
+        points.replace(&[Goal::Match(rest.id)], cursor)?;
+        *steps += rest.steps;
         return Ok(None);
     }
     let mut told = None;
@@ -112,10 +112,10 @@ fn make_step<P: Points>(
     Ok(told)
 }
 
-/// How many steps a choice takes in vain that is entered at the only point, where each of its sides fails at once.
-/// Where there are more points it isn't asked, since the choices within a choice would be asked again and again.
+/// What is left of a choice that is entered at the only point, behind the sides that fail at once. Where there are more
+/// points it isn't asked, since a choice within a choice would be asked again for each that stands around it.
 #[inline(always)]
-fn lone_choice_in_vain<P: Points>(
+fn lone_sides_in_vain<P: Points>(
     points: &P,
     patterns: &Patterns,
     subject: &[u8],
@@ -123,11 +123,15 @@ fn lone_choice_in_vain<P: Points>(
     cursor: usize,
     mark: Mark,
     left: u32,
-) -> Option<u32>
+) -> Option<Sides>
     requires known { IsKnown patterns.now goal }
     requires inside { cursor ≤ length subject.now }
-    ensures fails { IfSome result (λ steps. EnteredFails patterns.now subject.now goal mark steps cursor) }
-    ensures near { IfSome result (λ steps. steps < left) }
+    requires some { 0 < left }
+    ensures known { IfSome result (λ rest. rest.id.0 < length patterns.now) }
+    ensures near { IfSome result (λ rest. rest.steps < left) }
+    ensures some { IfSome result (λ rest. 0 < rest.steps) }
+    ensures gives_way { IfSome result
+        (λ rest. EnteredGivesWay patterns.now subject.now goal mark rest.id rest.steps cursor) }
 {
     let Mark::Enter = mark else {
         return None;
@@ -141,8 +145,11 @@ fn lone_choice_in_vain<P: Points>(
     if points.depth() != 1 {
         return None;
     }
-    let steps = steps_in_vain(patterns, id, subject, cursor, left, MOST_DEPTH)?;
-    Some(steps)
+    let rest = sides_in_vain(patterns, id, subject, cursor, left);
+    if rest.steps == 0 {
+        return None;
+    }
+    Some(rest)
 }
 
 /// The deferred part that the newest point waits for fails, or a pattern takes its place.

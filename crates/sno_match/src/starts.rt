@@ -3,15 +3,14 @@ ghost use Rattle.std.specs.Prelude.{◌≡◌, ◌<◌, ◌≤◌, ◌-◌, ◌*
 ghost use Rattle.sno_pattern.specs.Pattern.{Pattern};
 ghost use Rattle.sno_pattern.specs.Shape.{IsPrimitive};
 ghost use Rattle.sno_pattern.specs.Looks.{AreTrue};
-ghost use Rattle.sno_pattern.specs.Places.{IsAmong};
 ghost use Rattle.sno_pattern.specs.Table.{tree};
-ghost use Rattle.sno_match.specs.inner.Starts.{Passes, FailsAt, FailsWith, FailsOutside};
+ghost use Rattle.sno_match.specs.inner.Starts.{Passes, FailsAt, FailsWith, FailsOutside, GivesWay};
 
 use sno_pattern::{ByteSet, Looks, Patterns, Shape, place_in_set};
 use sno_value::PatId;
 
-/// How deep choices may stand in one another, where their first bytes are asked for.
-pub(crate) const MOST_DEPTH: u32 = 500;
+/// How deep choices may stand in one another's first sides, where it is asked whether they fail at once.
+const MOST_DEPTH: u32 = 500;
 
 /// A start whose search is exhausted, and how many steps lead there.
 #[derive(Clone, Copy, Drop)]
@@ -26,6 +25,13 @@ pub(crate) struct Passed {
 struct Head {
     id: PatId,
     above: u32,
+}
+
+/// What is left of a choice, and the steps of the sides before it.
+#[derive(Clone, Copy, Drop)]
+pub(crate) struct Sides {
+    pub id: PatId,
+    pub steps: u32,
 }
 
 /// The last of the starts behind this one that fail at once, one after another, as far as there are steps for them: the
@@ -61,7 +67,7 @@ pub(crate) fn pass_failing_starts(
             passed
         }
         Shape::Alt(_first, _second) => {
-            let passed = pass_choice(patterns, pattern, subject, start, left);
+            let passed = pass_choice(patterns, pattern, head, subject, start, left);
             passed
         }
         _ => none,
@@ -96,33 +102,44 @@ fn pass_primitive(
 }
 
 /// The same where the pattern begins with a choice: starts at which none of its first bytes stands, and those at which
-/// one does and each side fails nevertheless. The bytes are asked for where a start has failed, which cost a step for
-/// each node that is looked at here.
+/// one does and each side fails nevertheless.
 fn pass_choice(
     patterns: &Patterns,
     pattern: PatId,
+    head: Head,
     subject: &[u8],
     start: usize,
     left: u32,
 ) -> Passed
-    requires known { pattern.0 < length patterns.now }
+    requires known { head.id.0 < length patterns.now }
+    requires fails { FailsWith (tree patterns.now pattern.0) (tree patterns.now head.id.0) head.above }
+    requires near { head.above ≤ left - 2 }
     requires before { start < length subject.now }
     ensures inside { result.start ≤ length subject.now }
     ensures enough { result.steps ≤ left }
     ensures passes { Passes false (tree patterns.now pattern.0) subject.now start result.start result.steps }
 {
-    let mut set = ByteSet::none();
-    let Some(price) = add_first_bytes(patterns, pattern, &mut set, left, MOST_DEPTH) else {
-        return Passed { start, steps: 0 };
+    let none = Passed { start, steps: 0 };
+    let Some(begins) = patterns.choice_begins(head.id) else {
+        return none;
     };
-    let mut passed = pass_others(&set, subject, start, price, left);
+    if begins.steps >= left - head.above {
+        return none;
+    }
+    let price = begins.steps + head.above;
+    let mut passed = pass_others(&begins.set, subject, start, price, left);
     'starts: while passed.start < subject.len() {
         let here = passed.start + 1;
         let left = left - passed.steps;
-        let Some(steps) = steps_in_vain(patterns, pattern, subject, here, left, MOST_DEPTH) else {
+        if left <= head.above {
+            return passed;
+        }
+        let Some(steps) = choice_in_vain(patterns, head.id, subject, here, left - head.above)
+        else {
             return passed;
         };
-        let behind = pass_others(&set, subject, here, price, left - steps - 1);
+        let steps = steps + head.above;
+        let behind = pass_others(&begins.set, subject, here, price, left - steps - 1);
         passed.start = behind.start;
         passed.steps += steps + 1 + behind.steps;
     }
@@ -149,9 +166,59 @@ fn pass_others(set: &ByteSet, subject: &[u8], start: usize, steps: u32, left: u3
     passed_before(start, next, price, left)
 }
 
+/// What is left of a choice behind the sides that a search from a place tries in vain, where these begin with choices of
+/// primitives without an end there. A step is left for it.
+pub(crate) fn sides_in_vain(
+    patterns: &Patterns,
+    id: PatId,
+    subject: &[u8],
+    at: usize,
+    left: u32,
+) -> Sides
+    requires known { id.0 < length patterns.now }
+    requires inside { at ≤ length subject.now }
+    requires some { 0 < left }
+    ensures known { result.id.0 < length patterns.now }
+    ensures near { result.steps < left }
+    ensures gives_way { GivesWay (tree patterns.now id.0) (tree patterns.now result.id.0) subject.now result.steps at }
+{
+    let mut rest = Sides { id, steps: 0 };
+    'sides: while left - rest.steps > 2 {
+        let Shape::Alt(first, second) = patterns.shape(rest.id) else {
+            return rest;
+        };
+        let left = left - rest.steps - 2;
+        let Some(steps) = steps_in_vain(patterns, first, subject, at, left, MOST_DEPTH) else {
+            return rest;
+        };
+        rest.id = second;
+        rest.steps += steps + 2;
+    }
+    rest
+}
+
+/// How many steps a choice's search takes in vain from a place, as `steps_in_vain` has it, however many sides it has.
+fn choice_in_vain(
+    patterns: &Patterns,
+    id: PatId,
+    subject: &[u8],
+    at: usize,
+    left: u32,
+) -> Option<u32>
+    requires known { id.0 < length patterns.now }
+    requires inside { at ≤ length subject.now }
+    requires some { 0 < left }
+    ensures fails { IfSome result (λ steps. FailsAt (tree patterns.now id.0) subject.now steps at) }
+    ensures near { IfSome result (λ steps. steps < left) }
+{
+    let rest = sides_in_vain(patterns, id, subject, at, left);
+    let last = steps_in_vain(patterns, rest.id, subject, at, left - rest.steps, MOST_DEPTH)?;
+    Some(rest.steps + last)
+}
+
 /// How many steps a pattern's search takes in vain from a place, where it begins with choices of primitives and none of
 /// them has an end there. If one has, or there are hardly so many steps, there is no such number.
-pub(crate) fn steps_in_vain(
+fn steps_in_vain(
     patterns: &Patterns,
     id: PatId,
     subject: &[u8],
@@ -219,51 +286,6 @@ fn passed_before(start: usize, next: usize, price: u32, left: u32) -> Passed
     Passed {
         start: start + passed,
         steps: passed as u32 * price,
-    }
-}
-
-/// Adds the bytes with which a pattern begins to a set: how many steps its search takes in vain where none of them
-/// stands. Where they aren't known, or there are hardly so many steps, there is no such number.
-fn add_first_bytes(
-    patterns: &Patterns,
-    id: PatId,
-    set: &mut ByteSet,
-    left: u32,
-    depth: u32,
-) -> Option<u32>
-    requires known { id.0 < length patterns.now }
-    ensures grows { IsAmong set.old set.new }
-    ensures fails { IfSome result (λ steps. FailsOutside (tree patterns.now id.0) set.new steps) }
-    ensures near { IfSome result (λ steps. steps < left) }
-{
-    if depth == 0 || left <= 2 {
-        return None;
-    }
-    match patterns.shape(id) {
-        Shape::Primitive => {
-            if !patterns.add_first_bytes(id, set) {
-                return None;
-            }
-            Some(1)
-        }
-        Shape::Alt(first, second) => {
-            let before = add_first_bytes(patterns, first, set, left - 2, depth - 1)?;
-            let behind = add_first_bytes(patterns, second, set, left - 2 - before, depth - 1)?;
-            Some(2 + before + behind)
-        }
-        Shape::Cat(part, _second) => {
-            let steps = add_first_bytes(patterns, part, set, left - 1, depth - 1)?;
-            Some(steps + 1)
-        }
-        Shape::Cond(part, _target) => {
-            let steps = add_first_bytes(patterns, part, set, left - 1, depth - 1)?;
-            Some(steps + 1)
-        }
-        Shape::Imm(part, _target) => {
-            let steps = add_first_bytes(patterns, part, set, left - 1, depth - 1)?;
-            Some(steps + 1)
-        }
-        _ => None,
     }
 }
 

@@ -29,7 +29,7 @@ use Rattle.sno_match.specs.declared.steps.Due.TheVariants as D
 use Rattle.sno_match.specs.inner.Plan.{goals_in, IsPlan, KeepsScopes}
 use Rattle.sno_match.specs.inner.Remaining.{remaining, waiting, IsKnown, IsStack, MarkFits}
 use Rattle.sno_match.specs.inner.Scopes.{HasCuts}
-use Rattle.sno_match.specs.inner.Starts.{FailsAt}
+use Rattle.sno_match.specs.inner.Starts.{GivesWay}
 
 -- what a move adds to the events; a last event is a verdict, and stands behind them
 abbrev pub entries : Option Told → List Pending → ℕ → List (Event × ℕ)
@@ -66,10 +66,10 @@ pub record Makes (nodes : List Node) (s : List ℕ) (start limit : ℕ) (old : L
   pub leads : (answers : List Answer) → remaining nodes s start old answers (limit - steps0)
       ≡ emit (entries told way (limit - steps)) (standing (after_move told) nodes s start new answers (limit - steps))
 
--- a pattern that is entered is searched in vain, in so many steps
-abbrev pub EnteredFails : List Node → List ℕ → Goal → Mark → ℕ → ℕ → Type 0
-EnteredFails nodes s (Match id) Enter price c = FailsAt (tree nodes id.0) s price c
-EnteredFails nodes s goal mark price c = ⊥
+-- a pattern that is entered gives way to another, so many steps later
+abbrev pub EnteredGivesWay : List Node → List ℕ → Goal → Mark → PatId → ℕ → ℕ → Type 0
+EnteredGivesWay nodes s (Match id) Enter other price c = GivesWay (tree nodes id.0) (tree nodes other.0) s price c
+EnteredGivesWay nodes s goal mark other price c = ⊥
 
 -- what a plan does to the stack, and what it tells, with the cursor and the steps left behind its own
 abbrev pub CarriesOut : Plan → ℕ → ℕ → List Point → Option Told → List Point → Type 0

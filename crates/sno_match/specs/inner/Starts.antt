@@ -16,6 +16,12 @@ pub record FailsAt (p : Pattern) (s : List ℕ) (price c : ℕ) : Type 0 where
       (due left : ℕ) → due ≡ left + price →
       search s start (Match p ∷ rest) c pending answers due ≡ Gives [] answers left Exhausted
 
+-- from the cursor a search for the one is, so many steps later, a search for the other, whatever comes behind it
+pub record GivesWay (p q : Pattern) (s : List ℕ) (price c : ℕ) : Type 0 where
+  pub gives_way : (start : ℕ) (rest : List Goal) (pending : List Pending) (answers : List Answer)
+      (due left : ℕ) → due ≡ left + price →
+      search s start (Match p ∷ rest) c pending answers due ≡ search s start (Match q ∷ rest) c pending answers left
+
 -- where one is searched in vain from a cursor, so is the other, and that takes so many steps more
 pub record FailsWith (p first : Pattern) (more : ℕ) : Type 0 where
   pub vain : (s : List ℕ) (price c : ℕ) → FailsAt first s price c → FailsAt p s (price + more) c

@@ -1,44 +1,60 @@
 use Rattle.std.proofs.Common.{arith, ◌<◌, ◌≡◌, ◌+◌, ◌-◌, List, [], None, subst, sym}
 use Rattle.std.proofs.lemmas.Result.{err_from_is_err_and}
-use Rattle.sno_match.specs.Point.{Point, below}
+use Rattle.sno_match.specs.Point.{Point}
 use Rattle.sno_match.specs.inner.Remaining.{IsStack}
 use Rattle.sno_match.specs.inner.Scopes.{HasCuts}
 use Rattle.sno_match.specs.inner.Move.{LeadsOn}
 use Rattle.sno_match.proofs.MoveLaws as laws
 use Rattle.sno_match.proofs.PartLaws as parts
-use Rattle.sno_match.proofs.CutMoves.{cuts-below, cuts-later}
 use Rattle.sno_match.proofs.moves.make_step.Goals as goal
 
 pub returns-in-Some : goal.returns-in-Some
 returns-in-Some g c =
     let nodes = c.args.patterns.now in
     let s = c.args.subject.now in
+    let limit = c.args.limit in
     let old = g.P.Points.points c.args.points.now in
     let mid = g.P.Points.points c.first_goal.new.points in
-    let new = g.P.Points.points c.pop.new.self in
+    let new = g.P.Points.points c.replace.new.self in
     let steps = c.first_goal.new.steps in
-    let vain = c.in-Some.vain in
-    let top = c.in_ok-first.ensures.top.top in
+    let rest = c.in-Some.rest in
+    let sides = c.in-Some.ensures in
     let leads = c.first_goal.ensures.leads s c.requires.stands.stack c.requires.stands.cuts in
-    let stack = laws.below-kept nodes s mid leads.stack.fit leads.stack.marked in
-    let cuts = cuts-later nodes (c.args.limit - (steps + vain)) (c.args.limit - steps) (below mid) (omega arith)
-    (cuts-below nodes (c.args.limit - steps) mid leads.cuts) in
+    let passed = parts.sides_passed nodes s limit steps rest.steps mid new c.in_ok-first.first c.args.cursor c.args.mark c.in_ok-first.ensures.top.top rest.id
+    sides.known sides.gives_way (omega (arith, sides.near)) c.in_ok-replace.ensures.ok leads.stack leads.cuts in
+    let all = parts.steps_behind nodes s limit old mid new c.args.steps.now steps (steps + rest.steps) leads passed in
     record {
       stands = record {
-        stack = rw c.pop.ensures.points stack;
-        cuts = rw c.pop.ensures.points cuts;
-        steps_in = omega (arith, c.in-Some.ensures.near);
+        stack = all.stack;
+        cuts = all.cuts;
+        steps_in = all.steps_in;
         looks = c.requires.stands.looks;
         small = c.requires.stands.small;
       };
       ok = λ start way.
-          parts.move_behind nodes s c.args.limit old mid new c.args.steps.now steps (steps + vain) start way way None leads
-          (laws.vain_at nodes s mid c.in_ok-first.first top.0 c.args.cursor top.1 c.args.mark top.2 top.3
-          start c.args.limit steps way vain (omega (arith, c.in-Some.ensures.near)) leads.stack.marked
-          c.in-Some.ensures.fails new c.pop.ensures.points);
-      records = omega (arith, c.pop.ensures.records, c.first_goal.ensures.records);
+          parts.leads_makes nodes s limit old new c.args.steps.now (steps + rest.steps) start way (omega (arith, leads.paid, sides.some)) all;
+      records = omega (arith, c.replace.ensures.records, c.first_goal.ensures.records, sides.some);
       err = tt;
     }
+
+pub returns-in_err-replace-clause-stands : goal.returns-in_err-replace-clause-stands
+returns-in_err-replace-clause-stands g c =
+    let leads = c.first_goal.ensures.leads c.args.subject.now c.requires.stands.stack c.requires.stands.cuts in
+    let same = sym c.in_err-replace.ensures.err.0 in
+    record {
+      stack = subst (IsStack c.args.patterns.now c.args.subject.now) same leads.stack;
+      cuts = subst (HasCuts c.args.patterns.now (c.args.limit - c.first_goal.new.steps)) same leads.cuts;
+      steps_in = leads.steps_in;
+      looks = c.requires.stands.looks;
+      small = c.requires.stands.small;
+    }
+
+pub returns-in_err-replace-clause-err : goal.returns-in_err-replace-clause-err
+returns-in_err-replace-clause-err g c =
+    let p = err_from_is_err_and c.from_residual-in_err-replace.result c.from_residual-in_err-replace.ensures.1 in
+    let leads = c.first_goal.ensures.leads c.args.subject.now c.requires.stands.stack c.requires.stands.cuts in
+    rw p.1 (subst (λ (points : List Point). LeadsOn c.args.patterns.now c.args.subject.now c.args.limit (g.P.Points.points c.args.points.now) c.args.steps.now
+    points c.first_goal.new.steps) (sym c.in_err-replace.ensures.err.0) leads)
 
 pub returns : goal.returns
 returns g c =

@@ -7,7 +7,7 @@ abbrev pub invariant-starts : goal.invariant-starts
 invariant-starts l = record {
   inside : l.passed.start ≤ length l.subject;
   enough : l.passed.steps ≤ l.left;
-  passes : Passes false (tree l.patterns l.pattern.0) l.subject l.start l.passed.start l.passed.steps;
+  passes : Passes false (tree l.patterns l.fn.pattern.0) l.subject l.fn.start l.passed.start l.passed.steps;
 }
 
 abbrev pub decreases-starts : goal.decreases-starts
