@@ -70,3 +70,6 @@ done
 time_choice 10000 "DUPL('A',20000)" T "P | T"
 time_choice 10000 "DUPL('A',20000)" T "T | P"
 time_row "$same" "(DUPL('A',500000) 'B')"
+time_row "$same" "$(alternatives 4 "SPAN('A')")"
+time_row "$same" "$(alternatives 8 "SPAN('A')")"
+time_row "$same" "$(alternatives 8 "BREAK(',')")"

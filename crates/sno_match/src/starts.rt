@@ -134,8 +134,7 @@ fn pass_choice(
         if left <= head.above {
             return passed;
         }
-        let Some(steps) = choice_in_vain(patterns, head.id, subject, here, left - head.above)
-        else {
+        let Some(steps) = choice_in_vain(patterns, head.id, subject, here, left - head.above) else {
             return passed;
         };
         let steps = steps + head.above;
@@ -212,7 +211,14 @@ fn choice_in_vain(
     ensures near { IfSome result (λ steps. steps < left) }
 {
     let rest = sides_in_vain(patterns, id, subject, at, left);
-    let last = steps_in_vain(patterns, rest.id, subject, at, left - rest.steps, MOST_DEPTH)?;
+    let last = steps_in_vain(
+        patterns,
+        rest.id,
+        subject,
+        at,
+        left - rest.steps,
+        MOST_DEPTH,
+    )?;
     Some(rest.steps + last)
 }
 

@@ -134,8 +134,10 @@ module _ (entries : List Entry) (id : ℕ) (entry : Entry) (table : IsTable entr
     leaf_begins leaf =
         let same : (s : List ℕ) (c : ℕ) → end_of_node (node_of (get_or entries id entry).kind) s c 0 ≡ end_of (tree (nodes_of entries) id) s c 0 =
         λ s c. ap (λ (x : Entry). end_of_node (node_of x.kind) s c 0) at ∙ end_of-kind entries id entry s c 0 table fits at in
-        subst (BeginsWith set 1) (sym leaf.1)
-        (refl, record {
-          fails = λ s c out.
-              ap (λ (p : Pattern). has_end p s c) (sym leaf.1) ∙ ap is_some (sym (same s c)) ∙ none s c out;
-        })
+        subst (BeginsWith set 1) (sym leaf.1) (
+          refl,
+          record {
+            fails = λ s c out.
+                ap (λ (p : Pattern). has_end p s c) (sym leaf.1) ∙ ap is_some (sym (same s c)) ∙ none s c out;
+          },
+        )

@@ -154,13 +154,13 @@ old_or_last zero (suc i) h = absurd (omega arith)
 old_or_last (suc n) zero h = inl (omega arith)
 old_or_last (suc n) (suc i) h = ⊎_elim (λ below. inl (omega arith)) (λ at. inr (ap suc at)) (old_or_last n i (omega arith))
 
-quiet-appended : (xs : List Entry) (kind : Kind) (quiet : Bool) → IsTable xs → PartsBelow (node_of kind) (length xs)
+quiet-appended : (xs : List Entry) (kind : Kind) (quiet : Bool) (number : ℕ) → IsTable xs → PartsBelow (node_of kind) (length xs)
     → quiet ≡ quiet_over (flags_of xs) (node_of kind) →
-    (id : ℕ) → id < length (xs ++ record { kind = kind; quiet = quiet } ∷ []) →
-    IsTrue (get_or (flags_of (xs ++ record { kind = kind; quiet = quiet } ∷ [])) id false) ↔ IsQuiet
-    (tree (nodes_of (xs ++ record { kind = kind; quiet = quiet } ∷ [])) id)
-quiet-appended xs kind quiet h p q id below =
-    let entry : Entry = record { kind = kind; quiet = quiet } in
+    (id : ℕ) → id < length (xs ++ record { kind = kind; quiet = quiet; number = number } ∷ []) →
+    IsTrue (get_or (flags_of (xs ++ record { kind = kind; quiet = quiet; number = number } ∷ [])) id false) ↔ IsQuiet
+    (tree (nodes_of (xs ++ record { kind = kind; quiet = quiet; number = number } ∷ [])) id)
+quiet-appended xs kind quiet number h p q id below =
+    let entry : Entry = record { kind = kind; quiet = quiet; number = number } in
     let same : length (flags_of xs) ≡ length (nodes_of xs) = omega (arith, length-flags xs, length-nodes xs) in
     rw (flags_of-append xs entry, nodes_of-append xs entry)
     (⊎_elim (λ old. quiet-old (flags_of xs) quiet (nodes_of xs) (node_of kind) id same (omega (arith, length-nodes xs)) (h.quiet id old))
@@ -175,26 +175,26 @@ begun-appended xs entry h begun id other below =
     rw (nodes_of-append xs entry)
     (⊎_elim
     (λ old.
-        let at : get_or (xs ++ entry ∷ []) id other ≡ get_or xs id other = get_or-append xs (entry ∷ []) other id old in
-        let stays = tree-append (nodes_of xs) (node_of entry.kind ∷ []) id (omega (arith, length-nodes xs, old)) in
-        rw (at, stays) (h.begins id other old))
+    let at : get_or (xs ++ entry ∷ []) id other ≡ get_or xs id other = get_or-append xs (entry ∷ []) other id old in
+    let stays = tree-append (nodes_of xs) (node_of entry.kind ∷ []) id (omega (arith, length-nodes xs, old)) in
+    rw (at, stays) (h.begins id other old))
     (λ at.
-        let here : get_or (xs ++ entry ∷ []) id other ≡ entry = rw (← at) (get_or-append_seam xs entry [] other) in
-        let n : id ≡ length (nodes_of xs) = omega (arith, at, length-nodes xs) in
-        let last : tree (nodes_of xs ++ node_of entry.kind ∷ []) id ≡ tree_over (trees_onto [] (nodes_of xs)) (node_of entry.kind) =
-        rw n (tree-last (nodes_of xs) (node_of entry.kind)) in
-        rw (here, last) begun)
+    let here : get_or (xs ++ entry ∷ []) id other ≡ entry = rw (← at) (get_or-append_seam xs entry [] other) in
+    let n : id ≡ length (nodes_of xs) = omega (arith, at, length-nodes xs) in
+    let last : tree (nodes_of xs ++ node_of entry.kind ∷ []) id ≡ tree_over (trees_onto [] (nodes_of xs)) (node_of entry.kind) =
+    rw n (tree-last (nodes_of xs) (node_of entry.kind)) in
+    rw (here, last) begun)
     (old_or_last (length xs) id (omega (arith, length-append xs (entry ∷ []), below))))
 
-pub appended : (xs ys : List Entry) (kind : Kind) (quiet : Bool) → IsTable xs → PartsBelow (node_of kind) (length xs) → suc (length xs) ≤ 4000000 →
+pub appended : (xs ys : List Entry) (kind : Kind) (quiet : Bool) (number : ℕ) → IsTable xs → PartsBelow (node_of kind) (length xs) → suc (length xs) ≤ 4000000 →
     IsBegun kind (tree_over (trees_onto [] (nodes_of xs)) (node_of kind)) → quiet ≡ quiet_over (flags_of xs) (node_of kind)
-    → ys ≡ xs ++ record { kind = kind; quiet = quiet } ∷ [] → IsTable ys
-appended xs ys kind quiet h p room begun q e = record {
-  room = rw e (omega (arith, length-append xs (record { kind = kind; quiet = quiet } ∷ []), room));
+    → ys ≡ xs ++ record { kind = kind; quiet = quiet; number = number } ∷ [] → IsTable ys
+appended xs ys kind quiet number h p room begun q e = record {
+  room = rw e (omega (arith, length-append xs (record { kind = kind; quiet = quiet; number = number } ∷ []), room));
   parts = rw (e, nodes_of-append) (AllParts-append 0 (nodes_of xs) (node_of kind) h.parts
       (let e' : 0 + length (nodes_of xs) ≡ length xs = omega (arith, length-nodes xs) in rw e' p));
-  quiet = rw e (quiet-appended xs kind quiet h p q);
-  begins = rw e (begun-appended xs (record { kind = kind; quiet = quiet }) h begun);
+  quiet = rw e (quiet-appended xs kind quiet number h p q);
+  begins = rw e (begun-appended xs (record { kind = kind; quiet = quiet; number = number }) h begun);
 }
 
 -- what `append` says of the nodes and the trees

@@ -6,6 +6,7 @@ ghost use Rattle.sno_pattern.specs.inner.Kinds.{node_of, flags_of, quiet_over};
 
 use crate::byte_set::ByteSet;
 use crate::first_bytes::FirstBytes;
+use crate::looks::is_far;
 use crate::shape::Shape;
 use sno_value::{ExprId, Name, PatId, Prim};
 
@@ -39,6 +40,21 @@ pub(crate) enum Kind {
 pub(crate) struct Entry {
     pub(crate) kind: Kind,
     pub(crate) quiet: bool,
+    /// How many nodes up to this one have runs that are worth remembering, which numbers these.
+    pub(crate) number: u32,
+}
+
+/// The number of a node that comes behind these entries.
+pub(crate) fn number_behind(entries: &[Entry], kind: &Kind) -> u32 {
+    let before = match entries.last() {
+        Some(entry) => entry.number,
+        None => 0,
+    };
+    if is_far(kind) {
+        before.wrapping_add(1)
+    } else {
+        before
+    }
 }
 
 /// The head of a node.

@@ -128,18 +128,18 @@ impl Looks {
     }
 }
 
-/// The slot for the first end of a primitive.
-pub(crate) fn slot_of_first(id: PatId) -> usize
+/// The slot for the first end of a primitive with this number.
+pub(crate) fn slot_of_first(number: u32) -> usize
     ensures { result < 8 }
 {
-    id.0 as usize % RUNS
+    number as usize % RUNS
 }
 
 /// The slot for the end behind another, which is never that for the first end of the same primitive.
-pub(crate) fn slot_behind(id: PatId, last: usize) -> usize
+pub(crate) fn slot_behind(number: u32, last: usize) -> usize
     ensures { result < 8 }
 {
-    (id.0 as usize % RUNS + 1 + last % (RUNS - 1)) % RUNS
+    (number as usize % RUNS + 1 + last % (RUNS - 1)) % RUNS
 }
 
 /// Whether the first end of a primitive may be so far that it is worth remembering.

@@ -20,8 +20,10 @@ ghost use Rattle.sno_pattern.specs.inner.Kinds.{nodes_of, node_of, IsBegun, IsTa
 use crate::argument::Arg;
 use crate::byte_set::ByteSet;
 use crate::ends::{end_behind_of_kind, end_of_kind, has_one_end};
-use crate::first_bytes::{Beginning, add_first_bytes_of_kind, first_bytes_of_choice, kind_fails_at};
-use crate::kind::{Entry, Kind, is_quiet_over, shape_of_kind};
+use crate::first_bytes::{
+    Beginning, add_first_bytes_of_kind, first_bytes_of_choice, kind_fails_at,
+};
+use crate::kind::{Entry, Kind, is_quiet_over, number_behind, shape_of_kind};
 use crate::looks::{Looks, Run, is_far, is_near, last_with_end, slot_behind, slot_of_first};
 use crate::places::first_place_of_kind;
 use crate::shape::Shape;
@@ -373,7 +375,8 @@ impl Patterns {
             let end = self.end_at(id, subject, at, 0);
             return end;
         }
-        let end = self.look_by(looks, slot_of_first(id), id, subject, at);
+        let slot = slot_of_first(self.entries[id.0 as usize].number);
+        let end = self.look_by(looks, slot, id, subject, at);
         end
     }
 
@@ -402,7 +405,8 @@ impl Patterns {
             return end;
         }
         if last < subject.len() && self.stops_often(id) {
-            let end = self.look_by(looks, slot_behind(id, last), id, subject, last + 1);
+            let slot = slot_behind(self.entries[id.0 as usize].number, last);
+            let end = self.look_by(looks, slot, id, subject, last + 1);
             return end;
         }
         let end = self.end_behind(id, subject, at, last);
@@ -528,7 +532,12 @@ fn append(entries: &mut Vec<Entry>, kind: Kind) -> Result<PatId, BuildError>
         return Err(BuildError::Full);
     }
     let quiet = is_quiet_over(entries, &kind);
-    if let Err(_refused) = entries.push(Entry { kind, quiet }) {
+    let number = number_behind(entries, &kind);
+    if let Err(_refused) = entries.push(Entry {
+        kind,
+        quiet,
+        number,
+    }) {
         return Err(BuildError::NoMemory);
     }
     Ok(PatId(id as u32))

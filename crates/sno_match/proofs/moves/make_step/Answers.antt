@@ -1,4 +1,4 @@
-use Rattle.std.proofs.Common.{arith, ◌<◌, ◌≡◌, ◌+◌, ◌-◌, List, [], None, subst, sym}
+use Rattle.std.proofs.Common.{arith, ◌<◌, ◌≡◌, ◌+◌, ◌-◌, List, [], subst, sym}
 use Rattle.std.proofs.lemmas.Result.{err_from_is_err_and}
 use Rattle.sno_match.specs.Point.{Point}
 use Rattle.sno_match.specs.inner.Remaining.{IsStack}

@@ -6,8 +6,7 @@ use Rattle.sno_pattern.proofs.first_bytes.add_both.Goals as goal
 
 pub returns : goal.returns
 returns c =
-    let sum : c.in_ok-steps.steps ≡ c.in_ok-before.before + c.in_ok-behind.behind + 2 = omega (arith, c.in_ok-both.ensures.1, c.in_ok-steps.ensures.1) in
-    (
+    let sum : c.in_ok-steps.steps ≡ c.in_ok-before.before + c.in_ok-behind.behind + 2 = omega (arith, c.in_ok-both.ensures.1, c.in_ok-steps.ensures.1) in (
       c.in_ok-before.before,
       c.in_ok-behind.behind,
       sum,
