@@ -19,7 +19,8 @@ CASE.   OUTPUT = '# ' TITLE.
         &TRIM = 0                                       :(RETURN)
 CASES.
 """
-WIDEST = 100
+# Statements stand in columns 1 to 72, as on cards.
+WIDEST = 72
 
 
 def groups():
