@@ -2,14 +2,14 @@
 //! the part ends and its number in the table, None where no such part stands there, or that memory was refused. Unary
 //! signs and the operators of a level are read by loops; the functions call each other only into brackets, along the
 //! levels and to the right operand of `**`.
-ghost use Rattle.std.specs.Prelude.{◌≡◌, ◌+◌, ◌^◌, ◌<◌, ◌≤◌, true, false, length, IfOk};
+ghost use Rattle.std.specs.Prelude.{◌≡◌, ◌+◌, ◌^◌, ◌<◌, ◌≤◌, true, false, length, IfOk, MatchOption};
 ghost use Rattle.sno_text.specs.Bytes.{byte, is_letter};
 ghost use Rattle.sno_text.specs.Grammar.{IsPair, Level, Element, Primary};
-ghost use Rattle.sno_text.specs.inner.Links.{Stops};
+ghost use Rattle.sno_text.specs.inner.Links.{Links, NoLink, Stops};
 ghost use Rattle.sno_text.specs.inner.Parsed.{Parsed, ParsedArgument, ParsedList, Extends};
 
 use crate::bytes::{Class, byte_at, is_in, run_end};
-use crate::node::{Node, Span};
+use crate::node::{Node, Operator, Span};
 use crate::operator::{joint, level_number, unary_operator};
 use crate::table::{Found, FoundList, push_applied, push_binary, push_node};
 use crate::token::{read_integer, read_keyword, read_literal};
@@ -60,18 +60,15 @@ pub fn read_level(
     if level == ELEMENT {
         return read_element(alloc, text, nodes, from);
     }
+    if level == POWER {
+        return read_power(alloc, text, nodes, from);
+    }
     let Some(mut left) = read_level(alloc, text, nodes, level + 1, from)? else {
         return Ok(None);
     };
-    'operands: while let Some((operator, at)) = joint(text, left.end) {
+    'operands: while let Some((operator, at)) = joint_apart(text, left.end) {
         if level_number(operator) != level {
             break;
-        }
-        if level == POWER {
-            let Some(right) = read_level(alloc, text, nodes, level, at)? else {
-                return Ok(None);
-            };
-            return Ok(Some(push_binary(nodes, operator, left, right)?));
         }
         let Some(right) = read_level(alloc, text, nodes, level + 1, at)? else {
             return Ok(None);
@@ -79,6 +76,49 @@ pub fn read_level(
         left = push_binary(nodes, operator, left, right)?;
     }
     Ok(Some(left))
+}
+
+/// The operator that follows an operand. What finds it is gone from the machine's stack when the next operand is read.
+#[inline(never)]
+fn joint_apart(text: &[u8], from: usize) -> Option<(Operator, usize)>
+    requires { from ≤ length text.now }
+    ensures { MatchOption result (NoLink text.now from)
+        (λ found. Links text.now found.0 from found.1 × (from < found.1) × (found.1 ≤ length text.now)) }
+{
+    joint(text, from)
+}
+
+/// power = assign [b "**" b power]
+///
+/// It has a function of its own, whose frame is small: the operands of `**` lie in one another.
+#[cycle(reader)]
+#[tactic(auto, using(crate::proofs::Steps::step_facts))]
+#[inline(never)]
+fn read_power(
+    alloc: Global,
+    text: &[u8],
+    nodes: &mut Vec<Node>,
+    from: usize,
+) -> Result<Option<Found>, AllocError>
+    requires within { from ≤ length text.now }
+    requires room { length nodes.old.items + length text.now < from + 2 ^ 32 }
+    ensures read { IfOk result (Parsed text.now (Level 5) (Stops text.now 5) from nodes.old.items nodes.new.items) }
+    ensures extends { Extends (length text.now) nodes.old.items nodes.new.items }
+{
+    let Some(left) = read_level(alloc, text, nodes, POWER + 1, from)? else {
+        return Ok(None);
+    };
+    let Some((operator, at)) = joint_apart(text, left.end) else {
+        return Ok(Some(left));
+    };
+    if level_number(operator) != POWER {
+        return Ok(Some(left));
+    }
+    let Some(right) = read_power(alloc, text, nodes, at)? else {
+        return Ok(None);
+    };
+    let found = push_binary(nodes, operator, left, right)?;
+    Ok(Some(found))
 }
 
 /// element = {"+" | "-" | "$" | "." | "*" | "@" | "?" | "~"} primary

@@ -7,7 +7,7 @@ use Rattle.sno_text.specs.inner.Parsed.{Parsed}
 use Rattle.sno_text.proofs.Primaries.{refuses_group}
 use Rattle.sno_text.proofs.Tables.{extends_none, gives_variable, gives_group, refused_unclosed, extends_trans, extends_push, letter_is_name_byte, run_some}
 use Rattle.sno_text.proofs.Steps.{extends_binary, extends_unary, extends_applied, gives_signed, listing_next, growing_left, gives_right, refused_left}
-use Rattle.sno_text.proofs.Steps.{refused_right, gives_other, gives_plain, gives_given, refused_next, gives_call, opening_within, byte_within, pair_within}
+use Rattle.sno_text.proofs.Steps.{growing_first, gives_over, refused_right, gives_other, gives_plain, gives_given, refused_next, gives_call, opening_within, byte_within, pair_within}
 use Rattle.sno_text.proofs.expression.+reader.Goals as goal
 
 pub read_argument-returns-clause-read : goal.read_argument-returns-clause-read
@@ -48,38 +48,25 @@ read_group-returns-clause-read t c =
 
 pub read_level-returns-in_default-2-clause-read : goal.read_level-returns-in_default-2-clause-read
 read_level-returns-in_default-2-clause-read t c =
-    refused_right _ _ _ _ _ _ _ c.operands.left c.if-level-eq-POWER.true (sym c.level_number.ensures ∙ c.if-level_number-level.false) c.operands.invariant.0
-    c.in-Some-joint.ensures.0
-    (rw c.in_default-2.is at c.in_ok-right.ensures.read)
-
-pub read_level-returns-then-level-eq-POWER-clause-read : goal.read_level-returns-then-level-eq-POWER-clause-read
-read_level-returns-then-level-eq-POWER-clause-read t c =
-    gives_right _ _ _ _ _ _ _ _ _ c.operands.left c.in-Some-2.right c.in_ok-push_binary.field-0 c.if-level-eq-POWER.true
-    (sym c.level_number.ensures ∙ c.if-level_number-level.false)
-    c.operands.invariant.0 c.in-Some-joint.ensures.0 c.in-Some-joint.ensures.1 (rw c.in-Some-2.is at c.in_ok-right.ensures.read) c.in_ok-right.ensures.extends
-    c.in_ok-push_binary.ensures.pushed c.in_ok-push_binary.ensures.id c.in_ok-push_binary.ensures.end c.in_ok-push_binary.ensures.fits
-
-pub read_level-returns-in_default-3-clause-read : goal.read_level-returns-in_default-3-clause-read
-read_level-returns-in_default-3-clause-read t c =
     refused_left _ _ _ _ _ _ _ c.operands.left c.if-level-eq-POWER.false (sym c.level_number.ensures ∙ c.if-level_number-level.false) c.operands.invariant.0
-    c.in-Some-joint.ensures.0
-    (rw c.in_default-3.is at c.in_ok-right-2.ensures.read)
+    c.in-Some-joint_apart.ensures.0
+    (rw c.in_default-2.is at c.in_ok-right.ensures.read)
 
 pub read_level-operands-preserved : goal.read_level-operands-preserved
 read_level-operands-preserved t c = (
-  growing_left _ _ _ _ _ _ _ _ _ c.operands.left c.in-Some-3.right c.in_ok-left-2.left c.if-level-eq-POWER.false
+  growing_left _ _ _ _ _ _ _ _ _ c.operands.left c.in-Some-2.right c.in_ok-left-2.left c.if-level-eq-POWER.false
       (sym c.level_number.ensures ∙ c.if-level_number-level.false)
-      c.operands.invariant.0 c.in-Some-joint.ensures.0 c.in-Some-joint.ensures.1 (rw c.in-Some-3.is at c.in_ok-right-2.ensures.read)
-      c.in_ok-right-2.ensures.extends
+      c.operands.invariant.0 c.in-Some-joint_apart.ensures.0 c.in-Some-joint_apart.ensures.1 (rw c.in-Some-2.is at c.in_ok-right.ensures.read)
+      c.in_ok-right.ensures.extends
       c.in_ok-left-2.ensures.pushed c.in_ok-left-2.ensures.id c.in_ok-left-2.ensures.end c.in_ok-left-2.ensures.fits,
-  extends_binary _ _ _ _ _ _ _ _ _ c.operands.left c.in-Some-3.right c.operands.invariant.0 c.operands.invariant.1
-      (rw c.in-Some-3.is at c.in_ok-right-2.ensures.read)
-      c.in_ok-right-2.ensures.extends c.in_ok-left-2.ensures.pushed,
+  extends_binary _ _ _ _ _ _ _ _ _ c.operands.left c.in-Some-2.right c.operands.invariant.0 c.operands.invariant.1
+      (rw c.in-Some-2.is at c.in_ok-right.ensures.read)
+      c.in_ok-right.ensures.extends c.in_ok-left-2.ensures.pushed,
 )
 
 pub read_level-returns-then-level_number-level-clause-read : goal.read_level-returns-then-level_number-level-clause-read
 read_level-returns-then-level_number-level-clause-read t c =
-    gives_other _ _ _ _ _ _ _ c.operands.left (λ e. c.if-level_number-level.true (c.level_number.ensures ∙ e)) c.in-Some-joint.ensures.0 c.operands.invariant.0
+    gives_other _ _ _ _ _ _ _ c.operands.left (λ e. c.if-level_number-level.true (c.level_number.ensures ∙ e)) c.in-Some-joint_apart.ensures.0 c.operands.invariant.0
 
 pub read_name-returns-then-not-is_in-clause-read : goal.read_name-returns-then-not-is_in-clause-read
 read_name-returns-then-not-is_in-clause-read t c =
@@ -116,25 +103,9 @@ read_level-returns-in_err-right-clause-extends t c = extends_trans _ _ _ _ c.ope
 pub read_level-returns-in_default-2-clause-extends : goal.read_level-returns-in_default-2-clause-extends
 read_level-returns-in_default-2-clause-extends t c = extends_trans _ _ _ _ c.operands.invariant.1 c.in_ok-right.ensures.extends
 
-pub read_level-returns-in_err-right-2-clause-extends : goal.read_level-returns-in_err-right-2-clause-extends
-read_level-returns-in_err-right-2-clause-extends t c = extends_trans _ _ _ _ c.operands.invariant.1 c.in_err-right-2.ensures.extends
-
-pub read_level-returns-in_default-3-clause-extends : goal.read_level-returns-in_default-3-clause-extends
-read_level-returns-in_default-3-clause-extends t c = extends_trans _ _ _ _ c.operands.invariant.1 c.in_ok-right-2.ensures.extends
-
-pub read_level-returns-in_err-push_binary-clause-extends : goal.read_level-returns-in_err-push_binary-clause-extends
-read_level-returns-in_err-push_binary-clause-extends t c =
-    extends_trans _ _ _ _ (extends_trans _ _ _ _ c.operands.invariant.1 c.in_ok-right.ensures.extends) (extends_none _ _ _ c.in_err-push_binary.ensures.err)
-
 pub read_level-returns-in_err-left-2-clause-extends : goal.read_level-returns-in_err-left-2-clause-extends
 read_level-returns-in_err-left-2-clause-extends t c =
-    extends_trans _ _ _ _ (extends_trans _ _ _ _ c.operands.invariant.1 c.in_ok-right-2.ensures.extends) (extends_none _ _ _ c.in_err-left-2.ensures.err)
-
-pub read_level-returns-then-level-eq-POWER-clause-extends : goal.read_level-returns-then-level-eq-POWER-clause-extends
-read_level-returns-then-level-eq-POWER-clause-extends t c =
-    extends_binary _ _ _ _ _ _ _ _ _ c.operands.left c.in-Some-2.right c.operands.invariant.0 c.operands.invariant.1
-    (rw c.in-Some-2.is at c.in_ok-right.ensures.read)
-    c.in_ok-right.ensures.extends c.in_ok-push_binary.ensures.pushed
+    extends_trans _ _ _ _ (extends_trans _ _ _ _ c.operands.invariant.1 c.in_ok-right.ensures.extends) (extends_none _ _ _ c.in_err-left-2.ensures.err)
 
 pub read_element-signs-preserved : goal.read_element-signs-preserved
 read_element-signs-preserved t c =
@@ -198,3 +169,45 @@ read_argument-returns-in_err-id-clause-extends t c = extends_none _ _ _ c.in_err
 pub read_argument-returns-then-first-eq44-clause-extends : goal.read_argument-returns-then-first-eq44-clause-extends
 read_argument-returns-then-first-eq44-clause-extends t c =
     extends_push _ _ _ _ c.in_ok-id.ensures.pushed.1 (record { operands = tt; spans = (omega arith, c.run_end-start.ensures.within); named = tt })
+
+pub read_power-returns-in_default-joint_apart-clause-read : goal.read_power-returns-in_default-joint_apart-clause-read
+read_power-returns-in_default-joint_apart-clause-read t c =
+    let left = growing_first _ 5 _ _ _ c.in-Some.left (λ e. omega (arith, e)) (omega arith) (rw c.in-Some.is at c.in_ok-left.ensures.read) in
+    gives_over _ _ _ _ _ c.in-Some.left c.in_default-joint_apart.ensures left
+
+pub read_power-returns-then-level_number-ne-POWER-clause-read : goal.read_power-returns-then-level_number-ne-POWER-clause-read
+read_power-returns-then-level_number-ne-POWER-clause-read t c =
+    let left = growing_first _ 5 _ _ _ c.in-Some.left (λ e. omega (arith, e)) (omega arith) (rw c.in-Some.is at c.in_ok-left.ensures.read) in
+    gives_other _ _ _ _ _ _ _ c.in-Some.left (λ e. c.if-level_number-ne-POWER.true (c.level_number.ensures ∙ e)) c.in-Some-joint_apart.ensures.0 left
+
+pub read_power-returns-in_err-right-clause-extends : goal.read_power-returns-in_err-right-clause-extends
+read_power-returns-in_err-right-clause-extends t c = extends_trans _ _ _ _ c.in_ok-left.ensures.extends c.in_err-right.ensures.extends
+
+pub read_power-returns-in_default-2-clause-read : goal.read_power-returns-in_default-2-clause-read
+read_power-returns-in_default-2-clause-read t c =
+    let left = growing_first _ 5 _ _ _ c.in-Some.left (λ e. omega (arith, e)) (omega arith) (rw c.in-Some.is at c.in_ok-left.ensures.read) in
+    refused_right _ _ _ _ _ _ _ c.in-Some.left refl (sym c.level_number.ensures ∙ c.if-level_number-ne-POWER.false) left
+    c.in-Some-joint_apart.ensures.0
+    (rw c.in_default-2.is at c.in_ok-right.ensures.read)
+
+pub read_power-returns-in_default-2-clause-extends : goal.read_power-returns-in_default-2-clause-extends
+read_power-returns-in_default-2-clause-extends t c = extends_trans _ _ _ _ c.in_ok-left.ensures.extends c.in_ok-right.ensures.extends
+
+pub read_power-returns-in_err-found-clause-extends : goal.read_power-returns-in_err-found-clause-extends
+read_power-returns-in_err-found-clause-extends t c =
+    extends_trans _ _ _ _ (extends_trans _ _ _ _ c.in_ok-left.ensures.extends c.in_ok-right.ensures.extends) (extends_none _ _ _ c.in_err-found.ensures.err)
+
+pub read_power-returns-clause-read : goal.read_power-returns-clause-read
+read_power-returns-clause-read t c =
+    let left = growing_first _ 5 _ _ _ c.in-Some.left (λ e. omega (arith, e)) (omega arith) (rw c.in-Some.is at c.in_ok-left.ensures.read) in
+    gives_right _ _ _ _ _ _ _ _ _ c.in-Some.left c.in-Some-2.right c.in_ok-found.found refl
+    (sym c.level_number.ensures ∙ c.if-level_number-ne-POWER.false)
+    left c.in-Some-joint_apart.ensures.0 c.in-Some-joint_apart.ensures.1 (rw c.in-Some-2.is at c.in_ok-right.ensures.read) c.in_ok-right.ensures.extends
+    c.in_ok-found.ensures.pushed c.in_ok-found.ensures.id c.in_ok-found.ensures.end c.in_ok-found.ensures.fits
+
+pub read_power-returns-clause-extends : goal.read_power-returns-clause-extends
+read_power-returns-clause-extends t c =
+    let left = growing_first _ 5 _ _ _ c.in-Some.left (λ e. omega (arith, e)) (omega arith) (rw c.in-Some.is at c.in_ok-left.ensures.read) in
+    extends_binary _ _ _ _ _ _ _ _ _ c.in-Some.left c.in-Some-2.right left c.in_ok-left.ensures.extends
+    (rw c.in-Some-2.is at c.in_ok-right.ensures.read)
+    c.in_ok-right.ensures.extends c.in_ok-found.ensures.pushed

@@ -8,25 +8,28 @@ use Rattle.sno_text.proofs.expression.+reader.Given as goal
 
 -- the text left, and then how many calls of this cycle go before one that takes a byte
 abbrev pub decreases-read_arguments : goal.decreases-read_arguments
-decreases-read_arguments l = 16 * (length l.text.now - l.from) + 15
+decreases-read_arguments l = 32 * (length l.text.now - l.from) + 31
 
 abbrev pub decreases-read_argument : goal.decreases-read_argument
-decreases-read_argument l = 16 * (length l.text.now - l.from) + 14
+decreases-read_argument l = 32 * (length l.text.now - l.from) + 30
 
 abbrev pub decreases-read_level : goal.decreases-read_level
-decreases-read_level l = 16 * (length l.text.now - l.from) + (13 - l.level)
+decreases-read_level l = 32 * (length l.text.now - l.from) + 2 * (14 - l.level)
+
+abbrev pub decreases-read_power : goal.decreases-read_power
+decreases-read_power l = 32 * (length l.text.now - l.from) + 17
 
 abbrev pub decreases-read_element : goal.decreases-read_element
-decreases-read_element l = 16 * (length l.text.now - l.from) + 5
+decreases-read_element l = 32 * (length l.text.now - l.from) + 5
 
 abbrev pub decreases-read_primary : goal.decreases-read_primary
-decreases-read_primary l = 16 * (length l.text.now - l.from) + 4
+decreases-read_primary l = 32 * (length l.text.now - l.from) + 4
 
 abbrev pub decreases-read_name : goal.decreases-read_name
-decreases-read_name l = 16 * (length l.text.now - l.from) + 3
+decreases-read_name l = 32 * (length l.text.now - l.from) + 3
 
 abbrev pub decreases-read_group : goal.decreases-read_group
-decreases-read_group l = 16 * (length l.text.now - l.from) + 3
+decreases-read_group l = 32 * (length l.text.now - l.from) + 3
 
 abbrev pub invariant-read_level-operands : goal.invariant-read_level-operands
 invariant-read_level-operands l =
