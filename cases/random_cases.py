@@ -5,12 +5,16 @@ where a core is ('=', name, E) or ('match', name, P, E or None), and a goto is a
 An expression is a text, a number, or a tuple: (sign, left, right), ('name', X), ('item', X, E) or ('call', F, E, ..).
 """
 import expressions
-from programs import HEAD, is_portable, names, statements
+from programs import HEAD, is_portable, statements
 from rules import PARTS, changed, places
 
 FUNCTIONS = """        DEFINE('TWICE(X)')
+        DEFINE('TURN(X)A')
         DEFINE('LATER(X)')                              :(DEFINED.)
 TWICE   TWICE = X X                                     :(RETURN)
+TURN    TURN = A
+        X LEN(1) . A REM . X                            :F(RETURN)
+        TURN = TURN TURN(X) A                           :(RETURN)
 LATER   LATER = LGT(X,'AB') X                           :S(RETURN)F(FRETURN)
 DEFINED.
 """
@@ -19,7 +23,7 @@ BEGINS = ('&ANCHOR = 0', 'I = 4', 'J = -3', "A = 'ABA'", 'B =', "C = 'AB'", "R =
 TEXTS, NUMBERS = 'ABC', 'IJ'
 PREDICATES = ('EQ', 'NE', 'LT', 'LE', 'GT', 'GE', 'IDENT', 'DIFFER', 'LGT')
 # Functions whose first argument may stand in their place.
-OF_TEXTS = ('DUPL', 'REPLACE', 'TRIM', 'TWICE', 'LATER')
+OF_TEXTS = ('DUPL', 'REPLACE', 'TRIM', 'TWICE', 'LATER', 'TURN')
 LITERALS = ('', 'A', 'B', 'AB', 'BA', 'CAB', ' ', '12', 'A,B')
 
 
@@ -56,11 +60,13 @@ class Maker:
         pick = self.source.random()
         if depth == 0 or pick < 0.3:
             return self.source.choice([self.source.randint(-3, 9), ('name', self.source.choice(NUMBERS))])
-        if pick < 0.7:
-            return (self.source.choice('+-*'), self.number(depth - 1), self.number(depth - 1))
-        if pick < 0.85:
+        if pick < 0.6:
+            return (self.source.choice('+-'), self.number(depth - 1), self.number(depth - 1))
+        if pick < 0.8:
+            return (self.source.choice('*/'), self.number(depth - 1), self.source.randint(1, 5))
+        if pick < 0.9:
             return ('call', 'SIZE', self.text(depth - 1))
-        return (self.source.choice(['/', 'REMDR']), self.number(depth - 1), self.source.randint(1, 5))
+        return ('REMDR', ('call', 'SIZE', self.text(depth - 1)), self.source.randint(1, 5))
 
     def predicate(self, depth):
         if self.source.random() < 0.5:
@@ -78,13 +84,13 @@ class Maker:
         if pick < 0.7:
             return ('item', self.source.choice('RT'), self.number(depth - 1))
         if pick < 0.78:
-            return ('call', 'DUPL', self.text(depth - 1), self.source.randint(0, 3))
+            return ('call', 'DUPL', self.text(0), self.source.randint(0, 3))
         if pick < 0.86:
             return ('call', 'REPLACE', self.text(depth - 1), 'AB', self.source.choice(['BA', 'XY', 'CC']))
         if pick < 0.9:
             return ('call', 'TRIM', self.text(depth - 1))
         if pick < 0.97:
-            return ('call', self.source.choice(['TWICE', 'LATER']), self.text(depth - 1))
+            return ('call', self.source.choice(['TWICE', 'LATER', 'TURN']), self.text(depth - 1))
         return self.number(depth - 1)
 
     def pattern(self, depth):
@@ -101,9 +107,9 @@ class Maker:
 
     def statement(self, number, count):
         pick, goto = self.source.random(), {}
-        later = 'L%d' % self.source.randint(number + 1, count)
         if self.source.random() < 0.4:
-            goto = {self.source.choice(['S', 'F', 'S', 'F', '']): later}
+            for kind in self.source.choice([['S'], ['F'], ['S', 'F'], ['F', 'S'], ['']]):
+                goto[kind] = 'L%d' % self.source.randint(number + 1, count)
         if pick < 0.2:
             core = ('=', ('name', self.source.choice(NUMBERS)), self.number(2))
         elif pick < 0.5:

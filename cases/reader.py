@@ -1,7 +1,7 @@
 """Programs of SNOBOL4 as statements of trees, by the grammar of docs/LANGUAGE.md.
 
-A tree is a text, a number or a tuple of a kind and its parts: the kinds of expressions.py, and besides ('item', A, index, ..),
-('key', NAME), the binary signs `/`, `*2` (a product) and `**`, and the unary signs `u+`, `u-`, `u.`, `u$`, `?` and `~`.
+A tree is a text, a number or a tuple of a kind and its parts: the kinds of expressions.py, and besides ('key', NAME),
+('item', A, index, ..), the binary signs `/`, `*2` (a product) and `**`, and the unary signs `u+`, `u-`, `u.`, `u$`, `?`, `~`.
 """
 import collections
 import re
@@ -9,7 +9,8 @@ import re
 Statement = collections.namedtuple('Statement', 'label subject pattern assigns value goto')
 # The signs of binary operators, from the loosest to the closest; a blank where no sign and no end follows is one too.
 BINARY = [re.compile(sign) for sign in (
-    r'[ \t]+(\|)[ \t]+', r'[ \t]+()(?![ \t]|[)>\],:]|$|=(?:[ \t]|$)|(?:\*\*|[|+/*.$-])[ \t])', r'[ \t]+([+-])[ \t]+', r'[ \t]+(/)[ \t]+',
+    r'[ \t]+(\|)[ \t]+', r'[ \t]+()(?![ \t]|[)>\],:]|$|=(?:[ \t]|$)|(?:\*\*|[|+/*.$-])[ \t])',
+    r'[ \t]+([+-])[ \t]+', r'[ \t]+(/)[ \t]+',
     r'[ \t]+(\*)[ \t]+', r'[ \t]+(\*\*)[ \t]+', r'[ \t]+([.$])[ \t]+')]
 POWER = 5
 PRIMARY = re.compile(r"""'([^']*)'|"([^"]*)"|([0-9]+)|&([A-Za-z][\w.]*)|([A-Za-z][\w.]*)([(<\[]?)|(\()""")

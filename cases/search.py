@@ -9,6 +9,7 @@ cases/mistakes.tsv changes lines of this file; each change is a wrong interprete
 import sys
 
 sys.dont_write_bytecode = True
+from commands import ends
 from expressions import as_pattern, joined, read
 
 sys.setrecursionlimit(20000)
@@ -191,11 +192,15 @@ def listing(mode, pattern, subject, most=1000000):
     return Search(subject, words[0] == 'anchor', int(words[1]) if len(words) > 1 else most).listing(pattern)
 
 
-if __name__ == '__main__':
+def main():
     if len(sys.argv) > 1 or sys.stdin.isatty():
-        sys.exit(__doc__.strip())
+        return __doc__.strip()
     for row in sys.stdin:
         cells = row.rstrip('\n').split('\t')
         if cells[0] != 'group':
             cells[6] = '|'.join(listing(*cells[3:6]))
         print('\t'.join(cells))
+
+
+if __name__ == '__main__':
+    ends(main)
