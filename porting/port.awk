@@ -636,8 +636,9 @@ function name_first() {
     if (first_label == "") {
         first_label = "PORT.A"
         tell(where_of(first_card), "the label PORT.A put before the first statement")
-        program[first_card] = first_label " " program[first_card]
-        if (first_card == end_card) { end_at += length(first_label) + 1 }
+        blanks_before = match(program[first_card], /^       /) ? length(first_label) : 0
+        program[first_card] = first_label (blanks_before ? "" : " ") substr(program[first_card], blanks_before + 1)
+        if (first_card == end_card && !blanks_before) { end_at += length(first_label) + 1 }
     }
     return first_label
 }
