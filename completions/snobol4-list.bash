@@ -2,10 +2,10 @@
 _snobol4_list() {
     local word=${COMP_WORDS[COMP_CWORD]} before=${COMP_WORDS[COMP_CWORD - 1]}
     COMPREPLY=()
-    if [[ $before == --statement ]]; then
+    if [[ $before == --statement || $before == --error ]]; then
         return
     elif [[ $word == -* ]]; then
-        mapfile -t COMPREPLY < <(compgen -W '--statement --help --version' -- "$word")
+        mapfile -t COMPREPLY < <(compgen -W '--error --statement --help --version' -- "$word")
     else
         compopt -o filenames
         mapfile -t COMPREPLY < <(compgen -f -- "$word")

@@ -8,10 +8,12 @@ use std::alloc::{AllocError, Global};
 /// What the words ask for.
 #[derive(Clone, Copy)]
 pub struct Job<'a> {
-    /// The file that holds the program.
-    pub file: &'a str,
+    /// The file that holds the program; none where an error is told without one.
+    pub file: Option<&'a str>,
     /// The number of the statement that is listed alone.
     pub statement: Option<u32>,
+    /// The number of the error that is told.
+    pub error: Option<u32>,
 }
 
 /// The job that the words ask for; the first word is the program's name. An `Err` is a call for help, a fault of usage
@@ -19,14 +21,17 @@ pub struct Job<'a> {
 pub fn command<'a>(alloc: Global, words: &'a [&'a str]) -> Result<Job<'a>, Error> {
     let mut root = program(alloc)?;
     let matches = root.try_get_matches_from_mut(words)?;
-    let statement = match matches.get_one::<u32>("statement") {
-        Some(number) => Some(number),
-        None => None,
-    };
-    match matches.get_str("FILE") {
-        Some(file) => Ok(Job { file, statement }),
-        None => Err(root.error(ErrorKind::MissingRequiredArgument, "FILE is wanted")?),
+    let statement = matches.get_one::<u32>("statement");
+    let error = matches.get_one::<u32>("error");
+    let file = matches.get_str("FILE");
+    if file.is_none() && (error.is_none() || statement.is_some()) {
+        return Err(root.error(ErrorKind::MissingRequiredArgument, "FILE is wanted")?);
     }
+    Ok(Job {
+        file,
+        statement,
+        error,
+    })
 }
 
 /// The program with its words.
@@ -37,8 +42,13 @@ fn program<'a>(alloc: Global) -> Result<Command<'a>, AllocError> {
         .action(ArgAction::Set)
         .value_parser(ValueParser::unsigned(1, 100_000))
         .help(help::STATEMENT);
+    let error = Arg::new(alloc, "error")
+        .long("error")
+        .value_name("K")
+        .action(ArgAction::Set)
+        .value_parser(ValueParser::unsigned(1, 21))
+        .help(help::ERROR);
     let file = Arg::new(alloc, "FILE")
-        .required(true)
         .action(ArgAction::Set)
         .help(help::FILE);
     let command = Command::new(alloc, "snobol4-list")
@@ -48,6 +58,7 @@ fn program<'a>(alloc: Global) -> Result<Command<'a>, AllocError> {
         .version(help::VERSION)
         .arg_required_else_help(true)
         .arg(statement)?
+        .arg(error)?
         .arg(file)?;
     Ok(command)
 }

@@ -1,13 +1,13 @@
 //! The functions and types that a program defines, as far as its text tells.
 use crate::names::Names;
 use crate::survey::{node_at, part};
-use crate::words::is_one_of;
+use crate::words::{is_one_of, word_at};
 use sno_text::{Node, Program};
 use sno_value::ExprId;
 use std::alloc::{AllocError, Global};
 
 /// The functions whose first argument defines names.
-const DEFINING: &[u8] = b"DEFINE DATA";
+pub const DEFINING: &[u8] = b"DEFINE DATA";
 
 /// The words of all prototypes and entry labels that are literals.
 #[derive(Drop)]
@@ -28,10 +28,15 @@ pub fn find_definitions(
         is_open: false,
     };
     for id in 0..program.nodes() {
-        if let Some(Node::Call(name, arguments)) = node_at(program, id) {
-            if is_one_of(part(text, *name), DEFINING) {
+        match node_at(program, id) {
+            Some(Node::Call(name, arguments)) if is_one_of(part(text, *name), DEFINING) => {
                 add_arguments(text, program, arguments.as_slice(), &mut definitions)?;
             }
+            // (a call that is none for a blank before its parenthesis)
+            Some(Node::Variable(name)) if is_one_of(part(text, *name), DEFINING) => {
+                definitions.is_open = true;
+            }
+            _ => {}
         }
     }
     Ok(definitions)
@@ -51,4 +56,37 @@ fn add_arguments(
         }
     }
     Ok(())
+}
+
+/// The prototype of a node that defines a function or a type by a literal.
+pub fn prototype_at<'a>(text: &'a [u8], program: &Program, id: u32) -> Option<&'a [u8]> {
+    let Some(Node::Call(name, arguments)) = node_at(program, id) else {
+        return None;
+    };
+    if !is_one_of(part(text, *name), DEFINING) {
+        return None;
+    }
+    literal_at(text, program, arguments.as_slice(), 0)
+}
+
+/// An argument that is a literal, by its place.
+pub fn literal_at<'a>(
+    text: &'a [u8],
+    program: &Program,
+    arguments: &[ExprId],
+    at: usize,
+) -> Option<&'a [u8]> {
+    let argument = arguments.get(at)?;
+    match node_at(program, argument.0) {
+        Some(Node::Literal(span)) => Some(part(text, *span)),
+        _ => None,
+    }
+}
+
+/// The first word of a prototype: the name that it defines.
+pub fn first_word(prototype: &[u8]) -> &[u8] {
+    match word_at(prototype, 0) {
+        Some(word) => word,
+        None => b"".as_slice(),
+    }
 }

@@ -1,21 +1,30 @@
 //! The program `snobol4-list`: lists a program with the numbers of its statements.
 #![tactic(auto)]
 
+mod asked;
 mod cards;
 mod command;
 mod definitions;
+mod explained;
+mod fault;
+mod furthest;
 mod help;
 mod listing;
+mod loops;
 mod names;
+mod reasons;
 mod refused;
 mod report;
 mod single;
 mod survey;
+mod uses;
 mod warnings;
 mod words;
 
+use asked::explain;
 use command::{Job, command, status_of};
-use report::{Report, make_report};
+use explained::explanation;
+use report::{Report, make_answer, make_report};
 use std::alloc::{AllocError, Global};
 use std::env;
 use std::fs::File;
@@ -83,19 +92,43 @@ fn obey(rt: &HostRuntime, args: &[String]) -> u8 {
     }
 }
 
-/// Reads the file and lists it.
+/// Reads the file, if there is one, and lists it or tells what the error is.
 fn work(rt: &HostRuntime, job: Job) -> u8 {
-    let text = match read(rt, job.file) {
+    if let Some(error) = job.error {
+        if explanation(error).is_none() {
+            return no_error(rt, error);
+        }
+    }
+    let Some(file) = job.file else {
+        return tell(rt, job);
+    };
+    let text = match read(rt, file) {
         Ok(text) => text,
         Err(error) if error.kind() == ErrorKind::OutOfMemory => return no_memory(rt),
         Err(_) => {
-            let _ = eprintln!(rt; "snobol4-list: cannot read {}", job.file);
+            let _ = eprintln!(rt; "snobol4-list: cannot read {file}");
             return UNREAD;
         }
     };
-    match make_report(rt.alloc(), text.as_slice(), job.statement) {
+    let report = match job.error {
+        Some(error) => make_answer(rt.alloc(), text.as_slice(), error, job.statement),
+        None => make_report(rt.alloc(), text.as_slice(), job.statement),
+    };
+    match report {
         Ok(Some(report)) => write(rt, &report),
         Ok(None) => no_statement(rt, job.statement),
+        Err(_) => no_memory(rt),
+    }
+}
+
+/// Tells what an error is, without a program.
+fn tell(rt: &HostRuntime, job: Job) -> u8 {
+    let error = match job.error {
+        Some(error) => error,
+        None => 0,
+    };
+    match explain(rt.alloc(), error) {
+        Ok(text) => write(rt, &Report { text, status: 0 }),
         Err(_) => no_memory(rt),
     }
 }
@@ -124,6 +157,11 @@ fn no_statement(rt: &HostRuntime, number: Option<u32>) -> u8 {
         None => 0,
     };
     let _ = eprintln!(rt; "snobol4-list: no statement {number}");
+    USAGE
+}
+
+fn no_error(rt: &HostRuntime, number: u32) -> u8 {
+    let _ = eprintln!(rt; "snobol4-list: no error {number}");
     USAGE
 }
 

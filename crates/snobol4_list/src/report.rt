@@ -1,9 +1,10 @@
 //! What is written of a program's text: its listing, with warnings behind it.
-use crate::listing::{count_statements, listing};
+use crate::asked::{explain, push_names};
+use crate::fault::{Fault, find_fault};
+use crate::listing::listing;
 use crate::refused::{Beginning, completed, find_beginning, line_end, line_start};
 use crate::single::single;
-use crate::survey::Place;
-use crate::warnings::{Warnings, warn, warn_of_signs};
+use crate::warnings::{Warnings, warn};
 use sno_text::{Program, ReadError, read_program};
 use std::alloc::{AllocError, Global};
 
@@ -30,6 +31,35 @@ pub fn make_report(
     }
 }
 
+/// The report of an error: what it is, the statement that is asked for, and the names that the error may be of. None
+/// where the program has no such statement.
+pub fn make_answer(
+    alloc: Global,
+    text: &[u8],
+    error: u32,
+    number: Option<u32>,
+) -> Result<Option<Report>, AllocError> {
+    let mut told = explain(alloc, error)?;
+    told.push(b'\n')?;
+    match read_program(alloc, text) {
+        Ok(program) => {
+            if let Some(number) = number {
+                let Some(listed) = single(alloc, text, &program, number)? else {
+                    return Ok(None);
+                };
+                told.extend_from_slice(listed.as_slice())?;
+            }
+            push_names(alloc, &mut told, text, &program, error, number)?;
+            Ok(Some(Report {
+                text: told,
+                status: 0,
+            }))
+        }
+        Err(ReadError::NoMemory) => Err(AllocError),
+        Err(refusal) => refused(alloc, text, refusal, number),
+    }
+}
+
 /// The report of a program.
 fn accepted(
     alloc: Global,
@@ -53,7 +83,8 @@ fn accepted(
     }))
 }
 
-/// The report of a program that is refused: up to the line of the refusal, and that below it.
+/// The report of a program that is refused: up to the line of the refusal, or to that in which its reason is found, and
+/// both below it.
 fn refused(
     alloc: Global,
     text: &[u8],
@@ -62,31 +93,64 @@ fn refused(
 ) -> Result<Option<Report>, AllocError> {
     let mut listed = Vec::new(alloc);
     let mut warnings = Warnings::new(alloc);
-    let (shown, known) = match line_of(error) {
-        Some(0) => (b"".as_slice(), None),
-        Some(line) => {
-            let is_full = matches!(error, ReadError::TooLarge { .. });
-            (
-                up_to(text, line),
-                find_beginning(alloc, text, line, is_full)?,
-            )
-        }
-        None => (text, completed(alloc, text)?),
-    };
-    if let Some(known) = known {
+    if let Some(known) = known_of(alloc, text, error)? {
+        let fault = find_fault(alloc, text, error, &known)?;
+        let shown = shown_of(text, error, &fault);
         listed = part_of(alloc, shown, &known.program, number)?;
-        warn_of_refused(alloc, text, error, &known, &mut warnings)?;
+        push_fault(&mut listed, text, &fault, number)?;
+        if matches!(error, ReadError::NoEnd) && number.is_none() {
+            warn(alloc, known.text.as_slice(), &known.program, &mut warnings)?;
+        }
     }
     let line = error.to_string(alloc)?;
     listed.extend_from_slice(line.as_bytes())?;
     listed.push(b'\n')?;
-    if number.is_none() {
-        warnings.append_to(&mut listed)?;
-    }
+    warnings.append_to(&mut listed)?;
     Ok(Some(Report {
         text: listed,
         status: REFUSED,
     }))
+}
+
+/// What is known of a program that is refused.
+fn known_of(alloc: Global, text: &[u8], error: ReadError) -> Result<Option<Beginning>, AllocError> {
+    match line_of(error) {
+        Some(0) => Ok(None),
+        Some(line) => {
+            let is_full = matches!(error, ReadError::TooLarge { .. });
+            let known = find_beginning(alloc, text, line, is_full)?;
+            Ok(known)
+        }
+        None => {
+            let known = completed(alloc, text)?;
+            Ok(known)
+        }
+    }
+}
+
+/// The lines of a program that are listed where it is refused.
+fn shown_of<'a>(text: &'a [u8], error: ReadError, fault: &Option<Fault>) -> &'a [u8] {
+    match (fault, line_of(error)) {
+        (Some(fault), Some(line)) => up_to(text, line.max(fault.line)),
+        (None, Some(line)) => up_to(text, line),
+        (_, None) => text,
+    }
+}
+
+/// Appends the reason below what is listed, if it belongs to that.
+fn push_fault(
+    listed: &mut Vec<u8>,
+    text: &[u8],
+    fault: &Option<Fault>,
+    number: Option<u32>,
+) -> Result<(), AllocError> {
+    let Some(fault) = fault else {
+        return Ok(());
+    };
+    if number.is_none() || number == Some(fault.number) {
+        fault.append_to(listed, text)?;
+    }
+    Ok(())
 }
 
 /// The listing of what is shown of a program, or of a statement of it, of which there is nothing where it isn't there.
@@ -103,30 +167,6 @@ fn part_of(
     match single(alloc, shown, program, number)? {
         Some(listed) => Ok(listed),
         None => Ok(Vec::new(alloc)),
-    }
-}
-
-/// Adds what there is to say of a program that is refused.
-fn warn_of_refused(
-    alloc: Global,
-    text: &[u8],
-    error: ReadError,
-    known: &Beginning,
-    warnings: &mut Warnings,
-) -> Result<(), AllocError> {
-    match error {
-        ReadError::NoEnd => warn(alloc, known.text.as_slice(), &known.program, warnings),
-        ReadError::Syntax { line, code: 3 } => {
-            let number = if known.is_exact {
-                count_statements(&known.program)
-            } else {
-                0
-            };
-            let start = line_start(text, line);
-            let end = line_end(text, start);
-            warn_of_signs(Place { line, number }, &text[start..end], warnings)
-        }
-        _ => Ok(()),
     }
 }
 

@@ -109,3 +109,12 @@ pub fn label_of(text: &[u8], target: Option<Target>) -> Option<&[u8]> {
         _ => None,
     }
 }
+
+/// Whether the statement behind one may be reached from it.
+pub fn goes_on(jump: Jump) -> bool {
+    match jump {
+        Jump::Fall => true,
+        Jump::Always(_) => false,
+        Jump::Either(success, failure) => success.is_none() || failure.is_none(),
+    }
+}

@@ -1,17 +1,22 @@
 //! Warnings: what a program most likely doesn't mean. They promise nothing, and no warning is a refusal.
 mod blanks;
+mod endless;
 mod functions;
 mod keywords;
 mod labels;
 mod letters;
 mod lines;
 mod patterns;
+mod prototypes;
+mod statements;
+mod targets;
 mod variables;
 
 use crate::definitions::find_definitions;
 use crate::listing::digits_of;
+use crate::loops::find_loops;
 use crate::survey::{Place, node_places};
-pub use blanks::warn_of_signs;
+use crate::uses::find_uses;
 use sno_text::Program;
 use std::alloc::{AllocError, Global};
 
@@ -27,6 +32,8 @@ struct Warning {
 pub struct Warnings {
     alloc: Global,
     list: Vec<Warning>,
+    /// What stands behind them.
+    note: Vec<u8>,
 }
 
 impl Warnings {
@@ -35,6 +42,7 @@ impl Warnings {
         Warnings {
             alloc,
             list: Vec::new(alloc),
+            note: Vec::new(alloc),
         }
     }
 
@@ -46,17 +54,32 @@ impl Warnings {
         name: &[u8],
         behind: &[u8],
     ) -> Result<(), AllocError> {
-        let mut text = Vec::new(self.alloc);
-        text.extend_from_slice(before)?;
+        let mut text = before.to_vec(self.alloc)?;
         text.extend_from_slice(name)?;
         text.extend_from_slice(behind)?;
         self.list.push(Warning { place, text })?;
         Ok(())
     }
 
-    /// Appends the warnings in the order of their lines, behind an empty line, if there are any.
+    /// Adds a warning that ends in another name and what is said of it.
+    pub fn add_with_other(
+        &mut self,
+        place: Place,
+        before: &[u8],
+        name: &[u8],
+        between: &[u8],
+        other: &[u8],
+        behind: &[u8],
+    ) -> Result<(), AllocError> {
+        let mut rest = between.to_vec(self.alloc)?;
+        rest.extend_from_slice(other)?;
+        rest.extend_from_slice(behind)?;
+        self.add(place, before, name, rest.as_slice())
+    }
+
+    /// Appends the warnings in the order of their lines and the note, behind an empty line, if there are any.
     pub fn append_to(&mut self, listing: &mut Vec<u8>) -> Result<(), AllocError> {
-        if self.list.is_empty() {
+        if self.list.is_empty() && self.note.is_empty() {
             return Ok(());
         }
         self.list.sort_by_key(|warning| warning.place.line)?;
@@ -64,6 +87,7 @@ impl Warnings {
         for warning in self.list.as_slice() {
             append(self.alloc, listing, warning)?;
         }
+        listing.extend_from_slice(self.note.as_slice())?;
         Ok(())
     }
 }
@@ -94,13 +118,19 @@ pub fn warn(
     let places = node_places(alloc, program)?;
     let places = places.as_slice();
     let defined = find_definitions(alloc, text, program)?;
+    let uses = find_uses(alloc, text, program)?;
+    let loops = find_loops(alloc, text, program)?;
     lines::warn(text, program, warnings)?;
     letters::warn(alloc, text, program, places, &defined, warnings)?;
-    labels::warn(alloc, text, program, &defined, warnings)?;
-    variables::warn(alloc, text, program, places, warnings)?;
-    functions::warn(text, program, places, &defined, warnings)?;
+    labels::warn(alloc, text, program, &defined, &uses, warnings)?;
+    variables::warn(alloc, text, program, places, &defined, &uses, warnings)?;
+    functions::warn(alloc, text, program, places, &defined, &uses, warnings)?;
+    prototypes::warn(alloc, text, program, places, warnings)?;
     keywords::warn(text, program, places, warnings)?;
-    blanks::warn(program, places, warnings)?;
-    patterns::warn(alloc, text, program, &defined, warnings)?;
+    blanks::warn(text, program, places, warnings)?;
+    statements::warn(text, program, &defined, warnings)?;
+    targets::warn(alloc, text, program, warnings)?;
+    endless::warn(alloc, text, program, places, &defined, &loops, warnings)?;
+    warnings.note = patterns::note(alloc, text, program, &defined, &loops)?;
     Ok(())
 }

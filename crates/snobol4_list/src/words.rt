@@ -4,8 +4,19 @@ ghost use Rattle.std.specs.Prelude.{◌≤◌, length};
 /// The variables that have a meaning or a value from the start.
 pub const VARIABLES: &[u8] = b"INPUT OUTPUT ARB BAL REM FAIL FENCE ABORT SUCCEED";
 
+/// The variables that are devices.
+pub const DEVICES: &[u8] = b"INPUT OUTPUT";
+
+/// The types of the language.
+pub const TYPES: &[u8] = b"STRING INTEGER PATTERN ARRAY TABLE NAME EXPRESSION";
+
 /// The functions that make patterns.
 pub const PRIMITIVES: &[u8] = b"LEN POS RPOS TAB RTAB ANY NOTANY SPAN BREAK BREAKX ARBNO FENCE";
+
+/// The functions that are null where something holds, and those that give numbers.
+pub const PREDICATES: &[u8] = b"EQ NE LT LE GT GE IDENT DIFFER LGT INTEGER";
+
+pub const NUMBERS: &[u8] = b"SIZE REMDR";
 
 /// All functions of the language.
 pub const FUNCTIONS: &[u8] = b"LEN POS RPOS TAB RTAB ANY NOTANY SPAN BREAK BREAKX ARBNO FENCE
@@ -23,7 +34,7 @@ pub const LABELS: &[u8] = b"END RETURN FRETURN";
 pub const RETURNS: &[u8] = b"RETURN FRETURN";
 
 /// Whether a name may have this byte.
-fn is_name_byte(byte: u8) -> bool {
+pub fn is_name_byte(byte: u8) -> bool {
     byte.is_ascii_alphanumeric() || byte == b'.' || byte == b'_'
 }
 
