@@ -90,6 +90,10 @@ def precedence():
             continue
         made.add(told)
         yield 'book', 'signs that bind more and less closely', written(told), str(found)
+
+
+def binding():
+    """Which sign binds more closely, one by one."""
     for told, found in (('2 ** 3 ** 2', 2 ** 9), ('2 ** 2 ** 3', 2 ** 8), ('3 ** 1 ** 2', 3)):
         yield 'profile', '** groups to the right', written(told), str(found)
     for told, found in (
@@ -237,7 +241,7 @@ def counted_matches():
         yield 'book', 'a letter is taken out', told, subject.replace(letter, '')
 
 
-RULES = {'arithmetic': (arithmetic, precedence, range_ends), 'predicates': (predicates,), 'strings': (strings,),
+RULES = {'arithmetic': (arithmetic, precedence, binding, range_ends), 'predicates': (predicates,), 'strings': (strings,),
          'arrays': (in_range,), 'tables': (keys,), 'replacement': (counted_matches,)}
 
 
