@@ -241,8 +241,8 @@ def counted_matches():
         yield 'book', 'a letter is taken out', told, subject.replace(letter, '')
 
 
-RULES = {'arithmetic': (arithmetic, precedence, binding, range_ends), 'predicates': (predicates,), 'strings': (strings,),
-         'arrays': (in_range,), 'tables': (keys,), 'replacement': (counted_matches,)}
+RULES = {'arithmetic': (arithmetic, precedence, binding, range_ends), 'predicates': (predicates,),
+         'strings': (strings,), 'arrays': (in_range,), 'tables': (keys,), 'replacement': (counted_matches,)}
 
 
 def computed(group):
