@@ -98,8 +98,9 @@ fn read(rt: &HostRuntime, file: &str) -> io::Result<Vec<u8>> {
     Ok(text)
 }
 
-/// Does a job on the standard devices, and writes out what the buffer holds before a fault is told. `name` is how long
-/// the name of the job's file is: room for the longest line that may be told is made first.
+/// Does a job on the standard devices, and writes out what the buffer holds before a fault is told; where it can't be
+/// written, it is let go, so that nothing stands behind the fault. `name` is how long the name of the job's file is:
+/// room for the longest line that may be told is made first.
 fn finish(rt: &HostRuntime, job: &Job, file: Option<&[u8]>, name: usize) -> u8
     requires { IsInRange job.now }
 {
@@ -119,6 +120,7 @@ fn finish(rt: &HostRuntime, job: &Job, file: Option<&[u8]>, name: usize) -> u8
     let mut errors = Device::new(line);
     let status = perform(alloc, job, file, &mut reader, &mut writer, &mut errors);
     if writer.flush().is_err() {
+        output.into_inner().let_go();
         return write_fault(rt);
     }
     let _ = rt.stderr().write_all(errors.into_inner().as_slice());

@@ -6,11 +6,12 @@ use std::cell::RefCell;
 use std::io::{self, BufWriter, ErrorKind, IsTerminal, Read, Stdin, Stdout, Write};
 
 /// Standard output behind a buffer, which is written out at each line feed where it is a terminal. Where that has
-/// failed the buffer is let go, so that what it held is written by nobody, and each call fails.
+/// failed each call fails.
 #[derive(Drop)]
 pub(crate) struct Output {
-    buffer: Option<BufWriter<Stdout>>,
+    buffer: BufWriter<Stdout>,
     by_lines: bool,
+    has_failed: bool,
 }
 
 impl Output {
@@ -20,36 +21,38 @@ impl Output {
         let by_lines = stdout.is_terminal();
         let buffer = BufWriter::new(rt.alloc(), stdout)?;
         Ok(Output {
-            buffer: Some(buffer),
+            buffer,
             by_lines,
+            has_failed: false,
         })
     }
 
-    /// Lets the buffer go where a call of it has failed: dropped as it is, it would write what it holds.
-    fn settle<T>(&mut self, done: io::Result<T>) -> io::Result<T>
-        ensures { result ≡ done }
+    /// Lets the buffer go with what it holds: dropped as it is, it would write that.
+    pub fn let_go(self) {
+        let (_stdout, _held) = self.buffer.into_parts();
+    }
+
+    /// Keeps in mind that a call has failed, but for one that was interrupted, which is made again.
+    #[cold]
+    fn fails(&mut self, error: io::Error) -> io::Error
+        ensures { result ≡ error }
     {
-        match done {
-            Ok(value) => Ok(value),
-            Err(error) => {
-                if error.kind() != ErrorKind::Interrupted {
-                    if let Some(buffer) = self.buffer.take() {
-                        let (_stdout, _held) = buffer.into_parts();
-                    }
-                }
-                Err(error)
-            }
+        if error.kind() != ErrorKind::Interrupted {
+            self.has_failed = true;
         }
+        error
     }
 }
 
 impl Write for Output {
     fn write(&mut self, bytes: &[u8]) -> io::Result<usize> {
-        let Some(buffer) = &mut self.buffer else {
+        if self.has_failed {
             return Err(ErrorKind::BrokenPipe.into());
+        }
+        let count = match self.buffer.write(bytes) {
+            Ok(count) => count,
+            Err(error) => return Err(self.fails(error)),
         };
-        let done = buffer.write(bytes);
-        let count = self.settle(done)?;
         if self.by_lines && bytes[..count].contains(&b'\n') {
             self.flush()?;
         }
@@ -57,11 +60,13 @@ impl Write for Output {
     }
 
     fn flush(&mut self) -> io::Result<()> {
-        let Some(buffer) = &mut self.buffer else {
+        if self.has_failed {
             return Err(ErrorKind::BrokenPipe.into());
-        };
-        let done = buffer.flush();
-        self.settle(done)
+        }
+        match self.buffer.flush() {
+            Ok(()) => Ok(()),
+            Err(error) => Err(self.fails(error)),
+        }
     }
 }
 
