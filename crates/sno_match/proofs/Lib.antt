@@ -17,6 +17,7 @@ pub mod NextLaws
 pub mod AnswerLaws
 pub mod CopiedLaws
 pub mod SharedLaws
+pub mod HandLaws
 pub mod GrowLaws
 pub mod WeightLaws
 pub mod LateLaws

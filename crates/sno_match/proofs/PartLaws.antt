@@ -17,7 +17,7 @@ use Rattle.sno_match.specs.Top.{IsTop}
 use Rattle.sno_match.specs.inner.Plan.{point_at}
 use Rattle.sno_match.specs.inner.Remaining.{goals_of, remaining, resume, IsStack, HasPoint, MarkFits}
 use Rattle.sno_match.specs.inner.Scopes.{HasCuts}
-use Rattle.sno_match.specs.inner.Move.{Makes, EnteredGivesWay, EntersParts, LeadsOn}
+use Rattle.sno_match.specs.inner.Move.{Makes, EnteredGivesWay, EntersParts, LeadsOn, Steps}
 use Rattle.sno_match.proofs.CutMoves.{cuts-later}
 use Rattle.sno_match.proofs.ReadingLaws.{emit-none}
 use Rattle.sno_match.proofs.MoveLaws as laws
@@ -77,6 +77,26 @@ module _ (nodes : List Node) (s : List ℕ) (limit : ℕ) where
       leads = λ answers. first.leads start answers ∙ made.leads answers;
     }
 
+-- one step that tells nothing
+pub step_leads : (nodes : List Node) (s : List ℕ) (old new : List Point) (goal : Numbered) (goals : List Numbered) (c : ℕ) (pending : List Pending)
+    (mark : Mark) (rest : List Point) → old ≡ point_at goal goals c pending mark ∷ rest → (limit steps : ℕ) → steps < limit → IsStack nodes s old
+    → HasCuts nodes (limit - steps) old → Steps nodes s goal c mark (limit - (steps + 1)) old None new → LeadsOn nodes s limit old steps new (steps + 1)
+step_leads nodes s old new goal goals c pending mark rest is limit steps due st cuts step =
+    let left = limit - (steps + 1) in
+    let made = λ (start : ℕ). laws.made_at nodes s old goal goals c pending mark rest is start limit steps [] due left refl cuts step.plan None new
+    step.is_plan step.scopes step.carried st.marked in
+    let one = made 0 in
+    record {
+      steps_in = one.steps_in;
+      paid = omega arith;
+      grows = one.grows;
+      falls = let less = one.falls refl in omega (arith, less);
+      stack = laws.stack_at nodes s old goal goals c pending mark rest is left step.plan None new st step.is_plan step.carried;
+      cuts = laws.cuts_at nodes s old goal goals c pending mark rest is 0 limit steps [] due left refl cuts step.plan None new step.is_plan step.scopes
+          step.carried;
+      leads = λ start answers. (made start).leads answers ∙ emit-none (remaining nodes s start new answers left);
+    }
+
 -- one step that enters the first part of the pattern at the top
 module _ (nodes : List Node) (old new : List Point) (id first : PatId) (second : Numbered) (c : ℕ)
     (top : IsTop old (T.Open (N.Match id) c Enter)) (is : new ≡ replaced (N.Match first ∷ second ∷ []) c old) where
@@ -86,23 +106,10 @@ module _ (nodes : List Node) (old new : List Point) (id first : PatId) (second :
   pub part_entered : (s : List ℕ) (limit steps : ℕ) → steps < limit → EntersParts nodes id c first second → IsStack nodes s old
       → HasCuts nodes (limit - steps) old → LeadsOn nodes s limit old steps new (steps + 1)
   part_entered s limit steps due enters st cuts =
-      let left = limit - (steps + 1) in
       let plan = P.Replace (Two (N.Match first) second) c in
       let inside = (laws.fits_at nodes s old (N.Match id) top.0 c top.1 Enter top.2 top.3 st).inside in
-      let right = enters.is_plan s inside in
-      let made = λ (start : ℕ). laws.made_at nodes s old (N.Match id) top.0 c top.1 Enter top.2 top.3 start limit steps [] due left refl cuts plan None new
-      right enters.scopes (refl, is) st.marked in
-      let one = made 0 in
-      record {
-        steps_in = one.steps_in;
-        paid = omega arith;
-        grows = one.grows;
-        falls = let less = one.falls refl in omega (arith, less);
-        stack = laws.stack_at nodes s old (N.Match id) top.0 c top.1 Enter top.2 top.3 left plan None new st right (refl, is);
-        cuts = laws.cuts_at nodes s old (N.Match id) top.0 c top.1 Enter top.2 top.3 0 limit steps [] due left refl cuts plan None new right enters.scopes
-            (refl, is);
-        leads = λ start answers. (made start).leads answers ∙ emit-none (remaining nodes s start new answers left);
-      }
+      step_leads nodes s old new (N.Match id) top.0 c top.1 Enter top.2 top.3 limit steps due st cuts
+      (record { plan = plan; is_plan = enters.is_plan s inside; scopes = enters.scopes; carried = (refl, is) })
 
 -- a choice that is entered gives way to what is left of it
 passed_here : (nodes : List Node) (s : List ℕ) (limit steps cost : ℕ) (goal : Numbered) (goals : List Numbered) (c : ℕ) (pending : List Pending) (mark : Mark)

@@ -144,7 +144,7 @@ module _ (records : List GoalRecord) (goals : ℕ) (d : GoalRecord) (some : 0 < 
   first_is : IsAt records (goals - 1) (get_or records (goals - 1) d)
   first_is = read_at records (goals - 1) (get_or records (goals - 1) d) d (omega (arith, some, inside)) refl falls
 
-  parts_is : goals_of records goals ≡ (get_or records (goals - 1) d).goal ∷ goals_of records (get_or records (goals - 1) d).behind
+  pub parts_is : goals_of records goals ≡ (get_or records (goals - 1) d).goal ∷ goals_of records (get_or records (goals - 1) d).behind
   parts_is =
       let size : goals ≡ goals - 1 + 1 = omega (arith, some) in
       ap (goals_of records) size ∙ first_is.list

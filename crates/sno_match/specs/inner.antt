@@ -1,3 +1,4 @@
+pub mod Hand
 pub mod Move
 pub mod Plan
 pub mod Remaining

@@ -6,6 +6,7 @@ ghost use Rattle.sno_match.specs.Point.{rest_of};
 use crate::event::Pending;
 use crate::goal::{Goal, Mark, Top};
 use crate::points::Points;
+use sno_pattern::{Looks, Patterns};
 use std::alloc::{AllocError, Global};
 use std::mem::swap;
 
@@ -121,6 +122,15 @@ impl Points for CopiedGoals {
             retire_newer(&mut self.below, depth, &mut self.spare);
         }
     }
+
+    fn take_silent_steps(
+        &mut self,
+        _steps: &mut u32,
+        _looks: &mut Looks,
+        _patterns: &Patterns,
+        _subject: &[u8],
+        _limit: u32,
+    ) {}
 
     fn pop(&mut self) {
         if let Some(point) = self.top.take() {

@@ -1,11 +1,12 @@
 //! A match that is asked for one event after another.
 ghost use Rattle.std.specs.Prelude.{◌≡◌, ◌<◌, ◌≤◌, ◌+◌, ◌-◌, ◌*◌, ◌++◌, [], ◌∷◌, false, true, length, drop, take, IfOk};
-ghost use Rattle.std.specs.Prelude.{IfSome, IsOk, OnOk, OnErr, vec_capacity};
+ghost use Rattle.std.specs.Prelude.{IfSome, IsOk, OnOk, OnErr};
 ghost use Rattle.sno_match.specs.Matching.{SameMatch, IsTold, StaysAt, IsCounted, TellsWays, Begins, begins, told_of};
 ghost use Rattle.sno_match.specs.Matching.{in_trace, last_pending, IsWithin};
 ghost use Rattle.sno_match.specs.inner.State.{after};
-ghost use Rattle.sno_match.specs.inner.Running.{Advances, GoesOn};
+ghost use Rattle.sno_match.specs.inner.Running.{Advances, GoesOn, work};
 
+use crate::bytes::put_in_place;
 use crate::event::{Event, Pending};
 use crate::goal::{Goal, Top};
 use crate::moves::{make_move, put_answer};
@@ -186,10 +187,28 @@ impl<P: Points> Engine<P> {
             return Ok(event);
         }
         loop {
+            self.go_silently(patterns);
             if let Some(event) = self.advance(patterns)? {
                 return Ok(event);
             }
         }
+    }
+
+    /// Steps that tell nothing, as many as the stack takes by itself.
+    fn go_silently(&mut self, patterns: &Patterns)
+        requires table { self.old.nodes ≡ patterns.now }
+        requires going { self.old.waits ≡ false }
+        requires on { self.old.ended ≡ false }
+        ensures goes { GoesOn self.old self.new }
+        ensures work { work self.new ≤ work self.old }
+    {
+        self.points.take_silent_steps(
+            &mut self.steps,
+            &mut self.looks,
+            patterns,
+            &self.subject,
+            self.limit,
+        );
     }
 
     /// One move or, where no point is left, the next start: the event that is told, if there is one. Where memory is
@@ -372,17 +391,6 @@ impl<P: Points> Engine<P> {
         ensures { result.now ≡ self.now.subject }
     {
         &self.subject
-    }
-}
-
-/// These bytes take the place of those in a list that has room for them.
-fn put_in_place(list: &mut Vec<u8>, bytes: &[u8])
-    requires { length bytes.now ≤ vec_capacity list.old }
-    ensures { list.new.items ≡ bytes.now }
-{
-    list.clear();
-    if let Err(_refused) = list.extend_from_slice(bytes) {
-        unreachable!();
     }
 }
 

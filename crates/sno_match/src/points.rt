@@ -1,10 +1,13 @@
 //! The stack of resumption points.
-ghost use Rattle.std.specs.Prelude.{◌≡◌, ◌≤◌, ◌+◌, List, ℕ, [], ◌∷◌, length, OnOk, OnErr};
+ghost use Rattle.std.specs.Prelude.{◌≡◌, ◌≤◌, ◌+◌, ◌*◌, List, ℕ, [], ◌∷◌, length, OnOk, OnErr};
 ghost use Rattle.sno_match.specs.Point.{Point, HasFirst, replaced, branched, closed, cut_back, below};
+ghost use Rattle.sno_pattern.specs.Looks.{AreTrue};
+ghost use Rattle.sno_match.specs.inner.Move.{Stands, LeadsOn};
 ghost use Rattle.sno_match.specs.Top.{IsTop, Finishes, first_point};
 
 use crate::event::Pending;
 use crate::goal::{Goal, Top};
+use sno_pattern::{Looks, Patterns};
 use std::alloc::{AllocError, Global};
 
 /// A stack of resumption points, seen as a list of (goals, cursor, pending list, mark), the newest first. A call that
@@ -61,6 +64,20 @@ pub trait Points: Drop + Sized {
     fn cut(&mut self, depth: usize)
         ensures points { points self.new ≡ cut_back depth (points self.old) }
         ensures records { records self.new ≤ records self.old };
+
+    /// Takes steps that are due and tell nothing, as many as it likes. It takes no memory.
+    fn take_silent_steps(
+        &mut self,
+        steps: &mut u32,
+        looks: &mut Looks,
+        patterns: &Patterns,
+        subject: &[u8],
+        limit: u32,
+    )
+        requires stands { Stands patterns.now subject.now looks.old limit steps.old (points self.old) }
+        ensures looks { AreTrue patterns.now subject.now looks.new }
+        ensures leads { LeadsOn patterns.now subject.now limit (points self.old) steps.old (points self.new) steps.new }
+        ensures records { records self.new + 2 * steps.old ≤ records self.old + 2 * steps.new };
 
     /// The newest point is dropped.
     fn pop(&mut self)

@@ -7,30 +7,32 @@ ghost use Rattle.sno_match.specs.inner.Shared.{Falls, Fits, Extends, goals_of, m
 use crate::event::Pending;
 use crate::goal::{Goal, Mark, Top};
 use crate::points::Points;
+use crate::silent::take_steps;
+use sno_pattern::{Looks, Patterns};
 use std::alloc::{AllocError, Global};
 use std::marker::Model;
 
 /// A goal, and the list behind it.
 #[derive(Clone, Copy, Drop)]
-struct GoalRecord {
-    goal: Goal,
+pub(crate) struct GoalRecord {
+    pub goal: Goal,
     /// The number of the record behind, which is a smaller one, or 0 where no goal is left.
-    behind: u32,
+    pub behind: u32,
 }
 
 /// A resumption point. Its lists are numbers, and all its numbers have 32 bits, since a match may hold many points.
 #[derive(Clone, Copy, Drop)]
-struct Held {
+pub(crate) struct Held {
     /// The number of its first goal's record, or 0 where no goal is left.
-    goals: u32,
+    pub goals: u32,
     /// Where the first goal begins.
-    cursor: u32,
+    pub cursor: u32,
     /// Where the next alternative of the first goal goes on, if it was entered.
-    next: Option<u32>,
+    pub next: Option<u32>,
     /// The points below it need no record past this number.
-    floor: u32,
+    pub floor: u32,
     /// How many entries of the pending list are its own: the first ones.
-    assigned: u32,
+    pub assigned: u32,
 }
 
 /// A stack of points: the newest, and those below it with the newest of them last. Record k has the number k + 1.
@@ -191,6 +193,29 @@ impl Points for SharedGoals {
         }
     }
 
+    fn take_silent_steps(
+        &mut self,
+        steps: &mut u32,
+        looks: &mut Looks,
+        patterns: &Patterns,
+        subject: &[u8],
+        limit: u32,
+    ) {
+        let went = take_steps(
+            &mut self.records,
+            &mut self.pending,
+            &mut self.below,
+            self.top,
+            looks,
+            patterns,
+            subject,
+            *steps,
+            limit,
+        );
+        self.top = went.top;
+        *steps = went.steps;
+    }
+
     fn pop(&mut self) {
         if let Some(point) = self.top {
             self.top = self.below.pop();
@@ -324,7 +349,8 @@ fn drop_newer(below: &mut Vec<Held>, count: usize, floor: u32) -> u32
     least
 }
 
-fn larger(first: u32, second: u32) -> u32
+#[inline(always)]
+pub(crate) fn larger(first: u32, second: u32) -> u32
     ensures first { first ≤ result }
     ensures second { second ≤ result }
     ensures least { (n : ℕ) → first ≤ n → second ≤ n → result ≤ n }

@@ -4,7 +4,7 @@ use Rattle.std.proofs.Common.{slice_get, ◌≢◌, ◌==◌, ◌&&◌, nat_eq, 
 use Rattle.std.specs.List.{starts_with}
 use Rattle.sno_value.specs.declared.kind.PrimitiveKind.{PrimitiveKind}
 use Rattle.sno_value.specs.declared.kind.PrimitiveKind.TheVariants.{Len, Pos, Rpos, Tab, Rtab, Any, NotAny, Span, Break, BreakX}
-use Rattle.sno_pattern.specs.Pattern.{Pattern, Arb, Leaf}
+use Rattle.sno_pattern.specs.Pattern.{Pattern, Arb, Leaf, Text}
 use Rattle.sno_pattern.specs.Ends.{is_in, count_from, end_if, end_after, run_length, first_in, ends, count_ends, set_ends}
 use Rattle.sno_pattern.specs.Table.{Node, LeafNode, FenceNode, CutNode, AbortNode, SucceedNode, ArbnoNode, AltNode, CatNode, CondNode, ImmNode, PlaceNode}
 use Rattle.sno_pattern.specs.Table.{DeferNode, tree_over, trees_onto, tree}
@@ -100,6 +100,15 @@ first_in-one set c (byte ∷ bytes) i h = go (is_in set byte) (first_in-one set 
     go : (b : Bool) → None ≡ slice_get (first_in set (c + 1) bytes) i → None ≡ slice_get (if b then c ∷ [] else first_in set (c + 1) bytes) i
     go true e = end_if-one true c i h
     go false e = e
+
+pub one_text_end : (bytes s : List ℕ) (c : ℕ) → slice_get (ends (Text bytes) s c) 1 ≡ None
+one_text_end bytes s c = sym (end_if-one (starts_with nat_eq (drop c s) bytes) (c + length bytes) 1 (λ e. omega arith))
+
+pub one_any_end : (set s : List ℕ) (c : ℕ) → slice_get (set_ends Any set s c) 1 ≡ None
+one_any_end set s c = sym (end_after-one (is_in set) (slice_get s c) c 1 (λ e. omega arith))
+
+pub one_not_any_end : (set s : List ℕ) (c : ℕ) → slice_get (set_ends NotAny set s c) 1 ≡ None
+one_not_any_end set s c = sym (end_after-one (λ byte. not (is_in set byte)) (slice_get s c) c 1 (λ e. omega arith))
 
 pub one_count_end : (prim : PrimitiveKind) (n : ℕ) (s : List ℕ) (c i : ℕ) → i ≢ 0 → None ≡ slice_get (count_ends prim n s c) i
 one_count_end Len n s c i h = end_if-one (nat_le (c + n) (length s)) (c + n) i h

@@ -1,5 +1,5 @@
 -- What a shape says of a number.
-use Rattle.std.specs.Prelude.{ℕ, ◌<◌, ◌≡◌, List, Option, None, Some, slice_get}
+use Rattle.std.specs.Prelude.{ℕ, ◌<◌, ◌≤◌, ◌+◌, ◌≡◌, List, Option, None, Some, length, slice_get}
 use Rattle.sno_pattern.specs.Pattern.{Pattern, Primitive, Leaf, Fence, Cut, Abort, Succeed, Arbno, Alt, Cat, Cond, Imm}
 use Rattle.sno_pattern.specs.Pattern.{Place, Defer}
 use Rattle.sno_pattern.specs.Ends.{ends}
@@ -9,6 +9,8 @@ use Rattle.sno_value.specs.declared.ids.PatId.{PatId}
 use Rattle.sno_value.specs.declared.ids.ExprId.{ExprId}
 use Rattle.sno_pattern.specs.declared.shape.Shape.{Shape}
 use Rattle.sno_pattern.specs.declared.shape.Shape.TheVariants as S
+use Rattle.sno_pattern.specs.declared.head.Head.{Head}
+use Rattle.sno_pattern.specs.declared.head.Head.TheVariants as H
 
 -- the head of the tree, and the numbers of its parts
 abbrev pub HasShape : List Node → ℕ → Shape → Type 0
@@ -39,3 +41,16 @@ end_of pattern s c i = None
 
 abbrev pub IsPrimitive : Pattern → Type 0
 IsPrimitive pattern = (a : Primitive) × (pattern ≡ Leaf a)
+
+-- what a tree comes to at a cursor: the first two ends of a primitive, or its shape
+abbrev pub HasHead : List Node → ℕ → List ℕ → ℕ → Head → Type 0
+HasHead nodes id s c (H.Ends first next) =
+    IsPrimitive (tree nodes id) × (end_of (tree nodes id) s c 0 ≡ first) × (end_of (tree nodes id) s c 1 ≡ next)
+HasHead nodes id s c (H.Other shape) = HasShape nodes id shape
+
+-- the end that a primitive has behind another, or the shape of the tree
+abbrev pub GoesOnAs : List Node → ℕ → List ℕ → ℕ → Head → Type 0
+GoesOnAs nodes id s last (H.Ends first next) =
+    IsPrimitive (tree nodes id)
+    × ((c i : ℕ) → c ≤ length s → end_of (tree nodes id) s c i ≡ Some last → end_of (tree nodes id) s c (i + 1) ≡ next)
+GoesOnAs nodes id s last (H.Other shape) = HasShape nodes id shape

@@ -92,6 +92,7 @@ impl ByteSet {
         self.eight = None;
     }
 
+    #[inline(always)]
     pub(crate) fn contains(&self, byte: u8) -> bool
         ensures { result ≡ is_in self.now byte }
     {

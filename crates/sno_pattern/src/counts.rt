@@ -6,6 +6,7 @@ ghost use Rattle.sno_pattern.specs.Ends.{count_ends};
 use sno_value::Prim;
 
 /// The end of a primitive with its count.
+#[inline(always)]
 pub(crate) fn count_end(prim: Prim, n: u64, subject: &[u8], at: usize) -> Option<usize>
     requires { at ≤ length subject.now }
     ensures { result ≡ slice_get (count_ends prim n subject.now at) 0 }

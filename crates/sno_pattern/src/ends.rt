@@ -82,6 +82,7 @@ pub(crate) fn first_end(kind: &Kind, subject: &[u8], at: usize) -> Option<usize>
 }
 
 /// A text: the place behind it, if it stands at the cursor.
+#[inline(always)]
 pub(crate) fn text_end(text: &[u8], subject: &[u8], at: usize) -> Option<usize>
     requires { at ≤ length subject.now }
     ensures { result ≡ slice_get (ends (Text text.now) subject.now at) 0 }

@@ -1,10 +1,10 @@
 //! Patterns as a table of numbered nodes, and the ends of primitive patterns.
 //!
 //! `table` has the builders and the look-ups, and `kind` is what it stores of a node; `shape` shows the head of a
-//! pattern. `argument` is what a primitive takes: a count or a set of bytes (`byte_set`). `ends` says where a
-//! primitive ends behind a cursor, by `counts`, `sets` and `balance` (with its `balance_table`), and `places` where
-//! the next end is; `first_bytes` are the bytes with which it begins. `looks` keeps what the looks through one subject
-//! have found out, and `lanes` looks at 32 bytes at a time.
+//! pattern, and `head` what it comes to at a cursor. `argument` is what a primitive takes: a count or a set of bytes
+//! (`byte_set`). `ends` says where a primitive ends behind a cursor, by `counts`, `sets` and `balance` (with its
+//! `balance_table`), and `places` where the next end is; `first_bytes` are the bytes with which it begins. `looks` keeps
+//! what the looks through one subject have found out, and `lanes` looks at 32 bytes at a time.
 #![tactic(auto)]
 
 mod argument;
@@ -14,6 +14,7 @@ mod byte_set;
 mod counts;
 mod ends;
 mod first_bytes;
+mod head;
 mod kind;
 mod lanes;
 mod looks;
@@ -25,6 +26,7 @@ mod table;
 pub use argument::Arg;
 pub use byte_set::ByteSet;
 pub use first_bytes::Beginning;
+pub use head::Head;
 pub use lanes::{first_in, first_not_in};
 pub use looks::Looks;
 pub use places::place_in_set;

@@ -78,7 +78,8 @@ pub(crate) fn any_end(set: &ByteSet, subject: &[u8], at: usize) -> Option<usize>
 }
 
 /// NOTANY(s): the place behind the byte at the cursor, if there is one and it is not in the set.
-fn not_any_end(set: &ByteSet, subject: &[u8], at: usize) -> Option<usize>
+#[inline(always)]
+pub(crate) fn not_any_end(set: &ByteSet, subject: &[u8], at: usize) -> Option<usize>
     ensures { result ≡ slice_get (set_ends NotAny set.now subject.now at) 0 }
 {
     if at < subject.len() && !set.contains(subject[at]) {

@@ -4,7 +4,7 @@ ghost use Rattle.std.specs.Prelude.{Some, None, IfOk, IfErr};
 ghost use Rattle.std.specs.Prelude.{IfSome, OnOk, OnErr, IsErrOf, IsTrue, Contains, false};
 ghost use Rattle.sno_pattern.specs.Pattern.{Text, Arb, Bal, Rem, Fail, Leaf, Fence, Cut, Abort, Succeed, Arbno, Alt};
 ghost use Rattle.sno_pattern.specs.Pattern.{Cat, Cond, Imm, Place, Defer, IsQuiet};
-ghost use Rattle.sno_pattern.specs.Shape.{HasShape, IsPrimitive, end_of};
+ghost use Rattle.sno_pattern.specs.Shape.{HasShape, HasHead, GoesOnAs, IsPrimitive, end_of};
 ghost use Rattle.sno_pattern.specs.Table.{tree, tree_over, trees_onto, LeafNode, FenceNode, AbortNode, SucceedNode};
 ghost use Rattle.sno_pattern.specs.Table.{CutNode, ArbnoNode, AltNode, CatNode, CondNode, ImmNode, PlaceNode};
 ghost use Rattle.sno_pattern.specs.Table.{DeferNode};
@@ -23,6 +23,7 @@ use crate::ends::{end_behind_of_kind, end_of_kind, has_one_end};
 use crate::first_bytes::{
     Beginning, add_first_bytes_of_kind, first_bytes_of_choice, kind_fails_at,
 };
+use crate::head::{Head, behind_in_arb, head_of_kind};
 use crate::kind::{Entry, Kind, is_quiet_over, number_behind, shape_of_kind};
 use crate::looks::{Looks, Run, is_far, is_near, last_with_end, slot_behind, slot_of_first};
 use crate::places::first_place_of_kind;
@@ -265,6 +266,33 @@ impl Patterns {
         ensures { HasShape self.now id.0 result }
     {
         shape_of_kind(&self.entries[id.0 as usize].kind)
+    }
+
+    /// What a number's tree comes to at a cursor.
+    #[inline(always)]
+    pub fn head(&self, id: PatId, subject: &[u8], at: usize) -> Head
+        requires id { id.0 < length self.now }
+        requires at { at ≤ length subject.now }
+        ensures { HasHead self.now id.0 subject.now at result }
+    {
+        head_of_kind(&self.entries[id.0 as usize].kind, subject, at)
+    }
+
+    /// The head of a number's tree; for ARB its end behind `last`.
+    #[inline(always)]
+    pub fn head_behind(&self, id: PatId, subject: &[u8], last: usize) -> Head
+        requires { id.0 < length self.now }
+        ensures { GoesOnAs self.now id.0 subject.now last result }
+    {
+        let kind = &self.entries[id.0 as usize].kind;
+        match kind {
+            Kind::Arb => {
+                let first = Some(last);
+                let next = behind_in_arb(subject, last);
+                Head::Ends { first, next }
+            }
+            _ => Head::Other(shape_of_kind(kind)),
+        }
     }
 
     /// Whether a number's tree has no deferred part, bare FENCE, ABORT or SUCCEED. A FENCE(P) is as quiet as its P.

@@ -3,7 +3,7 @@ ghost use Rattle.std.specs.Prelude.{◌≡◌, ◌<◌, ◌+◌, false, length, 
 
 use super::driver::{begin, next_event};
 use sno_match::{CopiedGoals, Engine, Event, Goal, Pending, Points, SharedGoals, Top};
-use sno_pattern::{BuildError, Patterns};
+use sno_pattern::{BuildError, Looks, Patterns};
 use sno_value::PatId;
 use std::alloc::{AllocError, Global};
 use std::process::Abort;
@@ -82,6 +82,16 @@ impl<P: Points> Points for Refusing<P> {
     fn cut(&mut self, depth: usize) {
         self.inner.cut(depth)
     }
+
+    /// None, so that each growth is asked for here.
+    fn take_silent_steps(
+        &mut self,
+        _steps: &mut u32,
+        _looks: &mut Looks,
+        _patterns: &Patterns,
+        _subject: &[u8],
+        _limit: u32,
+    ) {}
 
     fn pop(&mut self) {
         self.inner.pop()

@@ -68,7 +68,7 @@ returns-in_err-event-clause-same g c =
     c.self.inside.limit c.self.inside.answers.items c.self.inside.told c.self.inside.steps c.self.inside.state c.self.inside.way.items
     (g.P.Points.points c.self.inside.points) (g.P.Points.records c.self.inside.points) c.self.inside.start c.self.view_is c.self.invariant.0
     c.of-self-inside.result.value c.args.patterns.now c.of-self-inside.ensures c.requires.table in
-    let goes = c.loop-event.invariant in
+    let goes = laws.goes_then _ _ _ c.loop-event.invariant c.go_silently.ensures.goes in
     laws.same_then _ _ _ (laws.same_then _ _ _ same goes.same) c.in_err-event.ensures.err.same
 
 pub returns-in_err-event-clause-err : goal.returns-in_err-event-clause-err
@@ -78,7 +78,7 @@ returns-in_err-event-clause-err g c =
     (g.P.Points.points c.self.inside.points) (g.P.Points.records c.self.inside.points) c.self.inside.start c.self.view_is c.self.invariant.0
     c.of-self-inside.result.value c.args.patterns.now c.of-self-inside.ensures c.requires.table
     c.requires.asked c.in_default.not-Ended in
-    let goes = c.loop-event.invariant in
+    let goes = laws.goes_then _ _ _ c.loop-event.invariant c.go_silently.ensures.goes in
     let far = laws.stays_then _ _ _ stays goes.stays in
     let p = err_from_is_err_and c.from_residual.result c.from_residual.ensures.1 in
     rw p.1 (laws.stays_then _ _ _ far c.in_err-event.ensures.err.stays)
@@ -108,7 +108,7 @@ returns-in-Some g c =
     (g.P.Points.points c.self.inside.points) (g.P.Points.records c.self.inside.points) c.self.inside.start c.self.view_is c.self.invariant.0
     c.of-self-inside.result.value c.args.patterns.now c.of-self-inside.ensures c.requires.table
     c.requires.asked c.in_default.not-Ended in
-    let goes = c.loop-event.invariant in
+    let goes = laws.goes_then _ _ _ c.loop-event.invariant c.go_silently.ensures.goes in
     let far = laws.stays_then _ _ _ stays goes.stays in
     let told = laws.told_then _ _ _ c.in-Some.event far moves.2 in
     record {

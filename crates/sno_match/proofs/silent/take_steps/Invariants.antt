@@ -1,0 +1,18 @@
+use Rattle.std.proofs.Common.{◌≤◌, ◌+◌, ◌-◌, ◌*◌, length}
+use Rattle.sno_pattern.specs.Looks.{AreTrue}
+use Rattle.sno_match.specs.inner.Shared.{Holds, points_of}
+use Rattle.sno_match.specs.inner.Move.{LeadsOn}
+use Rattle.sno_match.proofs.silent.take_steps.Given as goal
+
+-- the steps so far lead to the stack with this newest point
+abbrev pub invariant-steps : goal.invariant-steps
+invariant-steps l = record {
+  holds : Holds l.records.items l.pending.items l.top l.below.items;
+  looks : AreTrue l.patterns l.subject l.looks;
+  leads : LeadsOn l.patterns l.subject l.limit (points_of l.initial.records.items l.initial.pending.items l.fn.newest l.initial.below.items) l.taken
+      (points_of l.records.items l.pending.items l.top l.below.items) l.steps;
+  records : length l.records.items + 2 * l.taken ≤ length l.initial.records.items + 2 * l.steps;
+}
+
+abbrev pub decreases-steps : goal.decreases-steps
+decreases-steps l = l.limit - l.steps
