@@ -10,14 +10,12 @@ use Rattle.sno_match.specs.declared.goal.Mark.{Mark}
 use Rattle.sno_match.specs.declared.goal.Mark.TheVariants.{Enter, Next}
 use Rattle.sno_match.specs.declared.goal.Top.{Top}
 use Rattle.sno_match.specs.declared.goal.Top.TheVariants as T
-use Rattle.sno_match.specs.declared.plan.Front.TheVariants.{Two}
-use Rattle.sno_match.specs.declared.plan.Plan.TheVariants as P
 use Rattle.sno_match.specs.Point.{Point, replaced}
 use Rattle.sno_match.specs.Top.{IsTop}
 use Rattle.sno_match.specs.inner.Plan.{point_at}
 use Rattle.sno_match.specs.inner.Remaining.{goals_of, remaining, resume, IsStack, HasPoint, MarkFits}
 use Rattle.sno_match.specs.inner.Scopes.{HasCuts}
-use Rattle.sno_match.specs.inner.Move.{Makes, EnteredGivesWay, EntersParts, LeadsOn, Steps}
+use Rattle.sno_match.specs.inner.Move.{Makes, EnteredGivesWay, LeadsOn, Steps}
 use Rattle.sno_match.proofs.CutMoves.{cuts-later}
 use Rattle.sno_match.proofs.ReadingLaws.{emit-none}
 use Rattle.sno_match.proofs.MoveLaws as laws
@@ -63,20 +61,6 @@ module _ (nodes : List Node) (s : List ℕ) (limit : ℕ) where
       leads = λ start answers. first.leads start answers ∙ second.leads start answers;
     }
 
-    -- a move behind such steps is one move
-    pub move_behind : (start : ℕ) (was way : List Pending) (told : Option Told) → LeadsOn nodes s limit old steps0 mid steps1
-        → Makes nodes s start limit mid steps1 was told new steps way → Makes nodes s start limit old steps0 was told new steps way
-    move_behind start was way told first made = record {
-      steps_in = made.steps_in;
-      paid = omega (arith, first.paid, made.paid);
-      grows = omega (arith, first.grows, made.grows);
-      falls = λ none. let less = made.falls none in omega (arith, less, first.falls, first.paid);
-      more = made.more;
-      asked = made.asked;
-      pending = made.pending;
-      leads = λ answers. first.leads start answers ∙ made.leads answers;
-    }
-
 -- one step that tells nothing
 pub step_leads : (nodes : List Node) (s : List ℕ) (old new : List Point) (goal : Numbered) (goals : List Numbered) (c : ℕ) (pending : List Pending)
     (mark : Mark) (rest : List Point) → old ≡ point_at goal goals c pending mark ∷ rest → (limit steps : ℕ) → steps < limit → IsStack nodes s old
@@ -96,20 +80,6 @@ step_leads nodes s old new goal goals c pending mark rest is limit steps due st 
           step.carried;
       leads = λ start answers. (made start).leads answers ∙ emit-none (remaining nodes s start new answers left);
     }
-
--- one step that enters the first part of the pattern at the top
-module _ (nodes : List Node) (old new : List Point) (id first : PatId) (second : Numbered) (c : ℕ)
-    (top : IsTop old (T.Open (N.Match id) c Enter)) (is : new ≡ replaced (N.Match first ∷ second ∷ []) c old) where
-  pub part_top : IsTop new (T.Open (N.Match first) c Enter)
-  part_top = (second ∷ top.0, top.1, top.2, is ∙ ap (replaced (N.Match first ∷ second ∷ []) c) top.3)
-
-  pub part_entered : (s : List ℕ) (limit steps : ℕ) → steps < limit → EntersParts nodes id c first second → IsStack nodes s old
-      → HasCuts nodes (limit - steps) old → LeadsOn nodes s limit old steps new (steps + 1)
-  part_entered s limit steps due enters st cuts =
-      let plan = P.Replace (Two (N.Match first) second) c in
-      let inside = (laws.fits_at nodes s old (N.Match id) top.0 c top.1 Enter top.2 top.3 st).inside in
-      step_leads nodes s old new (N.Match id) top.0 c top.1 Enter top.2 top.3 limit steps due st cuts
-      (record { plan = plan; is_plan = enters.is_plan s inside; scopes = enters.scopes; carried = (refl, is) })
 
 -- a choice that is entered gives way to what is left of it
 passed_here : (nodes : List Node) (s : List ℕ) (limit steps cost : ℕ) (goal : Numbered) (goals : List Numbered) (c : ℕ) (pending : List Pending) (mark : Mark)

@@ -4,9 +4,8 @@
 //! (`points`) has what is still to be tried, the newest first: in `shared`, which is in use, the points share their
 //! lists of goals; in `copied`, which stands beside it, each has its own. `steps` finds what the step of the newest
 //! point's first goal comes to, which is a `plan` and is carried out at once, by one operation of the stack; `moves`
-//! counts the step; `parts` enters the first parts of a pattern with no look at the point between them; `silent` takes
-//! steps that tell nothing one after another, with the newest point in hand (`hand`); `engine` is the loop over moves and
-//! starts, up to the next event (`event`). `laws` has what is true of every match.
+//! counts the step; `silent` takes steps that tell nothing one after another, with the newest point in hand (`hand`);
+//! `engine` is the loop over moves and starts, up to the next event (`event`). `laws` has what is true of every match.
 #![tactic(auto)]
 
 mod bytes;
@@ -17,7 +16,6 @@ mod goal;
 mod hand;
 mod laws;
 mod moves;
-mod parts;
 mod plan;
 mod points;
 mod shared;

@@ -6,7 +6,6 @@ ghost use Rattle.sno_match.specs.inner.Move.{IsAtTop, Stands, Makes, LeadsOn, En
 
 use crate::event::{Event, Pending};
 use crate::goal::{Goal, Mark, Top};
-use crate::parts::first_goal;
 use crate::points::Points;
 use crate::starts::{Sides, sides_in_vain};
 use crate::steps::{Due, due_at, take_step};
@@ -14,9 +13,9 @@ use sno_pattern::{Looks, Patterns, Shape};
 use sno_value::PatId;
 use std::alloc::AllocError;
 
-/// Does what is due at the newest point, and tells at most one event: a step is taken, or several where it enters a
-/// pattern's first parts. Where memory is refused none is told, and nothing has changed but that such steps may have
-/// been taken. Where a step is due and none is left, the event is `Limit`.
+/// Does what is due at the newest point, and tells at most one event: a step is taken, or several where they pass sides
+/// of a choice that fail at once. Where memory is refused none is told and nothing has changed. Where a step is due and
+/// none is left, the event is `Limit`.
 pub(crate) fn make_move<P: Points>(
     points: &mut P,
     steps: &mut u32,
@@ -66,7 +65,7 @@ pub(crate) fn make_move<P: Points>(
     }
 }
 
-/// Takes the step that is due at the newest point, and before it those that enter its pattern's first parts.
+/// Takes the step that is due at the newest point, or those that pass a choice's sides which fail at once.
 #[inline(always)]
 fn make_step<P: Points>(
     points: &mut P,
@@ -89,9 +88,8 @@ fn make_step<P: Points>(
     ensures err { OnErr result (LeadsOn patterns.now subject.now limit (P.points points.old) steps.old
         (P.points points.new) steps.new) }
 {
-    let first = first_goal(points, steps, patterns, goal, cursor, mark, limit)?;
     let left = limit - *steps;
-    if let Some(rest) = lone_sides_in_vain(points, patterns, subject, first, cursor, mark, left) {
+    if let Some(rest) = lone_sides_in_vain(points, patterns, subject, goal, cursor, mark, left) {
         points.replace(&[Goal::Match(rest.id)], cursor)?;
         *steps += rest.steps;
         return Ok(None);
@@ -103,7 +101,7 @@ fn make_step<P: Points>(
         patterns,
         looks,
         subject,
-        first,
+        goal,
         cursor,
         mark,
         left - 1,

@@ -94,12 +94,6 @@ pub record Steps (nodes : List Node) (s : List ℕ) (goal : Goal) (c : ℕ) (mar
   pub scopes : KeepsScopes nodes goal plan
   pub carried : CarriesOut plan c left old told new
 
--- a pattern whose step puts its first part and a goal behind that in its place
-pub record EntersParts (nodes : List Node) (id : PatId) (c : ℕ) (first : PatId) (second : Goal) : Type 0 where
-  pub known : first.0 < length nodes
-  pub is_plan : (s : List ℕ) → c ≤ length s → IsPlan nodes s (Match id) c Enter (P.Replace (Two (Match first) second) c)
-  pub scopes : KeepsScopes nodes (Match id) (P.Replace (Two (Match first) second) c)
-
 -- steps from one stack to another that tell nothing, at most one more point for each
 pub record LeadsOn (nodes : List Node) (s : List ℕ) (limit : ℕ) (old : List Point) (steps0 : ℕ) (new : List Point)
     (steps : ℕ) : Type 0 where
