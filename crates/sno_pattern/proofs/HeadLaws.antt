@@ -1,11 +1,11 @@
 -- What a look at a node tells of its tree.
-use Rattle.std.proofs.Common.{◌≡◌, ℕ, suc, ◌+◌, ◌<◌, ◌≤◌, List, [], length, drop, get_or, slice_get, Option, Some, None, refl, sym, ◌∙◌, ap, subst, arith}
+use Rattle.std.proofs.Common.{◌≡◌, ℕ, ◌+◌, ◌<◌, ◌≤◌, List, [], length, get_or, slice_get, Option, Some, sym, ◌∙◌, ap, subst}
 use Rattle.sno_pattern.specs.Pattern.{Arb}
 use Rattle.sno_pattern.specs.Ends.{ends}
-use Rattle.sno_pattern.specs.Table.{Node, tree_over, trees_onto, tree}
+use Rattle.sno_pattern.specs.Table.{tree_over, trees_onto, tree}
 use Rattle.sno_pattern.specs.inner.Kinds.{node_of, nodes_of, IsTable}
 use Rattle.sno_pattern.specs.Shape.{HasShape, HasHead, GoesOnAs, end_of}
-use Rattle.sno_pattern.specs.inner.Shape.{shape_of, end_of_node, IsHead}
+use Rattle.sno_pattern.specs.inner.Shape.{end_of_node, IsHead}
 use Rattle.sno_pattern.specs.declared.head.Head.{Head}
 use Rattle.sno_pattern.specs.declared.head.Head.TheVariants as H
 use Rattle.sno_pattern.specs.declared.kind.Kind.TheVariants as K

@@ -1,5 +1,5 @@
 -- The newest point in hand, and silent steps with it. These words are private to the matcher.
-use Rattle.std.specs.Prelude.{ℕ, ◌≡◌, ◌≤◌, ◌<◌, ◌+◌, ◌-◌, Bool, true, false, List, [], ◌∷◌, Option, Some, None, length}
+use Rattle.std.specs.Prelude.{ℕ, ◌≡◌, ◌≤◌, ◌<◌, ◌+◌, ◌-◌, Bool, true, false, List, ◌∷◌, Option, Some, None, length}
 use Rattle.sno_pattern.specs.Table.{Node}
 use Rattle.sno_match.specs.declared.event.Pending.{Pending}
 use Rattle.sno_match.specs.declared.goal.Goal.{Goal}
@@ -8,7 +8,6 @@ use Rattle.sno_match.specs.declared.plan.Plan.{Plan}
 use Rattle.sno_match.specs.declared.shared.GoalRecord.{GoalRecord}
 use Rattle.sno_match.specs.declared.shared.Held.{Held}
 use Rattle.sno_match.specs.Point.{rest_of}
-use Rattle.sno_match.specs.inner.Remaining.{IsStack}
 use Rattle.sno_match.specs.inner.Scopes.{HasCuts}
 use Rattle.sno_match.specs.inner.Shared.{goals_of, Holds, points_of}
 use Rattle.sno_match.specs.inner.Move.{CarriesOut, Steps, LeadsOn}

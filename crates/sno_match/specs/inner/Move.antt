@@ -16,7 +16,6 @@ use Rattle.sno_match.specs.declared.event.Event.TheVariants as V
 use Rattle.sno_match.specs.declared.event.Pending.{Pending}
 use Rattle.sno_match.specs.declared.engine.State.{State}
 use Rattle.sno_match.specs.declared.engine.State.TheVariants as S
-use Rattle.sno_match.specs.declared.plan.Front.TheVariants.{Two}
 use Rattle.sno_match.specs.declared.plan.Plan.{Plan}
 use Rattle.sno_match.specs.declared.plan.Plan.TheVariants as P
 use Rattle.sno_match.specs.Search.{Event, Answer, Gives, Search, emit}

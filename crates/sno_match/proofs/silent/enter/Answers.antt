@@ -1,6 +1,5 @@
-use Rattle.std.proofs.Common.{arith, ◌≡◌, ◌<◌, ◌≤◌, length, Some, None, refl, sym, ◌∙◌}
+use Rattle.std.proofs.Common.{arith, ◌<◌, length, Some, None, refl, sym, ◌∙◌}
 use Rattle.sno_pattern.specs.Pattern.{Alt, Arbno}
-use Rattle.sno_pattern.specs.Shape.{end_of}
 use Rattle.sno_pattern.specs.Table.{tree}
 use Rattle.sno_pattern.proofs.ShapeLaws.{end_of-range, IfSome-to}
 use Rattle.sno_match.specs.declared.goal.Goal.TheVariants as N

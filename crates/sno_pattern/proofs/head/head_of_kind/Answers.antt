@@ -1,7 +1,6 @@
 use Rattle.std.proofs.Common.{◌≡◌, ◌+◌, Some, refl, slice_get, sym, ◌∙◌, ap, subst, arith}
 use Rattle.sno_pattern.specs.Ends.{ends}
-use Rattle.sno_pattern.specs.Pattern.{Text, Counted, Among, Arb, Rem, Fail}
-use Rattle.sno_value.specs.declared.kind.PrimitiveKind.TheVariants.{Any, NotAny}
+use Rattle.sno_pattern.specs.Pattern.{Text, Arb, Rem, Fail}
 use Rattle.sno_pattern.proofs.ShapeLaws.{arb_end, one_text_end, one_count_end, one_any_end, one_not_any_end}
 use Rattle.sno_pattern.proofs.head.head_of_kind.Goals as goal
 
