@@ -1,5 +1,5 @@
 //! A string of bytes.
-ghost use Rattle.std.specs.Prelude.{◌≡◌, ◌+◌, ◌++◌, ◌≤◌, [], IfOk, length, slice_range};
+ghost use Rattle.std.specs.Prelude.{◌≡◌, ◌+◌, ◌++◌, ◌≤◌, [], IfOk, OnOk, OnErr, length, slice_range, take};
 
 use std::alloc::{AllocError, Global};
 use std::hash::{Hash, Hasher};
@@ -159,6 +159,39 @@ impl Text {
         }
         Text::from_slice(alloc, &self.as_slice()[start..end])
     }
+
+    /// Puts bytes behind the string. Where it is the only one in its block they go there, into room that doubles when it
+    /// is used up; else both are copied to a new block. Where memory is refused the string stays as it was.
+    pub fn append(&mut self, alloc: Global, bytes: &[u8]) -> Result<(), AllocError>
+        ensures ok { OnOk result (self.new ≡ self.old ++ bytes.now) }
+        ensures err { OnErr result (self.new ≡ self.old) }
+    {
+        if let Held::Shared(block, start, end) = &mut self.held
+            && let Some(own) = Rc::get_mut(block)
+            && (*start == 0 || bytes.len() <= own.capacity() - *end as usize)
+        {
+            *end = append_at(own, *end, bytes)?;
+            return Ok(());
+        }
+        let longer = Text::joined(alloc, self.as_slice(), bytes)?;
+        *self = longer;
+        Ok(())
+    }
+}
+
+/// Puts bytes into a block at a place, where all that stands behind it is cut off. The place behind them.
+fn append_at(block: &mut Vec<u8>, place: u32, bytes: &[u8]) -> Result<u32, AllocError>
+    requires { place ≤ length block.old.items }
+    ensures ok { IfOk result (λ behind. (block.new.items ≡ take place block.old.items ++ bytes.now)
+        × (behind ≡ place + length bytes.now)) }
+    ensures err { OnErr result (block.new.items ≡ take place block.old.items) }
+{
+    block.truncate(place as usize);
+    let Ok(behind) = u32::try_from(block.len().saturating_add(bytes.len())) else {
+        return Err(AllocError);
+    };
+    block.extend_from_slice(bytes)?;
+    Ok(behind)
 }
 
 /// A short string of these bytes and then others.

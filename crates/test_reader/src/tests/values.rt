@@ -4,6 +4,7 @@ ghost use Rattle.std.specs.Prelude.{◌≡◌, ◌↔◌, IsTrue};
 use sno_value::{ExprId, Name, ObjId, PatId, Prim, SymId, Text, Value};
 use std::alloc::{AllocError, Global};
 use std::mem::size_of;
+use std::slice::from_ref;
 use std::test::Fail;
 
 // `==` tells just whether two values are equal.
@@ -133,6 +134,61 @@ fn last_letters(alloc: Global) -> Result<Text, AllocError> {
     let letters = Text::from_slice(alloc, b"abcdefghijklmnopqrstuvwxyz")?;
     let length = letters.as_slice().len();
     letters.part(alloc, length.min(3), length)
+}
+
+#[test]
+fn appends_to_strings(rt: HostRuntime) -> Result<(), Fail> {
+    for text in &STRINGS {
+        let bytes = text.as_bytes();
+        for at in 0..=bytes.len() {
+            let mut string = Text::from_slice(rt.alloc(), &bytes[..at])?;
+            string.append(rt.alloc(), &bytes[at..])?;
+            assert!(rt; string.as_slice() == bytes, "{text} {at}");
+        }
+        let mut string = Text::null();
+        for byte in bytes {
+            string.append(rt.alloc(), from_ref(byte))?;
+        }
+        assert!(rt; string.as_slice() == bytes, "{text}");
+    }
+    Ok(())
+}
+
+/// What is appended to a string is seen neither in its copies nor in its parts, nor in what it is a part of.
+#[test]
+fn appends_to_one_of_many(rt: HostRuntime) -> Result<(), Fail> {
+    let letters: &[u8] = b"abcdefghijklmnopqrstuvwxyzabcdef";
+    let mut whole = Text::from_slice(rt.alloc(), letters)?;
+    whole.append(rt.alloc(), b"gh")?;
+    let copy = whole.copy()?;
+    let mut first = whole.part(rt.alloc(), 0, 26)?;
+    let mut last = whole.part(rt.alloc(), 8, 34)?;
+    whole.append(rt.alloc(), b"1")?;
+    first.append(rt.alloc(), b"2")?;
+    last.append(rt.alloc(), b"3")?;
+    assert!(rt; whole.as_slice() == b"abcdefghijklmnopqrstuvwxyzabcdefgh1".as_slice());
+    assert!(rt; first.as_slice() == b"abcdefghijklmnopqrstuvwxyz2".as_slice());
+    assert!(rt; last.as_slice() == b"ijklmnopqrstuvwxyzabcdefgh3".as_slice());
+    assert!(rt; copy.as_slice() == b"abcdefghijklmnopqrstuvwxyzabcdefgh".as_slice());
+    Ok(())
+}
+
+/// A part that is left alone in its block grows there, whether it begins or ends within it.
+#[test]
+fn appends_to_parts(rt: HostRuntime) -> Result<(), Fail> {
+    let wanted: &[u8] = b"defghijklmnopqrstuvwxyz0123456789012345678901234567890123456789";
+    let mut last = last_letters(rt.alloc())?;
+    for digit in &wanted[23..] {
+        last.append(rt.alloc(), from_ref(digit))?;
+    }
+    assert!(rt; last.as_slice() == wanted);
+    let mut first = last.part(rt.alloc(), 0, 30)?;
+    drop(last);
+    for digit in &wanted[30..] {
+        first.append(rt.alloc(), from_ref(digit))?;
+    }
+    assert!(rt; first.as_slice() == wanted);
+    Ok(())
 }
 
 /// A value takes four words, whatever it is.
