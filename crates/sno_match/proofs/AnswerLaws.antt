@@ -13,8 +13,9 @@ use Rattle.sno_match.specs.declared.engine.State.{State}
 use Rattle.sno_match.specs.declared.engine.State.TheVariants as S
 use Rattle.sno_match.specs.Search.{Answer, emit, further, whole}
 use Rattle.sno_match.specs.Point.{Point, with_front, rest_of, below, HasFirst}
-use Rattle.sno_match.specs.inner.Remaining.{AllKnown, AllMarked, Fits, IsStack}
-use Rattle.sno_match.specs.inner.Scopes.{FirstIsPlain, HasCuts}
+use Rattle.sno_match.specs.Remaining.{AllKnown, AllMarked, Fits, IsStack}
+use Rattle.sno_match.specs.Scopes.{HasCuts}
+use Rattle.sno_match.specs.inner.Scopes.{FirstIsPlain}
 use Rattle.sno_match.specs.inner.State.{waits}
 use Rattle.sno_match.specs.inner.Move.{answered}
 use Rattle.sno_match.specs.Matching.{Matching, answers_of, told_of, IsCounted, Begins}

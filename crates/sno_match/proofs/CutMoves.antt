@@ -14,7 +14,7 @@ use Rattle.sno_match.specs.declared.plan.Plan.TheVariants as P
 use Rattle.sno_match.specs.Point.{Point, with_front, branched, cut_back, below}
 use Rattle.sno_match.specs.inner.Plan.{IsPlan, IsCut, KeepsScopes, goals_in, point_at}
 use Rattle.sno_match.specs.inner.Move.{CarriesOut}
-use Rattle.sno_match.specs.inner.Scopes.{Scope, closes, opened_at, opened, opens, RiseFrom, HasCuts}
+use Rattle.sno_match.specs.Scopes.{Scope, closes, opened_at, opened, opens, RiseFrom, HasCuts}
 use Rattle.sno_match.proofs.CutLaws.{cut-keeps, cut-scoped, enter-scoped}
 
 pub closes-append : (xs ys : List Numbered) → closes (xs ++ ys) ≡ closes xs ++ closes ys

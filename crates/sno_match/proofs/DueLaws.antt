@@ -8,7 +8,7 @@ use Rattle.sno_match.specs.declared.goal.Goal.TheVariants as N
 use Rattle.sno_match.specs.declared.goal.Mark.{Mark}
 use Rattle.sno_match.specs.declared.goal.Mark.TheVariants.{Enter, Next}
 use Rattle.sno_match.specs.declared.steps.Due.TheVariants as D
-use Rattle.sno_match.specs.inner.Remaining.{MarkFits, HasNext}
+use Rattle.sno_match.specs.Remaining.{MarkFits, HasNext}
 use Rattle.sno_match.specs.inner.Plan.{IsDue, BacksIntoFence, BacksIntoCut}
 use Rattle.sno_match.specs.inner.Move.{HasStep, IsDueAs}
 use Rattle.sno_match.proofs.PlanLaws as plans

@@ -10,11 +10,12 @@ use Rattle.sno_match.specs.declared.engine.State.{State}
 use Rattle.sno_match.specs.declared.engine.State.TheVariants as S
 use Rattle.sno_match.specs.Point.{Point}
 use Rattle.sno_match.specs.Top.{first_point}
-use Rattle.sno_match.specs.inner.Remaining.{IsStack}
+use Rattle.sno_match.specs.Remaining.{IsStack}
 use Rattle.sno_match.specs.inner.State.{after, after_move, waits, ended, owed}
-use Rattle.sno_match.specs.inner.Move.{Makes, LeadsOn}
+use Rattle.sno_match.specs.Silent.{LeadsOn}
+use Rattle.sno_match.specs.inner.Move.{Makes}
 use Rattle.sno_match.specs.Matching.{Matching, IsCounted}
-use Rattle.sno_match.specs.inner.Scopes.{HasCuts}
+use Rattle.sno_match.specs.Scopes.{HasCuts}
 use Rattle.sno_match.specs.inner.Starts.{Passes}
 use Rattle.sno_match.specs.inner.Running.{later_starts, seen, IsMatch, Advances, GoesOn}
 use Rattle.sno_match.proofs.SessionLaws.{Leads, led, led_told, led_on, move_leads, steps_lead, exhausted_leads, limit_leads, start_leads}

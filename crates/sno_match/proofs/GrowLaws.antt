@@ -12,10 +12,11 @@ use Rattle.sno_match.specs.declared.engine.State.{State}
 use Rattle.sno_match.specs.declared.engine.State.TheVariants as S
 use Rattle.sno_match.specs.Search.{Match, CloseRepeat, Answer, SearchResult, emit, further, search, with_answer, whole, trace}
 use Rattle.sno_match.specs.Point.{Point, rest_of}
-use Rattle.sno_match.specs.inner.Remaining.{body_of, goal_of, goals_of, behind, behind_mark, from_mark, resume, remaining, waiting, IsKnown, AllKnown, AllFit}
-use Rattle.sno_match.specs.inner.Remaining.{MarkFits}
-use Rattle.sno_match.specs.inner.Remaining.{HasNext}
-use Rattle.sno_match.specs.inner.Scopes.{opened_at, opened, opens, AllScoped, RiseFrom, HasCuts}
+use Rattle.sno_match.specs.Remaining.{body_of, goal_of, goals_of, behind, behind_mark, from_mark, resume, remaining, IsKnown, AllKnown, AllFit}
+use Rattle.sno_match.specs.inner.Remaining.{waiting}
+use Rattle.sno_match.specs.Remaining.{MarkFits}
+use Rattle.sno_match.specs.Remaining.{HasNext}
+use Rattle.sno_match.specs.Scopes.{opened_at, opened, opens, AllScoped, RiseFrom, HasCuts}
 use Rattle.sno_match.specs.Matching.{Matching, answers_of, trace_of, Begins}
 use Rattle.sno_match.specs.inner.Running.{later, later_starts, to_come, AnswersIn, IsMatch}
 

@@ -13,7 +13,7 @@ use Rattle.sno_match.specs.declared.shared.GoalRecord.{GoalRecord}
 use Rattle.sno_match.specs.declared.shared.Held.{Held}
 use Rattle.sno_match.specs.Point.{rest_of}
 use Rattle.sno_match.specs.inner.Plan.{IsPlan, KeepsScopes, goals_in}
-use Rattle.sno_match.specs.inner.Remaining.{IsStack}
+use Rattle.sno_match.specs.Remaining.{IsStack}
 use Rattle.sno_match.specs.inner.Move.{Steps}
 use Rattle.sno_match.specs.inner.Shared.{goals_of, Falls, Fits, Holds, Extends, marked, point_of, points_of, held_of}
 use Rattle.sno_match.specs.inner.Hand.{IsFirst, IsBehind, Carries, Enters, Leads}

@@ -8,7 +8,7 @@ use Rattle.sno_match.specs.declared.engine.State.TheVariants as S
 use Rattle.sno_match.specs.declared.goal.Mark.{Mark}
 use Rattle.sno_match.specs.declared.goal.Mark.TheVariants.{Enter, Next}
 use Rattle.sno_match.specs.Point.{Point}
-use Rattle.sno_match.specs.inner.Remaining.{left_of, goals_of, ends_from, after_pattern, after_goals, behind_mark, behind, resume, from_mark, remaining}
+use Rattle.sno_match.specs.Remaining.{left_of, goals_of, ends_from, after_pattern, after_goals, behind_mark, behind, resume, from_mark, remaining}
 use Rattle.sno_match.specs.Matching.{Matching}
 use Rattle.sno_match.specs.inner.Running.{later, later_starts, to_come}
 use Rattle.sno_match.specs.Search.{Goal, Match, CloseCond, CloseImm, CloseRepeat, Exhausted, Aborted, Limit, Waiting, Event, Assign, Cursor, Value, Answer}

@@ -15,9 +15,9 @@ use Rattle.sno_match.specs.declared.plan.Plan.{Plan}
 use Rattle.sno_match.specs.declared.plan.Plan.TheVariants as P
 use Rattle.sno_match.specs.Search.{Exhausted, Limit, Way, Answer, Gives, emit}
 use Rattle.sno_match.specs.Point.{Point, with_front, replaced, branched, closed, cut_back, below}
-use Rattle.sno_match.specs.inner.Remaining.{remaining, AllMarked, AllKnown, AllFit, Fits, MarkFits, HasNext, IsStack}
+use Rattle.sno_match.specs.Remaining.{remaining, AllMarked, AllKnown, AllFit, Fits, MarkFits, HasNext, IsStack}
 use Rattle.sno_match.specs.inner.Plan.{IsPlan, IsDue, IsCut, BacksIntoFence, BacksIntoCut, KeepsScopes, goals_in, point_at}
-use Rattle.sno_match.specs.inner.Scopes.{opens, RiseFrom, HasCuts}
+use Rattle.sno_match.specs.Scopes.{opens, RiseFrom, HasCuts}
 use Rattle.sno_match.specs.inner.State.{after_move, HasAsked}
 use Rattle.sno_match.specs.inner.Move.{Makes, CarriesOut, entries, price, way_after, standing}
 use Rattle.sno_match.specs.Top.{Finishes}

@@ -12,9 +12,11 @@ use Rattle.sno_match.specs.declared.goal.Top.TheVariants as T
 use Rattle.sno_match.specs.Point.{Point, replaced}
 use Rattle.sno_match.specs.Top.{IsTop}
 use Rattle.sno_match.specs.inner.Plan.{point_at}
-use Rattle.sno_match.specs.inner.Remaining.{goals_of, remaining, resume, IsStack, HasPoint, MarkFits}
-use Rattle.sno_match.specs.inner.Scopes.{HasCuts}
-use Rattle.sno_match.specs.inner.Move.{Makes, EnteredGivesWay, LeadsOn, Steps}
+use Rattle.sno_match.specs.Remaining.{goals_of, remaining, resume, IsStack, MarkFits}
+use Rattle.sno_match.specs.inner.Remaining.{HasPoint}
+use Rattle.sno_match.specs.Scopes.{HasCuts}
+use Rattle.sno_match.specs.Silent.{LeadsOn}
+use Rattle.sno_match.specs.inner.Move.{Makes, EnteredGivesWay, Steps}
 use Rattle.sno_match.proofs.CutMoves.{cuts-later}
 use Rattle.sno_match.proofs.ReadingLaws.{emit-none}
 use Rattle.sno_match.proofs.MoveLaws as laws

@@ -19,10 +19,11 @@ use Rattle.sno_match.specs.declared.goal.Mark.TheVariants.{Enter, Next}
 use Rattle.sno_match.specs.Search.{Match, CloseRepeat, Exhausted, Aborted, Limit, Assign, Cursor, Value, Answer, SearchResult, Gives, Search, emit, further}
 use Rattle.sno_match.specs.Search.{with_answer, if_moved, first_goal, search, assigns}
 use Rattle.sno_match.specs.Point.{Point, with_front, rest_of}
-use Rattle.sno_match.specs.inner.Remaining.{ends_from, goals_of, goal_of, body_of, after_pattern, resume, remaining, waiting, HasNext}
+use Rattle.sno_match.specs.Remaining.{ends_from, goals_of, goal_of, body_of, after_pattern, resume, remaining, HasNext}
+use Rattle.sno_match.specs.inner.Remaining.{waiting}
 use Rattle.sno_match.specs.inner.Plan.{point_at, Goes, IsDue, IsPlan, KeepsScopes, end_plan}
 use Rattle.sno_match.specs.declared.goal.Mark.{Mark}
-use Rattle.sno_match.specs.inner.Scopes.{opened_at, opened}
+use Rattle.sno_match.specs.Scopes.{opened_at, opened}
 use Rattle.sno_pattern.proofs.ShapeLaws.{end_of-range}
 use Rattle.sno_pattern.proofs.NextEndLaws.{Contains-end_of, end_of-Contains}
 use Rattle.sno_match.proofs.EndsRange.{from_end}

@@ -17,10 +17,11 @@ use Rattle.sno_match.specs.Matching.{in_trace, is_last, is_value, last_pending, 
 use Rattle.sno_match.specs.Matching.{trace_of, IsTold}
 use Rattle.sno_match.specs.Point.{Point, HasFirst}
 use Rattle.sno_match.specs.Top.{first_point}
-use Rattle.sno_match.specs.inner.Remaining.{IsStack}
+use Rattle.sno_match.specs.Remaining.{IsStack}
 use Rattle.sno_match.specs.inner.State.{after, after_move, owed, HasAsked}
-use Rattle.sno_match.specs.inner.Move.{Makes, LeadsOn, entries, price, way_after, standing}
-use Rattle.sno_match.specs.inner.Scopes.{HasCuts}
+use Rattle.sno_match.specs.Silent.{LeadsOn}
+use Rattle.sno_match.specs.inner.Move.{Makes, entries, price, way_after, standing}
+use Rattle.sno_match.specs.Scopes.{HasCuts}
 use Rattle.sno_match.specs.inner.Starts.{Passes}
 use Rattle.sno_match.specs.inner.Running.{later, later_starts, to_come, counted, seen, IsMatch, GoesOn}
 use Rattle.sno_match.proofs.EntryLaws.{all_events-emit, length-counted, at_place, last_pending-append, last_count-append, entry-pending, entry-count}

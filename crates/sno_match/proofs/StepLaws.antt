@@ -14,7 +14,7 @@ use Rattle.sno_match.specs.declared.goal.Mark.TheVariants.{Enter, Next}
 use Rattle.sno_match.specs.declared.plan.Plan.{Plan}
 use Rattle.sno_match.specs.Point.{Point}
 use Rattle.sno_match.specs.inner.Plan.{IsPlan, IsPlain, KeepsScopes}
-use Rattle.sno_match.specs.inner.Scopes.{opened_at, opened}
+use Rattle.sno_match.specs.Scopes.{opened_at, opened}
 use Rattle.sno_match.specs.inner.Move.{CarriesOut, Steps}
 
 pub stepped : {T E : Type 0} (nodes : List Node) (s : List ℕ) (goal : Numbered) (c : ℕ) (mark : Mark) (left : ℕ) (old new : List Point)

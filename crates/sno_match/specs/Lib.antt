@@ -6,6 +6,9 @@ pub mod Ways
 pub mod Matching
 pub mod Point
 pub mod Top
+pub mod Remaining
+pub mod Scopes
+pub mod Silent
 pub mod Copied
 pub mod Shared
 pub mod inner

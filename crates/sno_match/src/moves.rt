@@ -1,8 +1,10 @@
 //! One move of the search: what is due at the newest resumption point is done.
 ghost use Rattle.std.specs.Prelude.{◌≡◌, ℕ, List, ◌<◌, ◌≤◌, ◌+◌, ◌*◌, length, IfOk, IfSome, OnOk, OnErr};
 ghost use Rattle.sno_match.specs.Point.{HasFirst};
-ghost use Rattle.sno_match.specs.inner.Remaining.{IsKnown, HasPoint};
-ghost use Rattle.sno_match.specs.inner.Move.{IsAtTop, Stands, Makes, LeadsOn, EnteredGivesWay, answered, owed_by};
+ghost use Rattle.sno_match.specs.Remaining.{IsKnown};
+ghost use Rattle.sno_match.specs.inner.Remaining.{HasPoint};
+ghost use Rattle.sno_match.specs.Silent.{Stands, LeadsOn};
+ghost use Rattle.sno_match.specs.inner.Move.{IsAtTop, Makes, EnteredGivesWay, answered, owed_by};
 
 use crate::event::{Event, Pending};
 use crate::goal::{Goal, Mark, Top};

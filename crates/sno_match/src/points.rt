@@ -2,7 +2,7 @@
 ghost use Rattle.std.specs.Prelude.{◌≡◌, ◌≤◌, ◌+◌, ◌*◌, List, ℕ, [], ◌∷◌, length, OnOk, OnErr};
 ghost use Rattle.sno_match.specs.Point.{Point, HasFirst, replaced, branched, closed, cut_back, below};
 ghost use Rattle.sno_pattern.specs.Looks.{AreTrue};
-ghost use Rattle.sno_match.specs.inner.Move.{Stands, LeadsOn};
+ghost use Rattle.sno_match.specs.Silent.{Stands, LeadsOn};
 ghost use Rattle.sno_match.specs.Top.{IsTop, Finishes, first_point};
 
 use crate::event::Pending;

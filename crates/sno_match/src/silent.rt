@@ -2,8 +2,9 @@
 ghost use Rattle.std.specs.Prelude.{◌≡◌, ◌<◌, ◌≤◌, ◌+◌, ◌*◌, List, Some, length};
 ghost use Rattle.sno_pattern.specs.Looks.{AreTrue};
 ghost use Rattle.sno_pattern.specs.Table.{tree};
-ghost use Rattle.sno_match.specs.inner.Remaining.{IsStack, IsKnown, HasNext};
-ghost use Rattle.sno_match.specs.inner.Move.{IsCursor, Stands, LeadsOn};
+ghost use Rattle.sno_match.specs.Remaining.{IsStack, IsKnown, HasNext};
+ghost use Rattle.sno_match.specs.Silent.{Stands, LeadsOn};
+ghost use Rattle.sno_match.specs.inner.Move.{IsCursor};
 ghost use Rattle.sno_match.specs.inner.Shared.{Holds, points_of};
 ghost use Rattle.sno_match.specs.inner.Hand.{IsBehind, Enters, Leads};
 

@@ -4,7 +4,7 @@ ghost use Rattle.sno_pattern.specs.Table.{tree};
 ghost use Rattle.sno_pattern.specs.Shape.{IsPrimitive, end_of};
 ghost use Rattle.sno_pattern.specs.Looks.{AreTrue};
 ghost use Rattle.sno_match.specs.Point.{HasFirst};
-ghost use Rattle.sno_match.specs.inner.Remaining.{IsKnown};
+ghost use Rattle.sno_match.specs.Remaining.{IsKnown};
 ghost use Rattle.sno_match.specs.inner.Plan.{end_plan};
 ghost use Rattle.sno_match.specs.inner.Move.{Steps, IsStep, IsCursor, IsReady, IsDueAs, CarriesOut, Costs, EndsAt};
 

@@ -8,9 +8,10 @@ use Rattle.sno_match.specs.declared.plan.Plan.{Plan}
 use Rattle.sno_match.specs.declared.shared.GoalRecord.{GoalRecord}
 use Rattle.sno_match.specs.declared.shared.Held.{Held}
 use Rattle.sno_match.specs.Point.{rest_of}
-use Rattle.sno_match.specs.inner.Scopes.{HasCuts}
+use Rattle.sno_match.specs.Scopes.{HasCuts}
 use Rattle.sno_match.specs.inner.Shared.{goals_of, Holds, points_of}
-use Rattle.sno_match.specs.inner.Move.{CarriesOut, Steps, LeadsOn}
+use Rattle.sno_match.specs.Silent.{LeadsOn}
+use Rattle.sno_match.specs.inner.Move.{CarriesOut, Steps}
 
 -- the first record of a list
 abbrev pub IsFirst : List GoalRecord → ℕ → GoalRecord → Type 0

@@ -26,8 +26,8 @@ use Rattle.sno_match.specs.inner.State.{verdict_of, after_move, owed, HasAsked}
 use Rattle.sno_match.specs.declared.steps.Due.{Due}
 use Rattle.sno_match.specs.declared.steps.Due.TheVariants as D
 use Rattle.sno_match.specs.inner.Plan.{goals_in, IsPlan, KeepsScopes}
-use Rattle.sno_match.specs.inner.Remaining.{remaining, waiting, IsKnown, IsStack, MarkFits}
-use Rattle.sno_match.specs.inner.Scopes.{HasCuts}
+use Rattle.sno_match.specs.Remaining.{remaining, IsKnown, MarkFits}
+use Rattle.sno_match.specs.inner.Remaining.{waiting}
 use Rattle.sno_match.specs.inner.Starts.{GivesWay}
 
 -- what a move adds to the events; a last event is a verdict, and stands behind them
@@ -93,17 +93,6 @@ pub record Steps (nodes : List Node) (s : List ℕ) (goal : Goal) (c : ℕ) (mar
   pub scopes : KeepsScopes nodes goal plan
   pub carried : CarriesOut plan c left old told new
 
--- steps from one stack to another that tell nothing, at most one more point for each
-pub record LeadsOn (nodes : List Node) (s : List ℕ) (limit : ℕ) (old : List Point) (steps0 : ℕ) (new : List Point)
-    (steps : ℕ) : Type 0 where
-  pub steps_in : steps ≤ limit
-  pub paid : steps0 ≤ steps
-  pub grows : length new + steps0 ≤ length old + steps
-  pub falls : 2 * (limit - steps) + length new + steps ≤ 2 * (limit - steps0) + length old + steps0
-  pub stack : IsStack nodes s new
-  pub cuts : HasCuts nodes (limit - steps) new
-  pub leads : (start : ℕ) (answers : List Answer) → remaining nodes s start old answers (limit - steps0)
-      ≡ remaining nodes s start new answers (limit - steps)
 
 -- what is due is a step: no FENCE is backed into, and no cut
 abbrev pub HasStep : List Node → Goal → Mark → Type 0
@@ -122,16 +111,6 @@ pub record IsAtTop (nodes : List Node) (goal : Goal) (c : ℕ) (mark : Mark) (po
   pub known : IsKnown nodes goal
   pub due : HasStep nodes goal mark
   pub top : IsTop points (Open goal c mark)
-
--- what a move keeps of a match: the stack and its cuts, the steps within their limit, what was found of the subject,
--- and that the subject's length has 32 bits
-pub record Stands (nodes : List Node) (s : List ℕ) (found : Found) (limit steps : ℕ) (points : List Point)
-    : Type 0 where
-  pub stack : IsStack nodes s points
-  pub cuts : HasCuts nodes (limit - steps) points
-  pub steps_in : steps ≤ limit
-  pub looks : AreTrue nodes s found
-  pub small : length s ≤ 4294967295
 
 -- what a move that ends so leaves of its records to an answer
 abbrev pub owed_by : {E : Type 0} → Result (Option Told) E → ℕ

@@ -11,8 +11,9 @@ use Rattle.sno_match.specs.declared.plan.Plan.{Plan}
 use Rattle.sno_match.specs.declared.plan.Plan.TheVariants as P
 use Rattle.sno_match.specs.Search.{Aborted, Limit, Event, Assign, Cursor, Value, Answer, Gives, emit}
 use Rattle.sno_match.specs.Point.{Point, with_front, rest_of, cut_back}
-use Rattle.sno_match.specs.inner.Remaining.{remaining, waiting, AllMarked, AllKnown, MarkFits}
-use Rattle.sno_match.specs.inner.Scopes.{closes, opened, opens, RiseFrom}
+use Rattle.sno_match.specs.Remaining.{remaining, AllMarked, AllKnown, MarkFits}
+use Rattle.sno_match.specs.inner.Remaining.{waiting}
+use Rattle.sno_match.specs.Scopes.{closes, opened, opens, RiseFrom}
 use Rattle.sno_match.specs.declared.goal.Goal.TheVariants as N
 use Rattle.sno_value.specs.declared.ids.PatId.{PatId}
 use Rattle.sno_pattern.specs.Pattern.{Cut}

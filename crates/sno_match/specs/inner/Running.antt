@@ -12,8 +12,9 @@ use Rattle.sno_match.specs.Matching.{last_pending, last_count, Matching, answers
 use Rattle.sno_match.specs.Search.{Match, Event, Answer, Search, Gives, emit, further, search, whole}
 use Rattle.sno_match.specs.Point.{Point}
 use Rattle.sno_match.specs.inner.State.{verdict_of, waits, ended, over, owed, LastIn, HasAsked}
-use Rattle.sno_match.specs.inner.Remaining.{remaining, waiting, IsStack}
-use Rattle.sno_match.specs.inner.Scopes.{HasCuts}
+use Rattle.sno_match.specs.Remaining.{remaining, IsStack}
+use Rattle.sno_match.specs.inner.Remaining.{waiting}
+use Rattle.sno_match.specs.Scopes.{HasCuts}
 
 -- the starts behind this one
 abbrev pub later_starts : Bool → List ℕ → ℕ → List ℕ

@@ -1,9 +1,9 @@
 use Rattle.std.proofs.Common.{arith, ◌<◌, ◌≡◌, ◌+◌, ◌-◌, List, [], subst, sym}
 use Rattle.std.proofs.lemmas.Result.{err_from_is_err_and}
 use Rattle.sno_match.specs.Point.{Point}
-use Rattle.sno_match.specs.inner.Remaining.{IsStack}
-use Rattle.sno_match.specs.inner.Scopes.{HasCuts}
-use Rattle.sno_match.specs.inner.Move.{LeadsOn}
+use Rattle.sno_match.specs.Remaining.{IsStack}
+use Rattle.sno_match.specs.Scopes.{HasCuts}
+use Rattle.sno_match.specs.Silent.{LeadsOn}
 use Rattle.sno_match.proofs.MoveLaws as laws
 use Rattle.sno_match.proofs.PartLaws as parts
 use Rattle.sno_match.proofs.moves.make_step.Goals as goal

@@ -6,7 +6,7 @@ use Rattle.sno_match.specs.declared.goal.Goal.TheVariants as N
 use Rattle.sno_match.specs.declared.plan.Front.TheVariants.{One, Two}
 use Rattle.sno_match.specs.declared.plan.Plan.TheVariants as P
 use Rattle.sno_match.specs.inner.Plan.{end_plan}
-use Rattle.sno_match.specs.inner.Remaining.{body_of}
+use Rattle.sno_match.specs.Remaining.{body_of}
 use Rattle.sno_match.proofs.PlanLaws as plans
 use Rattle.sno_match.proofs.HandLaws.{did}
 use Rattle.sno_match.proofs.silent.go_back.Goals as goal

@@ -1,8 +1,8 @@
 use Rattle.std.proofs.Common.{arith, ap, length, subst, Option, Some, ◌+◌}
 use Rattle.sno_match.specs.declared.shared.Held.{Held}
 use Rattle.sno_match.specs.inner.Shared.{Holds, points_of}
-use Rattle.sno_match.specs.inner.Remaining.{IsStack}
-use Rattle.sno_match.specs.inner.Move.{LeadsOn}
+use Rattle.sno_match.specs.Remaining.{IsStack}
+use Rattle.sno_match.specs.Silent.{LeadsOn}
 use Rattle.sno_match.proofs.HandLaws.{unchanged}
 use Rattle.sno_match.proofs.PartLaws as parts
 use Rattle.sno_match.proofs.silent.take_steps.Goals as goal

@@ -1,7 +1,7 @@
 use Rattle.std.proofs.Common.{◌≤◌, ◌+◌, ◌-◌, ◌*◌, length}
 use Rattle.sno_pattern.specs.Looks.{AreTrue}
 use Rattle.sno_match.specs.inner.Shared.{Holds, points_of}
-use Rattle.sno_match.specs.inner.Move.{LeadsOn}
+use Rattle.sno_match.specs.Silent.{LeadsOn}
 use Rattle.sno_match.proofs.silent.take_steps.Given as goal
 
 -- the steps so far lead to the stack with this newest point

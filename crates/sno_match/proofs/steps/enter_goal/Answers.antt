@@ -4,7 +4,7 @@ use Rattle.sno_match.specs.declared.plan.Plan.TheVariants as P
 use Rattle.sno_match.proofs.PlanLaws as plans
 use Rattle.sno_match.proofs.StepLaws.{stepped}
 use Rattle.std.proofs.Common.{suc, refl, subst}
-use Rattle.sno_match.specs.inner.Scopes.{RiseFrom}
+use Rattle.sno_match.specs.Scopes.{RiseFrom}
 use Rattle.sno_match.proofs.CutLaws.{close-cut}
 use Rattle.sno_match.proofs.steps.enter_goal.Goals as goal
 

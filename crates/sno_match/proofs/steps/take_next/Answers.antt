@@ -4,7 +4,7 @@ use Rattle.sno_pattern.specs.Table.{tree}
 use Rattle.sno_match.specs.declared.goal.Goal.TheVariants as N
 use Rattle.sno_match.specs.declared.plan.Front.TheVariants.{Nothing, One, Two}
 use Rattle.sno_match.specs.declared.plan.Plan.TheVariants as P
-use Rattle.sno_match.specs.inner.Remaining.{body_of}
+use Rattle.sno_match.specs.Remaining.{body_of}
 use Rattle.sno_match.proofs.PlanLaws as plans
 use Rattle.sno_match.proofs.StepLaws.{stepped, plain}
 use Rattle.sno_match.proofs.steps.take_next.Goals as goal
