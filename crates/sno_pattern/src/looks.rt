@@ -44,15 +44,22 @@ const NO_RUN: Run = Run {
 pub struct Looks {
     runs: [Run; RUNS],
     balance: Balance,
+    /// Whether anything may have been kept since they were cleared.
+    used: bool,
 }
 
 impl Model for Looks {
-    ghost use Rattle.sno_pattern.specs.Looks.{Found};
+    ghost use Rattle.std.specs.Prelude.{◌≡◌, ℕ, List, false};
+    ghost use Rattle.sno_pattern.specs.Looks.{AreTrue, Found};
+    ghost use Rattle.sno_pattern.specs.Table.{Node};
     ghost use Rattle.sno_pattern.specs.inner.Looks.{found_of};
 
     ghost Value = { Found };
 
     ghost view = { λ looks. found_of looks.runs looks.balance };
+
+    ghost invariant = { λ looks. looks.used ≡ false → (nodes : List Node) (s : List ℕ)
+        → AreTrue nodes s (found_of looks.runs looks.balance) };
 }
 
 impl Looks {
@@ -63,6 +70,7 @@ impl Looks {
         Looks {
             runs: [NO_RUN; RUNS],
             balance: Balance::new(alloc),
+            used: false,
         }
     }
 
@@ -70,8 +78,11 @@ impl Looks {
     pub fn clear(&mut self)
         ensures { (nodes : List Node) (s : List ℕ) → AreTrue nodes s self.new }
     {
-        self.runs = [NO_RUN; RUNS];
-        self.balance.clear();
+        if self.used {
+            self.runs = [NO_RUN; RUNS];
+            self.balance.clear();
+            self.used = false;
+        }
     }
 
     /// The first end of a primitive from a cursor, if the run in this slot tells it.
@@ -95,6 +106,7 @@ impl Looks {
             → AreTrue nodes s self.new }
     {
         self.runs[slot] = run;
+        self.used = true;
     }
 
     /// BAL's first end from a cursor.
@@ -105,6 +117,7 @@ impl Looks {
         ensures balance { IsTableIfMade subject.now self.new.first_ends }
         ensures value { result ≡ slice_get (ends Bal subject.now at) 0 }
     {
+        self.used = true;
         let end = self.balance.first_end(subject, at);
         end
     }
