@@ -12,7 +12,12 @@ pub(crate) const PROGRAM_LONG: &str = "A SNOBOL4 interpreter with a resumable pa
 It runs SNOBOL4 programs, tells what is wrong with them, and lists every way in
 which a pattern matches a text, in the order in which the ways are tried.";
 
-/// Examples of the program, its statuses, and where to read on.
+/// The forms of its commands.
+pub(crate) const PROGRAM_USAGE: &str = "snobol4 run [--statements N] [--match-steps N] FILE
+       snobol4 check FILE
+       snobol4 ways [--anchor] [--steps N] PATTERN SUBJECT";
+
+/// Examples of the program, its statuses and errors, and where to read on.
 pub(crate) const PROGRAM_AFTER: &str = "Examples:
   snobol4 run hello.sno
   snobol4 ways --anchor \"'A' | 'AB'\" AB
@@ -27,6 +32,25 @@ Statuses:
   6   no memory
   7   standard input or output failed
   64  wrong words on the command line
+
+Errors, of which snobol4-list --error K tells more:
+  1   data type
+  2   overflow
+  3   division by zero
+  4   undefined function
+  5   undefined label
+  6   null string
+  7   bad count
+  8   string too long
+  9   store full
+  10  call level
+  11  failure in a goto
+  12  bad prototype
+  13  return outside a call
+  14  keyword
+  15  not a variable
+  20  statement limit
+  21  match-step limit
 
 Documents: docs/LANGUAGE.md, docs/ERRORS.md, man snobol4";
 
@@ -45,6 +69,7 @@ number of its statement: snobol4-list FILE lists a program with these numbers.";
 pub(crate) const RUN_AFTER: &str = "Examples:
   snobol4 run hello.sno
   snobol4 run --statements 50000000 words.sno < words.txt
+  snobol4 run /dev/stdin < hello.sno
 
 Statuses:
   0   the program came to its END
@@ -72,6 +97,7 @@ tells the first line at which something is wrong.";
 pub(crate) const CHECK_AFTER: &str = "Examples:
   snobol4 check hello.sno
   snobol4 check hello.sno && snobol4 run hello.sno
+  snobol4 check /dev/stdin < hello.sno
 
 Statuses:
   0   the program is accepted

@@ -73,6 +73,7 @@ fn program<'a>(alloc: Global) -> Result<Command<'a>, AllocError>
         .about(help::PROGRAM)
         .long_about(help::PROGRAM_LONG)
         .after_help(help::PROGRAM_AFTER)
+        .override_usage(help::PROGRAM_USAGE)
         .version(help::VERSION)
         .subcommand_required(true)
         .arg_required_else_help(true)

@@ -258,6 +258,7 @@ Options:
 Examples:
   snobol4 run hello.sno
   snobol4 run --statements 50000000 words.sno < words.txt
+  snobol4 run /dev/stdin < hello.sno
 
 Statuses:
   0   the program came to its END
@@ -291,6 +292,7 @@ Options:
 Examples:
   snobol4 check hello.sno
   snobol4 check hello.sno && snobol4 run hello.sno
+  snobol4 check /dev/stdin < hello.sno
 
 Statuses:
   0   the program is accepted
@@ -307,7 +309,9 @@ const HELP: &str = "A SNOBOL4 interpreter with a resumable pattern matcher.
 It runs SNOBOL4 programs, tells what is wrong with them, and lists every way in
 which a pattern matches a text, in the order in which the ways are tried.
 
-Usage: snobol4 <COMMAND>
+Usage: snobol4 run [--statements N] [--match-steps N] FILE
+       snobol4 check FILE
+       snobol4 ways [--anchor] [--steps N] PATTERN SUBJECT
 
 Commands:
   run    Run a program
@@ -337,6 +341,25 @@ Statuses:
   7   standard input or output failed
   64  wrong words on the command line
 
+Errors, of which snobol4-list --error K tells more:
+  1   data type
+  2   overflow
+  3   division by zero
+  4   undefined function
+  5   undefined label
+  6   null string
+  7   bad count
+  8   string too long
+  9   store full
+  10  call level
+  11  failure in a goto
+  12  bad prototype
+  13  return outside a call
+  14  keyword
+  15  not a variable
+  20  statement limit
+  21  match-step limit
+
 Documents: docs/LANGUAGE.md, docs/ERRORS.md, man snobol4
 ";
 
@@ -353,6 +376,7 @@ Options:
 Examples:
   snobol4 check hello.sno
   snobol4 check hello.sno && snobol4 run hello.sno
+  snobol4 check /dev/stdin < hello.sno
 
 Statuses:
   0   the program is accepted
@@ -362,6 +386,15 @@ Statuses:
   64  wrong words on the command line
 
 Documents: docs/LANGUAGE.md, docs/ERRORS.md, man snobol4
+";
+
+const NO_COMMAND: &str = "error: unrecognized subcommand 'hello.sno'
+
+Usage: snobol4 run [--statements N] [--match-steps N] FILE
+       snobol4 check FILE
+       snobol4 ways [--anchor] [--steps N] PATTERN SUBJECT
+
+For more information, try '--help'.
 ";
 
 /// The text that is told where words are refused.
@@ -381,6 +414,13 @@ fn shows_help(rt: HostRuntime) -> Result<(), Fail> {
     assert!(rt; help_text(alloc, b"snobol4|check|--help")?.as_str() == CHECK_HELP);
     assert!(rt; help_text(alloc, b"snobol4|ways|--help")?.as_str() == WAYS_HELP);
     assert!(rt; help_text(alloc, b"snobol4|check|-h")?.as_str() == SHORT_CHECK_HELP);
+    Ok(())
+}
+
+#[test]
+fn shows_the_commands_for_a_file_without_one(rt: HostRuntime) -> Result<(), Fail> {
+    let alloc = rt.alloc();
+    assert!(rt; help_text(alloc, b"snobol4|hello.sno")?.as_str() == NO_COMMAND);
     Ok(())
 }
 
