@@ -1,30 +1,11 @@
 //! The program `snobol4-list`: lists a program with the numbers of its statements.
 #![tactic(auto)]
 
-mod asked;
-mod cards;
 mod command;
-mod definitions;
-mod explained;
-mod fault;
-mod furthest;
 mod help;
-mod listing;
-mod loops;
-mod names;
-mod reasons;
-mod refused;
-mod report;
-mod single;
-mod survey;
-mod uses;
-mod warnings;
-mod words;
 
-use asked::explain;
 use command::{Job, command, status_of};
-use explained::explanation;
-use report::{Report, make_answer, make_report};
+use sno_listing::{Report, explain, explanation, make_answer, make_report};
 use std::alloc::{AllocError, Global};
 use std::env;
 use std::fs::File;

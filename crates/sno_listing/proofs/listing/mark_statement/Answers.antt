@@ -1,6 +1,6 @@
 use Rattle.std.proofs.Common.{rules, ◌≡◌, ◌-◌, slice_get, Some, None, sym}
-use Rattle.snobol4_list.proofs.Numbers.{numbers_more, when_some, not_none}
-use Rattle.snobol4_list.proofs.listing.mark_statement.Goals as goal
+use Rattle.sno_listing.proofs.Numbers.{numbers_more, when_some, not_none}
+use Rattle.sno_listing.proofs.listing.mark_statement.Goals as goal
 
 pub returns-in-Some : goal.returns-in-Some
 returns-in-Some c =

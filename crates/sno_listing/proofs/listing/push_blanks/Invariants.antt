@@ -1,6 +1,6 @@
 use Rattle.std.proofs.Common.{◌≡◌, ◌++◌}
-use Rattle.snobol4_list.specs.Listing.{blanks}
-use Rattle.snobol4_list.proofs.listing.push_blanks.Given as goal
+use Rattle.sno_listing.specs.Listing.{blanks}
+use Rattle.sno_listing.proofs.listing.push_blanks.Given as goal
 
 abbrev pub invariant-loop : goal.invariant-loop
 invariant-loop l = l.listing.items ≡ l.fn.listing.items ++ blanks l.counter

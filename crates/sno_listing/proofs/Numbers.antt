@@ -6,8 +6,8 @@ use Rattle.std.proofs.Math.ListN.{drop_of_length-le}
 use Rattle.std.proofs.lemmas.List.{get_or-replicate, length-replicate}
 use Rattle.std.proofs.lemmas.Option.{slice_get_within, get_or_from_slice_get, slice_get_cases}
 use Rattle.sno_text.specs.declared.statement.Statement.{Statement}
-use Rattle.snobol4_list.specs.Listing.{number_in}
-use Rattle.snobol4_list.specs.inner.Listing.{AreNumbers}
+use Rattle.sno_listing.specs.Listing.{number_in}
+use Rattle.sno_listing.specs.inner.Listing.{AreNumbers}
 
 -- Behind the last statement none begins.
 pub numbers_none : (lines n : ℕ) (sts : List Statement) (numbers : List ℕ) → numbers ≡ replicate lines 0 → n ≡ length sts

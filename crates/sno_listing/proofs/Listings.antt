@@ -1,7 +1,7 @@
 -- The lines of a listing, one after another.
 use Rattle.std.proofs.Common.{◌≡◌, ℕ, zero, suc, ◌+◌, List, [], ◌∷◌, ◌++◌, arith, refl, ◌∙◌, ap, sym, append_assoc, append-nil}
 use Rattle.sno_text.specs.declared.statement.Statement.{Statement}
-use Rattle.snobol4_list.specs.Listing.{number_in, blanks, listed_line, lines_listed}
+use Rattle.sno_listing.specs.Listing.{number_in, blanks, listed_line, lines_listed}
 
 blanks_snoc : (n : ℕ) → blanks n ++ 32 ∷ [] ≡ blanks (suc n)
 blanks_snoc zero = refl

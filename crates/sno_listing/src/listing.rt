@@ -2,8 +2,8 @@
 ghost use Rattle.std.specs.Prelude.{◌≡◌, ℕ, ◌+◌, ◌-◌, ◌<◌, ◌≤◌, ◌==◌, ◌++◌, if◌then◌else◌, drop, length, replicate};
 ghost use Rattle.std.specs.Prelude.{slice_index, OnOk, IfOk};
 ghost use Rattle.bstr.specs.Text.{lines_of};
-ghost use Rattle.snobol4_list.specs.Listing.{listed, listed_line, margin, ended, blanks, numeral};
-ghost use Rattle.snobol4_list.specs.inner.Listing.{AreNumbers};
+ghost use Rattle.sno_listing.specs.Listing.{listed, listed_line, margin, ended, blanks, numeral};
+ghost use Rattle.sno_listing.specs.inner.Listing.{AreNumbers};
 
 use bstr::ByteSlice;
 use sno_text::Program;

@@ -1,6 +1,6 @@
 use Rattle.std.proofs.Common.{◌≤◌, ◌+◌, length, drop}
-use Rattle.snobol4_list.specs.inner.Listing.{AreNumbers}
-use Rattle.snobol4_list.proofs.listing.first_numbers.Given as goal
+use Rattle.sno_listing.specs.inner.Listing.{AreNumbers}
+use Rattle.sno_listing.proofs.listing.first_numbers.Given as goal
 
 abbrev pub invariant-statements : goal.invariant-statements
 invariant-statements l = (l.number ≤ length l.fn.program.statements)
