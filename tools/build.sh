@@ -7,7 +7,7 @@ unset takes log waited began kit signal status crates told now
 # What it takes from nothing, as README.md has it.
 takes='half an hour or more on 4 processors, and 5 GB of disk'
 
-# Proves and builds the program that is meant, and sets `program` to it. `why` says why, where there is a reason to tell.
+# Proves and builds the program, or the file of the library, that is meant, and sets `program` to it. `why` says why, where there is a reason to tell.
 # Another call that is building it is waited for, and what it built is taken, where that is not older than the sources.
 build_program() {
     log=$top/crates/$crate/out/build.log
@@ -29,7 +29,7 @@ build_program() {
         flock 9
         waited=yes
     fi
-    if [ "$waited" = no ] || ! [ -x "$built" ] || is_older "$built"; then
+    if [ "$waited" = no ] || ! is_usable "$built" || is_older "$built"; then
         say "${why:+$why; }the program is proved and built${why:+ first}: $takes; the log is $log"
         prove
     fi
@@ -50,7 +50,7 @@ prove() {
     status=0
     wait "$kit" || status=$?
     trap - EXIT HUP INT PIPE TERM
-    if [ "$status" -ne 0 ] || ! [ -x "$built" ]; then
+    if [ "$status" -ne 0 ] || ! is_usable "$built"; then
         say "the build failed; the last lines of $log:"
         tail -n 12 "$log" | sed 's/^/    /' >&2
         exit 70

@@ -1,4 +1,4 @@
-# Finds a program: the one built here, the one that ships, or none.
+# Finds a program, or a file of the library for C: the one built here, the one that ships, or none.
 # Read by scripts that have set top to the repository's root.
 
 # What the environment has by these names would be exported with what they are set to here, to each command that is called.
@@ -14,17 +14,40 @@ programs() {
     done
 }
 
-# The crate of the program $1.
-crate_of() {
-    printf '%s\n' "$1" | tr - _
+# The files of the library for C, which lib/make makes of one crate.
+libraries() {
+    if grep -q "^$(crate_of libsnobol4.so)[ :]" "$top/crates.txt"; then printf '%s\n' libsnobol4.a libsnobol4.so; fi
 }
 
-# Says which program is meant below: $1.
+# The module for WebAssembly, which web/make makes of the same crate.
+modules() {
+    if [ -n "$(libraries)" ]; then echo snobol4.wasm; fi
+}
+
+# The crate of the program, or of the file of the library or module, $1.
+crate_of() {
+    case $1 in
+    *.a | *.so | *.wasm) echo snobol4_c ;;
+    *) printf '%s\n' "$1" | tr - _ ;;
+    esac
+}
+
+# Says which program, or which such file, is meant below: $1.
 choose() {
     name=$1
     crate=$(crate_of "$1")
-    built=$top/crates/$crate/out/$crate
-    shipped=$top/bin/$name-x86_64-linux
+    case $1 in
+    *.*) built=$top/crates/$crate/out/$1 shipped=$top/bin/$1 ;;
+    *) built=$top/crates/$crate/out/$crate shipped=$top/bin/$name-x86_64-linux ;;
+    esac
+}
+
+# Whether the file $1 is there, and can be run where it is a program.
+is_usable() {
+    case $1 in
+    *.a | *.so | *.wasm) [ -f "$1" ] ;;
+    *) [ -x "$1" ] ;;
+    esac
 }
 choose snobol4
 
@@ -32,7 +55,7 @@ say() {
     printf '%s: %s\n' "$name" "$*" >&2
 }
 
-# The crates that the programs $* stand on, by crates.txt: the lowest first, a program behind those that it stands on.
+# The crates that the programs or libraries $* stand on, by crates.txt: the lowest first, a program behind those that it stands on.
 program_crates() {
     awk -v programs="$(for one do crate_of "$one"; done | tr '\n' ' ')" '
     { sub(/#.*/, "") }
@@ -53,7 +76,7 @@ program_crates() {
 # Where the sources of all programs stand, as paths from the root.
 source_places() {
     echo crates.txt
-    for one in $(program_crates $(programs)); do
+    for one in $(program_crates $(programs) $(libraries)); do
         for part in src specs proofs; do
             if [ -d "$top/crates/$one/$part" ]; then echo "crates/$one/$part"; fi
         done
@@ -70,6 +93,11 @@ sources_digest() (
         sort -z | xargs -0 sha256sum | sha256sum | cut -d ' ' -f 1
 )
 
+# The digest of what the second compilation of the module is made by, beside the sources.
+second_digest() {
+    cat "$top/web/make" "$top/web/runtime.c" | sha256sum | cut -d ' ' -f 1
+}
+
 # The first link under the paths $*, from the root: the digest does not see what it leads to, so no source may be one. The kit
 # minds what it made.
 link_under() (
@@ -83,14 +111,16 @@ is_older() {
         \( -type d -o -name '*.rt' -o -name '*.antt' -o -name crates.txt \) -newer "$1" -print)" ]
 }
 
-# What bin/BUILD tells of $1: sources or kit.
+# What bin/BUILD tells of $1: sources, kit or second.
 told_of_shipped() {
     sed -n "s/^$1: *//p" "$top/bin/BUILD"
 }
 
 # The SHA-256 that bin/BUILD tells of the program that is meant.
 told_sum() {
-    awk -v file="${shipped##*/}" '/^program: / { is_it = ($2 == file) } /^sha256: / && is_it { print $2 }' "$top/bin/BUILD"
+    awk -v file="${shipped##*/}" '
+    /^(program|library|module): / { is_it = ($2 == file) }
+    /^sha256: / && is_it { print $2 }' "$top/bin/BUILD"
 }
 
 # Whether the shipped program that is meant is the one that bin/BUILD tells of.
@@ -98,7 +128,7 @@ is_told() {
     [ "$(told_sum)" = "$(sha256sum <"$shipped" | cut -d ' ' -f 1)" ]
 }
 
-# Why the shipped programs are not those of these sources; `fits` where they are.
+# Why the shipped programs and libraries are not those of these sources; `fits` where they are.
 judge_shipped() (
     link=$(link_under $(source_places))
     if [ -n "$link" ]; then
@@ -109,9 +139,9 @@ judge_shipped() (
         echo "the sources are not those that the program in bin/ was built from"
         return
     fi
-    for one in $(programs); do
+    for one in $(programs) $(libraries); do
         choose "$one"
-        if ! [ -x "$shipped" ] || ! is_told; then
+        if ! is_usable "$shipped" || ! is_told; then
             echo "the program in bin/ is not the one that bin/BUILD tells of"
             return
         fi
@@ -119,15 +149,20 @@ judge_shipped() (
     echo fits
 )
 
+# Whether the shipped programs run on this machine.
+runs_here() {
+    [ "$(uname -sm)" = 'Linux x86_64' ] && [ -e /lib64/ld-linux-x86-64.so.2 ]
+}
+
 # Whether the shipped program is that of these sources and runs on this machine; else `why` tells why not.
 # To judge it takes longer than to run it, so the answer is kept under a digest of what all the files looked like: their
 # sizes and the times at which they were written or moved. Where it can't be kept, it is found anew by each call.
 shipped_fits() {
-    if ! [ -x "$shipped" ] || ! [ -r "$top/bin/BUILD" ]; then
+    if ! is_usable "$shipped" || ! [ -r "$top/bin/BUILD" ]; then
         why="no built program comes with these sources"
         return 1
     fi
-    if [ "$(uname -sm)" != "Linux x86_64" ] || ! [ -e /lib64/ld-linux-x86-64.so.2 ]; then
+    if ! runs_here; then
         why="the program in bin/ runs on x86-64 Linux with the GNU C library alone"
         return 1
     fi
@@ -147,10 +182,10 @@ keep_answer() {
     mkdir -p "$answers" && rm -f "$answers"/* && printf '%s\n' "$why" >"$answer.$$" && mv "$answer.$$" "$answer"
 }
 
-# Sets `program` to the one built here, where it isn't older than the sources, or to the shipped one, where it fits.
+# Sets `program` to the program, or file, built here, where it isn't older than the sources, or to the shipped one, where it fits.
 # Where there is neither, `why` tells why the shipped one isn't it.
 find_program() {
-    if [ -x "$built" ] && ! is_older "$built"; then
+    if is_usable "$built" && ! is_older "$built"; then
         program=$built
     elif shipped_fits; then
         program=$shipped
