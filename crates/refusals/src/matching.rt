@@ -3,7 +3,7 @@ ghost use Rattle.std.specs.Prelude.{◌≡◌, ◌<◌, length, false, true, IfO
 
 use sno_match::{Engine, Event, Pending, Points};
 use sno_pattern::{Arg, BuildError, Patterns};
-use sno_value::{ExprId, Name, PatId, Prim, SymId};
+use sno_value::{ExprId, Name, PatId, Prim, SymId, Text};
 use std::alloc::{AllocError, Global};
 
 /// An event, and how many steps were taken when it was told.
@@ -211,10 +211,23 @@ fn tells<P: Points>(alloc: Global, table: &Patterns, pattern: PatId, row: Row) -
     let Some(mut m) = begin::<P>(alloc, table, pattern, row) else {
         return false;
     };
+    let Some(text) = text_of(alloc, row.subject) else {
+        return false;
+    };
     tells_all(&mut m, table, row)
-        && begins_again(&mut m, table, pattern, row)
-        && begins_again(&mut m, table, pattern, row)
+        && begins_again(&mut m, table, pattern, row, None)
+        && begins_again(&mut m, table, pattern, row, Some(&text))
         && tells_all(&mut m, table, row)
+        && begins_again(&mut m, table, pattern, row, None)
+        && tells_all(&mut m, table, row)
+}
+
+/// A subject as a string.
+fn text_of(alloc: Global, subject: &[u8]) -> Option<Text> {
+    match Text::from_slice(alloc, subject) {
+        Ok(text) => Some(text),
+        Err(_) => Text::from_slice(alloc, subject).ok(),
+    }
 }
 
 /// Whether a match that has begun tells its events. A deferred part is answered by the first pattern of the table.
@@ -235,8 +248,14 @@ fn tells_all<P: Points>(m: &mut Engine<P>, table: &Patterns, row: Row) -> bool
     m.pending() == row.pending
 }
 
-/// Begins a match again, once more behind a refusal, which has changed nothing.
-fn begins_again<P: Points>(m: &mut Engine<P>, table: &Patterns, pattern: PatId, row: Row) -> bool
+/// Begins a match again, once more behind a refusal, which has changed nothing. Its subject may be lent.
+fn begins_again<P: Points>(
+    m: &mut Engine<P>,
+    table: &Patterns,
+    pattern: PatId,
+    row: Row,
+    lent: Option<&Text>,
+) -> bool
     requires { pattern.0 < length table.now }
     ensures table { IsTrue result → m.new.nodes ≡ table.now }
     ensures asked { IsTrue result → m.new.waits ≡ false }
@@ -244,23 +263,33 @@ fn begins_again<P: Points>(m: &mut Engine<P>, table: &Patterns, pattern: PatId, 
     let told = m.told();
     let steps = m.steps();
     let points = m.points();
-    if begin_once(m, table, pattern, row) {
+    if begin_once(m, table, pattern, row, lent) {
         return true;
     }
     if m.told() != told || m.steps() != steps || m.points() != points {
         return false;
     }
-    begin_once(m, table, pattern, row)
+    begin_once(m, table, pattern, row, lent)
 }
 
 /// Begins a match again. It is false where memory was refused.
-fn begin_once<P: Points>(m: &mut Engine<P>, table: &Patterns, pattern: PatId, row: Row) -> bool
+fn begin_once<P: Points>(
+    m: &mut Engine<P>,
+    table: &Patterns,
+    pattern: PatId,
+    row: Row,
+    lent: Option<&Text>,
+) -> bool
     requires { pattern.0 < length table.now }
     ensures table { IsTrue result → m.new.nodes ≡ table.now }
     ensures asked { IsTrue result → m.new.waits ≡ false }
 {
-    m.begin_again(table, pattern, row.subject, row.anchored, 1000)
-        .is_ok()
+    match lent {
+        Some(text) => m.begin_on(table, pattern, text, row.anchored, 1000).is_ok(),
+        None => m
+            .begin_again(table, pattern, row.subject, row.anchored, 1000)
+            .is_ok(),
+    }
 }
 
 /// The match of a row.

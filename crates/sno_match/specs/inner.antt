@@ -7,3 +7,4 @@ pub mod Scopes
 pub mod Shared
 pub mod Starts
 pub mod State
+pub mod Subject

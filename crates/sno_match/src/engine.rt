@@ -4,17 +4,18 @@ ghost use Rattle.std.specs.Prelude.{IfSome, IsOk, OnOk, OnErr};
 ghost use Rattle.sno_match.specs.Matching.{SameMatch, IsTold, StaysAt, IsCounted, TellsWays, Begins, begins, told_of};
 ghost use Rattle.sno_match.specs.Matching.{in_trace, last_pending, IsWithin};
 ghost use Rattle.sno_match.specs.inner.State.{after};
+ghost use Rattle.sno_match.specs.inner.Subject.{searched};
 ghost use Rattle.sno_match.specs.inner.Running.{Advances, GoesOn, work};
 
-use crate::bytes::put_in_place;
 use crate::event::{Event, Pending};
 use crate::goal::{Goal, Top};
 use crate::moves::{make_move, put_answer};
 use crate::points::Points;
 use crate::snapshot::Snapshot;
 use crate::starts::pass_failing_starts;
+use crate::subject::Subject;
 use sno_pattern::{Looks, Patterns};
-use sno_value::PatId;
+use sno_value::{PatId, Text};
 use std::alloc::{AllocError, Global};
 use std::marker::Model;
 
@@ -39,7 +40,7 @@ pub struct Engine<P: Points> {
     points: P,
     lent: Snapshot<Patterns>,
     pattern: PatId,
-    subject: Vec<u8>,
+    subject: Subject,
     /// What was found out of the subject.
     looks: Looks,
     anchored: bool,
@@ -62,13 +63,13 @@ impl<P: Points> Model for Engine<P> {
 
     ghost Value = { Matching };
 
-    ghost view = { λ m. seen m.lent.value m.pattern m.subject.items m.anchored m.limit m.answers.items m.told m.steps
+    ghost view = { λ m. seen m.lent.value m.pattern m.subject.bytes m.anchored m.limit m.answers.items m.told m.steps
         m.state m.way.items (P.points m.points) (P.records m.points) };
 
     ghost invariant = { λ m. IsMatch
-        (seen m.lent.value m.pattern m.subject.items m.anchored m.limit m.answers.items m.told m.steps m.state
+        (seen m.lent.value m.pattern m.subject.bytes m.anchored m.limit m.answers.items m.told m.steps m.state
         m.way.items (P.points m.points) (P.records m.points)) m.start (P.points m.points) m.state
-        × AreTrue m.lent.value m.subject.items m.looks × (length m.subject.items ≤ 4294967295) };
+        × AreTrue m.lent.value m.subject.bytes m.looks × (length m.subject.bytes ≤ 4294967295) };
 }
 
 impl<P: Points> Engine<P> {
@@ -115,7 +116,7 @@ impl<P: Points> Engine<P> {
             points,
             lent: Snapshot::of(patterns),
             pattern,
-            subject,
+            subject: Subject::of(subject),
             looks,
             anchored,
             limit,
@@ -145,15 +146,64 @@ impl<P: Points> Engine<P> {
         ensures err { OnErr result (self.new ≡ self.old) }
         ensures counts { IsCounted self.new }
     {
-        let more = subject.len().saturating_sub(self.subject.len());
+        // what is kept of the match before is in order
+        let _ = &self.points;
         if subject.len() > MOST_BYTES {
             return Err(AllocError);
         }
-        self.subject.reserve(more)?;
+        self.begin_in(patterns, pattern, None, subject, anchored, limit)?;
+        Ok(())
+    }
+
+    /// Begins a match as `begin_again` does, of a subject that is lent: it shares the block of a long string, so that no
+    /// byte is copied, until the match begins again.
+    #[inline(always)]
+    pub fn begin_on(
+        &mut self,
+        patterns: &Patterns,
+        pattern: PatId,
+        subject: &Text,
+        anchored: bool,
+        limit: u32,
+    ) -> Result<(), AllocError>
+        requires { pattern.0 < length patterns.now }
+        ensures begins { OnOk result
+            (self.new ≡ begins patterns.now pattern subject.now anchored limit self.new.records) }
+        ensures err { OnErr result (self.new ≡ self.old) }
+        ensures counts { IsCounted self.new }
+    {
+        let _ = &self.points;
+        if subject.as_slice().len() > MOST_BYTES {
+            return Err(AllocError);
+        }
+        let lent = subject.copy()?;
+        self.begin_in(patterns, pattern, Some(lent), &[], anchored, limit)?;
+        Ok(())
+    }
+
+    /// The same, of the string that is lent, or else of these bytes, which are copied.
+    #[inline(always)]
+    fn begin_in(
+        &mut self,
+        patterns: &Patterns,
+        pattern: PatId,
+        lent: Option<Text>,
+        copied: &[u8],
+        anchored: bool,
+        limit: u32,
+    ) -> Result<(), AllocError>
+        requires known { pattern.0 < length patterns.now }
+        requires short { length (searched lent copied.now) ≤ 4294967295 }
+        ensures begins { OnOk result
+            (self.new ≡ begins patterns.now pattern (searched lent copied.now) anchored limit self.new.records) }
+        ensures err { OnErr result (self.new ≡ self.old) }
+        ensures counts { IsCounted self.new }
+    {
+        self.subject.make_room(copied.len())?;
         self.points.begin(Goal::Match(pattern), 0)?;
         self.lent = Snapshot::of(patterns);
         self.pattern = pattern;
-        put_in_place(&mut self.subject, subject);
+        self.subject.put(lent, copied);
         self.looks.clear();
         self.anchored = anchored;
         self.limit = limit;
@@ -206,7 +256,7 @@ impl<P: Points> Engine<P> {
             &mut self.steps,
             &mut self.looks,
             patterns,
-            &self.subject,
+            self.subject.as_slice(),
             self.limit,
         );
     }
@@ -231,7 +281,7 @@ impl<P: Points> Engine<P> {
             &mut self.way,
             &mut self.looks,
             patterns,
-            &self.subject,
+            self.subject.as_slice(),
             self.start,
             self.limit,
         )?;
@@ -257,13 +307,14 @@ impl<P: Points> Engine<P> {
             patterns,
             &mut self.looks,
             self.pattern,
-            &self.subject,
+            self.subject.as_slice(),
             self.anchored,
             self.start,
             self.limit - self.steps,
         );
         let steps = self.steps + passed.steps;
-        if self.anchored || passed.start == self.subject.len() {
+        let end = self.subject.as_slice().len();
+        if self.anchored || passed.start == end {
             self.start = passed.start;
             self.steps = steps;
             self.told += 1;
@@ -383,14 +434,14 @@ impl<P: Points> Engine<P> {
         requires inside { end ≤ length self.now.subject }
         ensures { result.now ≡ take (end - start) (drop start self.now.subject) }
     {
-        &self.subject[start..end]
+        &self.subject.as_slice()[start..end]
     }
 
     /// The bytes of the subject.
     pub fn subject(&self) -> &[u8]
         ensures { result.now ≡ self.now.subject }
     {
-        &self.subject
+        self.subject.as_slice()
     }
 }
 

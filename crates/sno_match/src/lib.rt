@@ -23,6 +23,7 @@ mod silent;
 mod snapshot;
 mod starts;
 mod steps;
+mod subject;
 
 pub use copied::CopiedGoals;
 pub use engine::Engine;

@@ -2,7 +2,7 @@
 ghost use Rattle.std.specs.Prelude.{◌≡◌, ◌<◌, false, length, OnOk};
 
 use super::drawing::drawn_events;
-use super::driver::{begin, begin_again, events_of};
+use super::driver::{begin, begin_again, begin_on, events_of};
 use super::forms::table_of;
 use super::generated::{Chance, SUBJECTS, check_same};
 use super::matches::{Search, search_of};
@@ -11,7 +11,7 @@ use super::reference::search_events;
 use super::rows::{Question, check_rows, parts};
 use sno_match::{CopiedGoals, Engine, Points, SharedGoals};
 use sno_pattern::Patterns;
-use sno_value::PatId;
+use sno_value::{PatId, Text};
 use std::alloc::{AllocError, Global};
 use std::process::Abort;
 use std::test::Fail;
@@ -33,18 +33,33 @@ impl Question for Again {
     }
 }
 
-/// The events of a search by a match that has told some of another.
+/// The events of a search by a match that has told some of another, twice: of a subject that is lent too, where they
+/// must be the same.
 fn told_behind<P: Points>(
     alloc: Global,
     before: &'static str,
     after: &'static str,
+) -> Result<String, Fail> {
+    let copied = told_once::<P>(alloc, before, after, false)?;
+    let lent = told_once::<P>(alloc, before, after, true)?;
+    if lent.as_str() != copied.as_str() {
+        return Err(Fail::from("a subject that is lent tells different events"));
+    }
+    Ok(copied)
+}
+
+fn told_once<P: Points>(
+    alloc: Global,
+    before: &'static str,
+    after: &'static str,
+    lent: bool,
 ) -> Result<String, Fail> {
     let answers = [Some(PatId(0))];
     let mut m = left_match::<P>(alloc, before, &answers)?;
     let s = search_of(after)?;
     let forms = forms_of(alloc, s.words)?;
     let (table, pattern) = table_of(alloc, &forms)?;
-    begin_search(&mut m, &table, pattern, s)?;
+    begin_search(alloc, &mut m, &table, pattern, s, lent)?;
     let told = events_of(alloc, &mut m, &table, &answers, 100)?;
     let text = drawn_events(alloc, &told)?;
     Ok(text)
@@ -65,22 +80,31 @@ fn left_match<P: Points>(
     Ok(m)
 }
 
+/// Begins a search. Its subject is copied, or lent: the match is the only one that holds it then.
 fn begin_search<P: Points>(
+    alloc: Global,
     m: &mut Engine<P>,
     table: &Patterns,
     pattern: PatId,
     s: Search,
+    lent: bool,
 ) -> Result<(), AllocError>
     requires { pattern.0 < length table.now }
     ensures table { OnOk result (m.new.nodes ≡ table.now) }
     ensures asked { OnOk result (m.new.waits ≡ false) }
 {
+    if lent {
+        let subject = Text::from_slice(alloc, s.subject)?;
+        begin_on(m, table, pattern, &subject, s.anchored, s.limit)?;
+        return Ok(());
+    }
     begin_again(m, table, pattern, s.subject, s.anchored, s.limit)?;
     Ok(())
 }
 
 /// The match before is left behind a way, with points and a pending list; exhausted; aborted; out of steps; waiting for
-/// an answer behind another; before its first event; and with a table of BAL's ends and runs of the same primitives.
+/// an answer behind another; before its first event; with a table of BAL's ends and runs of the same primitives; and with
+/// subjects that are as long as a string whose block is shared.
 const LEFT: &str = r"
 1 of floating 1000 ABAB: LEN:1 .:0,3 TEXT:A |:1,2 then anchored 1000 AB: TEXT:A TEXT:AB |:0,1 => way 0 1 at 2; way 0 2 at 4; exhausted at 4;
 1 of floating 1000 ABAB: LEN:1 .:0,3 TEXT:A |:1,2 then anchored 1000 AB: TEXT:B => exhausted at 1;
@@ -92,6 +116,8 @@ const LEFT: &str = r"
 0 of floating 1000 AB: LEN:1 then anchored 1000 B: FENCE TEXT:A &:0,1 TEXT:B |:2,3 => aborted at 4;
 9 of floating 1000 ((((: BAL TEXT:X &:0,1 then floating 1000 (A): BAL => way 0 3 at 1; way 1 2 at 3; exhausted at 7;
 9 of floating 1000 AAAB: SPAN:A TEXT:C &:0,1 then floating 1000 BAAB: SPAN:A => way 1 3 at 3; way 2 3 at 5; exhausted at 9;
+1 of floating 1000 AAAAAAAAAAAAAAAAAAAAAAAAAB: TEXT:A then anchored 1000 BBBBBBBBBBBBBBBBBBBBBBBBBBBBBB: SPAN:B => way 0 30 at 1; exhausted at 1;
+1 of floating 1000 ABABABABABABABABABABABABAB: TEXT:A then anchored 1000 A: SPAN:B TEXT:A |:0,1 => way 0 1 at 4; exhausted at 4;
 ";
 
 #[test]
@@ -119,13 +145,16 @@ fn compare<P: Points>(
         anchored: chance.below(2) == 0,
         limit: chance.below(90) as u32,
     };
-    begin_search(m, &table, pattern, s)?;
-    let told = events_of(alloc, m, &table, &answers, 100_000)?;
     let want = search_events(
         alloc, &forms, pattern, s.subject, s.anchored, s.limit, &answers,
     )?;
+    begin_search(alloc, m, &table, pattern, s, false)?;
+    let told = events_of(alloc, m, &table, &answers, 100_000)?;
     check_same(rt, &told, &want);
-    begin_search(m, &table, pattern, s)?;
+    begin_search(alloc, m, &table, pattern, s, true)?;
+    let told = events_of(alloc, m, &table, &answers, 100_000)?;
+    check_same(rt, &told, &want);
+    begin_search(alloc, m, &table, pattern, s, want.len() % 2 == 0)?;
     let _told = events_of(alloc, m, &table, &answers, chance.below(8))?;
     Ok(want.len())
 }

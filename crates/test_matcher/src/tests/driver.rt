@@ -4,7 +4,7 @@ ghost use Rattle.sno_match.specs.Matching.{Begins};
 
 use sno_match::{Engine, Event, Pending, Points};
 use sno_pattern::Patterns;
-use sno_value::PatId;
+use sno_value::{PatId, Text};
 use std::alloc::{AllocError, Global};
 
 /// An event, how many steps were taken when it was told, and the pending list of the last way.
@@ -46,6 +46,23 @@ pub fn begin_again<P: Points>(
     ensures asked { OnOk result (m.new.waits ≡ false) }
 {
     m.begin_again(table, pattern, subject, anchored, limit)?;
+    Ok(())
+}
+
+/// The same, of a subject that is lent.
+pub fn begin_on<P: Points>(
+    m: &mut Engine<P>,
+    table: &Patterns,
+    pattern: PatId,
+    subject: &Text,
+    anchored: bool,
+    limit: u32,
+) -> Result<(), AllocError>
+    requires { pattern.0 < length table.now }
+    ensures table { OnOk result (m.new.nodes ≡ table.now) }
+    ensures asked { OnOk result (m.new.waits ≡ false) }
+{
+    m.begin_on(table, pattern, subject, anchored, limit)?;
     Ok(())
 }
 

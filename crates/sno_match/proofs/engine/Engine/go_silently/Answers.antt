@@ -6,34 +6,34 @@ use Rattle.sno_match.proofs.engine.Engine.go_silently.Goals as goal
 
 pub invariant_of-self : goal.invariant_of-self
 invariant_of-self g c =
-    let l = laws.refused_leads c.args.self.now c.self.inside.lent.value c.self.inside.pattern c.self.inside.subject.items c.self.inside.anchored
+    let l = laws.refused_leads c.args.self.now c.self.inside.lent.value c.self.inside.pattern c.self.inside.subject.bytes c.self.inside.anchored
     c.self.inside.limit c.self.inside.answers.items c.self.inside.told c.self.inside.steps c.self.inside.state c.self.inside.way.items
     (g.P.Points.points c.self.inside.points) (g.P.Points.records c.self.inside.points) c.self.inside.start c.self.view_is c.self.invariant.0
     c.requires.going c.requires.on
-    c.args.patterns.now c.deref.result.now c.requires.table c.deref.ensures.value c.take_silent_steps.new.steps
+    c.args.patterns.now c.as_slice.result.now c.requires.table c.as_slice.ensures.value c.take_silent_steps.new.steps
     (g.P.Points.points c.take_silent_steps.new.self) (g.P.Points.records c.take_silent_steps.new.self)
     (omega (arith, c.take_silent_steps.ensures.records)) c.take_silent_steps.ensures.leads in (
-      (laws.stays_all c.args.self.now c.self.inside.lent.value c.self.inside.pattern c.self.inside.subject.items c.self.inside.anchored
+      (laws.stays_all c.args.self.now c.self.inside.lent.value c.self.inside.pattern c.self.inside.subject.bytes c.self.inside.anchored
           c.self.inside.limit c.self.inside.answers.items c.self.inside.told c.self.inside.steps c.self.inside.state c.self.inside.way.items
           (g.P.Points.points c.self.inside.points) (g.P.Points.records c.self.inside.points) c.self.inside.start c.self.view_is c.self.invariant.0
           c.requires.going c.requires.on
           c.take_silent_steps.new.steps c.self.inside.start (g.P.Points.points c.take_silent_steps.new.self) c.self.inside.way.items
           (g.P.Points.records c.take_silent_steps.new.self) l).0,
-      same_looks c.self.inside.lent.value c.args.patterns.now c.self.inside.subject.items c.deref.result.now c.take_silent_steps.new.looks
-          (ap (λ (x : Matching). x.nodes) c.self.view_is ∙ c.requires.table) c.deref.ensures.value c.take_silent_steps.ensures.looks,
+      same_looks c.self.inside.lent.value c.args.patterns.now c.self.inside.subject.bytes c.as_slice.result.now c.take_silent_steps.new.looks
+          (ap (λ (x : Matching). x.nodes) c.self.view_is ∙ c.requires.table) c.as_slice.ensures.value c.take_silent_steps.ensures.looks,
       c.self.invariant.2,
     )
 
 pub returns-clause-goes : goal.returns-clause-goes
 returns-clause-goes g c =
-    let l = laws.refused_leads c.args.self.now c.self.inside.lent.value c.self.inside.pattern c.self.inside.subject.items c.self.inside.anchored
+    let l = laws.refused_leads c.args.self.now c.self.inside.lent.value c.self.inside.pattern c.self.inside.subject.bytes c.self.inside.anchored
     c.self.inside.limit c.self.inside.answers.items c.self.inside.told c.self.inside.steps c.self.inside.state c.self.inside.way.items
     (g.P.Points.points c.self.inside.points) (g.P.Points.records c.self.inside.points) c.self.inside.start c.self.view_is c.self.invariant.0
     c.requires.going c.requires.on
-    c.args.patterns.now c.deref.result.now c.requires.table c.deref.ensures.value c.take_silent_steps.new.steps
+    c.args.patterns.now c.as_slice.result.now c.requires.table c.as_slice.ensures.value c.take_silent_steps.new.steps
     (g.P.Points.points c.take_silent_steps.new.self) (g.P.Points.records c.take_silent_steps.new.self)
     (omega (arith, c.take_silent_steps.ensures.records)) c.take_silent_steps.ensures.leads in
-    (laws.stays_all c.args.self.now c.self.inside.lent.value c.self.inside.pattern c.self.inside.subject.items c.self.inside.anchored
+    (laws.stays_all c.args.self.now c.self.inside.lent.value c.self.inside.pattern c.self.inside.subject.bytes c.self.inside.anchored
     c.self.inside.limit c.self.inside.answers.items c.self.inside.told c.self.inside.steps c.self.inside.state c.self.inside.way.items
     (g.P.Points.points c.self.inside.points) (g.P.Points.records c.self.inside.points) c.self.inside.start c.self.view_is c.self.invariant.0
     c.requires.going c.requires.on

@@ -10,36 +10,36 @@ use Rattle.sno_match.proofs.engine.Engine.next.Goals as goal
 
 pub invariant_of-self : goal.invariant_of-self
 invariant_of-self g c = (
-  laws.lent_match c.args.self.now c.self.inside.lent.value c.self.inside.pattern c.self.inside.subject.items c.self.inside.anchored c.self.inside.limit
+  laws.lent_match c.args.self.now c.self.inside.lent.value c.self.inside.pattern c.self.inside.subject.bytes c.self.inside.anchored c.self.inside.limit
       c.self.inside.answers.items c.self.inside.told c.self.inside.steps c.self.inside.state c.self.inside.way.items (g.P.Points.points c.self.inside.points)
       (g.P.Points.records c.self.inside.points) c.self.inside.start c.self.view_is c.self.invariant.0
       c.of-self-inside.result.value c.args.patterns.now c.of-self-inside.ensures c.requires.table,
-  lent_looks c.args.self.now c.self.inside.lent.value c.of-self-inside.result.value c.args.patterns.now c.self.inside.subject.items c.self.inside.looks
+  lent_looks c.args.self.now c.self.inside.lent.value c.of-self-inside.result.value c.args.patterns.now c.self.inside.subject.bytes c.self.inside.looks
       (ap (λ (x : Matching). x.nodes) c.self.view_is) c.of-self-inside.ensures c.requires.table c.self.invariant.1,
   c.self.invariant.2,
 )
 
 pub invariant_of-self-2 : goal.invariant_of-self-2
 invariant_of-self-2 g c = (
-  laws.lent_match c.args.self.now c.self.inside.lent.value c.self.inside.pattern c.self.inside.subject.items c.self.inside.anchored c.self.inside.limit
+  laws.lent_match c.args.self.now c.self.inside.lent.value c.self.inside.pattern c.self.inside.subject.bytes c.self.inside.anchored c.self.inside.limit
       c.self.inside.answers.items c.self.inside.told c.self.inside.steps c.self.inside.state c.self.inside.way.items (g.P.Points.points c.self.inside.points)
       (g.P.Points.records c.self.inside.points) c.self.inside.start c.self.view_is c.self.invariant.0
       c.of-self-inside.result.value c.args.patterns.now c.of-self-inside.ensures c.requires.table,
-  lent_looks c.args.self.now c.self.inside.lent.value c.of-self-inside.result.value c.args.patterns.now c.self.inside.subject.items c.self.inside.looks
+  lent_looks c.args.self.now c.self.inside.lent.value c.of-self-inside.result.value c.args.patterns.now c.self.inside.subject.bytes c.self.inside.looks
       (ap (λ (x : Matching). x.nodes) c.self.view_is) c.of-self-inside.ensures c.requires.table c.self.invariant.1,
   c.self.invariant.2,
 )
 
 pub returns-in-Ended-clause-same : goal.returns-in-Ended-clause-same
 returns-in-Ended-clause-same g c =
-    laws.lent_same c.args.self.now c.self.inside.lent.value c.self.inside.pattern c.self.inside.subject.items c.self.inside.anchored c.self.inside.limit
+    laws.lent_same c.args.self.now c.self.inside.lent.value c.self.inside.pattern c.self.inside.subject.bytes c.self.inside.anchored c.self.inside.limit
     c.self.inside.answers.items c.self.inside.told c.self.inside.steps c.self.inside.state c.self.inside.way.items (g.P.Points.points c.self.inside.points)
     (g.P.Points.records c.self.inside.points) c.self.inside.start c.self.view_is c.self.invariant.0
     c.of-self-inside.result.value c.args.patterns.now c.of-self-inside.ensures c.requires.table
 
 pub returns-in-Ended-clause-ok : goal.returns-in-Ended-clause-ok
 returns-in-Ended-clause-ok g c =
-    laws.lent_again c.args.self.now c.self.inside.lent.value c.self.inside.pattern c.self.inside.subject.items c.self.inside.anchored c.self.inside.limit
+    laws.lent_again c.args.self.now c.self.inside.lent.value c.self.inside.pattern c.self.inside.subject.bytes c.self.inside.anchored c.self.inside.limit
     c.self.inside.answers.items c.self.inside.told c.self.inside.steps c.self.inside.state c.self.inside.way.items (g.P.Points.points c.self.inside.points)
     (g.P.Points.records c.self.inside.points) c.self.inside.start c.self.view_is c.self.invariant.0
     c.of-self-inside.result.value c.args.patterns.now c.of-self-inside.ensures c.requires.table
@@ -47,7 +47,7 @@ returns-in-Ended-clause-ok g c =
 
 pub returns-in-Ended-clause-counts : goal.returns-in-Ended-clause-counts
 returns-in-Ended-clause-counts g c =
-    let kept = laws.lent_match c.args.self.now c.self.inside.lent.value c.self.inside.pattern c.self.inside.subject.items c.self.inside.anchored
+    let kept = laws.lent_match c.args.self.now c.self.inside.lent.value c.self.inside.pattern c.self.inside.subject.bytes c.self.inside.anchored
     c.self.inside.limit c.self.inside.answers.items c.self.inside.told c.self.inside.steps c.self.inside.state c.self.inside.way.items
     (g.P.Points.points c.self.inside.points) (g.P.Points.records c.self.inside.points) c.self.inside.start c.self.view_is c.self.invariant.0
     c.of-self-inside.result.value c.args.patterns.now c.of-self-inside.ensures c.requires.table in
@@ -55,7 +55,7 @@ returns-in-Ended-clause-counts g c =
 
 pub returns-in-Ended-clause-ways : goal.returns-in-Ended-clause-ways
 returns-in-Ended-clause-ways g c =
-    let told = laws.lent_again c.args.self.now c.self.inside.lent.value c.self.inside.pattern c.self.inside.subject.items c.self.inside.anchored
+    let told = laws.lent_again c.args.self.now c.self.inside.lent.value c.self.inside.pattern c.self.inside.subject.bytes c.self.inside.anchored
     c.self.inside.limit c.self.inside.answers.items c.self.inside.told c.self.inside.steps c.self.inside.state c.self.inside.way.items
     (g.P.Points.points c.self.inside.points) (g.P.Points.records c.self.inside.points) c.self.inside.start c.self.view_is c.self.invariant.0
     c.of-self-inside.result.value c.args.patterns.now c.of-self-inside.ensures c.requires.table
@@ -64,7 +64,7 @@ returns-in-Ended-clause-ways g c =
 
 pub returns-in_err-event-clause-same : goal.returns-in_err-event-clause-same
 returns-in_err-event-clause-same g c =
-    let same = laws.lent_same c.args.self.now c.self.inside.lent.value c.self.inside.pattern c.self.inside.subject.items c.self.inside.anchored
+    let same = laws.lent_same c.args.self.now c.self.inside.lent.value c.self.inside.pattern c.self.inside.subject.bytes c.self.inside.anchored
     c.self.inside.limit c.self.inside.answers.items c.self.inside.told c.self.inside.steps c.self.inside.state c.self.inside.way.items
     (g.P.Points.points c.self.inside.points) (g.P.Points.records c.self.inside.points) c.self.inside.start c.self.view_is c.self.invariant.0
     c.of-self-inside.result.value c.args.patterns.now c.of-self-inside.ensures c.requires.table in
@@ -73,7 +73,7 @@ returns-in_err-event-clause-same g c =
 
 pub returns-in_err-event-clause-err : goal.returns-in_err-event-clause-err
 returns-in_err-event-clause-err g c =
-    let stays = laws.lent_stays c.args.self.now c.self.inside.lent.value c.self.inside.pattern c.self.inside.subject.items c.self.inside.anchored
+    let stays = laws.lent_stays c.args.self.now c.self.inside.lent.value c.self.inside.pattern c.self.inside.subject.bytes c.self.inside.anchored
     c.self.inside.limit c.self.inside.answers.items c.self.inside.told c.self.inside.steps c.self.inside.state c.self.inside.way.items
     (g.P.Points.points c.self.inside.points) (g.P.Points.records c.self.inside.points) c.self.inside.start c.self.view_is c.self.invariant.0
     c.of-self-inside.result.value c.args.patterns.now c.of-self-inside.ensures c.requires.table
@@ -85,7 +85,7 @@ returns-in_err-event-clause-err g c =
 
 pub returns-in_err-event-clause-again : goal.returns-in_err-event-clause-again
 returns-in_err-event-clause-again g c =
-    λ h. absurd (laws.never_again c.args.self.now c.self.inside.lent.value c.self.inside.pattern c.self.inside.subject.items c.self.inside.anchored
+    λ h. absurd (laws.never_again c.args.self.now c.self.inside.lent.value c.self.inside.pattern c.self.inside.subject.bytes c.self.inside.anchored
     c.self.inside.limit c.self.inside.answers.items c.self.inside.told c.self.inside.steps c.self.inside.state c.self.inside.way.items
     (g.P.Points.points c.self.inside.points) (g.P.Points.records c.self.inside.points) c.self.inside.start c.self.view_is c.self.invariant.0
     c.of-self-inside.result.value c.args.patterns.now c.of-self-inside.ensures c.requires.table
@@ -99,11 +99,11 @@ returns-in_err-event-clause-ways g c =
 pub returns-in-Some : goal.returns-in-Some
 returns-in-Some g c =
     let moves = rw c.in-Some.is at c.in_ok-event.ensures.ok in
-    let same = laws.lent_same c.args.self.now c.self.inside.lent.value c.self.inside.pattern c.self.inside.subject.items c.self.inside.anchored
+    let same = laws.lent_same c.args.self.now c.self.inside.lent.value c.self.inside.pattern c.self.inside.subject.bytes c.self.inside.anchored
     c.self.inside.limit c.self.inside.answers.items c.self.inside.told c.self.inside.steps c.self.inside.state c.self.inside.way.items
     (g.P.Points.points c.self.inside.points) (g.P.Points.records c.self.inside.points) c.self.inside.start c.self.view_is c.self.invariant.0
     c.of-self-inside.result.value c.args.patterns.now c.of-self-inside.ensures c.requires.table in
-    let stays = laws.lent_stays c.args.self.now c.self.inside.lent.value c.self.inside.pattern c.self.inside.subject.items c.self.inside.anchored
+    let stays = laws.lent_stays c.args.self.now c.self.inside.lent.value c.self.inside.pattern c.self.inside.subject.bytes c.self.inside.anchored
     c.self.inside.limit c.self.inside.answers.items c.self.inside.told c.self.inside.steps c.self.inside.state c.self.inside.way.items
     (g.P.Points.points c.self.inside.points) (g.P.Points.records c.self.inside.points) c.self.inside.start c.self.view_is c.self.invariant.0
     c.of-self-inside.result.value c.args.patterns.now c.of-self-inside.ensures c.requires.table
@@ -116,7 +116,7 @@ returns-in-Some g c =
       same = laws.same_then _ _ _ (laws.same_then _ _ _ same goes.same) moves.1;
       ok = told;
       err = tt;
-      again = λ h. absurd (laws.never_again c.args.self.now c.self.inside.lent.value c.self.inside.pattern c.self.inside.subject.items c.self.inside.anchored
+      again = λ h. absurd (laws.never_again c.args.self.now c.self.inside.lent.value c.self.inside.pattern c.self.inside.subject.bytes c.self.inside.anchored
           c.self.inside.limit c.self.inside.answers.items c.self.inside.told c.self.inside.steps c.self.inside.state c.self.inside.way.items
           (g.P.Points.points c.self.inside.points) (g.P.Points.records c.self.inside.points) c.self.inside.start c.self.view_is c.self.invariant.0
           c.of-self-inside.result.value c.args.patterns.now c.of-self-inside.ensures c.requires.table
