@@ -1,10 +1,11 @@
 -- Keys stay those of their symbols where the last ones go, and where one joins.
-use Rattle.std.proofs.Common.{◌≡◌, ℕ, ◌<◌, ◌≤◌, ◌++◌, ◌∷◌, List, [], length, take, slice_index_or, sym, subst, ◌∙◌, arith, ⊎_elim}
+use Rattle.std.proofs.Common.{◌≡◌, ℕ, ◌<◌, ◌≤◌, ◌++◌, ◌∷◌, List, [], length, take, slice_index_or, sym, ap, subst, ◌∙◌, arith, ⊎_elim}
 use Rattle.std.proofs.Common.{Bool, true, false, if◌then◌else◌}
 use Rattle.std.proofs.lemmas.Bool.{cases_lt}
 use Rattle.std.proofs.Math.Nat.{min-le_left}
 use Rattle.std.proofs.Math.Seq.{get_or-append_seam}
 use Rattle.std.proofs.lemmas.List.{get_or_append_left, get_or-take, get_or_past, length-append, length-take}
+use Rattle.sno_value.specs.Keys.{name_of}
 use Rattle.sno_store.specs.Symbols.{HasKey}
 use Rattle.sno_store.specs.inner.Symbols.{AreKeysOf}
 
@@ -49,6 +50,20 @@ joined symbols keys key known last i = ⊎_elim before behind (cases_lt i (lengt
 
   behind : length keys ≤ i → Goal
   behind h = ⊎_elim past (λ least. at (omega (arith, h, least))) (cases_lt (length keys) i)
+
+-- where a symbol joins, the keys of the others stay
+pub known_more : (symbols : List (List ℕ)) (name : List ℕ) (keys : List ℕ) → AreKeysOf symbols keys → AreKeysOf (symbols ++ name ∷ []) keys
+known_more symbols name keys known i = ((known i).0, λ some. (more some ((known i).1 some).0, ((known i).1 some).1)) where
+  more : 1 ≤ length (name_of (slice_index_or keys i 1)) → slice_index_or symbols i [] ≡ name_of (slice_index_or keys i 1)
+      → slice_index_or (symbols ++ name ∷ []) i [] ≡ name_of (slice_index_or keys i 1)
+  more some is = ⊎_elim here past (cases_lt i (length symbols)) where
+    here : i < length symbols → slice_index_or (symbols ++ name ∷ []) i [] ≡ name_of (slice_index_or keys i 1)
+    here h = get_or_append_left symbols (name ∷ []) [] i h ∙ is
+
+    past : length symbols ≤ i → slice_index_or (symbols ++ name ∷ []) i [] ≡ name_of (slice_index_or keys i 1)
+    past h =
+        let none : [] ≡ name_of (slice_index_or keys i 1) = sym (get_or_past symbols i [] h) ∙ is in
+        absurd (omega (arith, some, ap length none))
 
 -- where memory is refused, none joins
 pub joined_if : (ok : Bool) (symbols : List (List ℕ)) (keys : List ℕ) (key : ℕ)

@@ -3,8 +3,10 @@ pub mod CountLaws
 pub mod DefineLaws
 pub mod EntryLaws
 pub mod FunctionLaws
+pub mod IndexLaws
 pub mod NameLaws
 pub mod ObjectLaws
+pub mod PathLaws
 pub mod Places
 pub mod Prototypes
 pub mod KeyLaws

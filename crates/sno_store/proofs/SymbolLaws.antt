@@ -1,11 +1,17 @@
--- The place of a name among symbols, and what a search in the index set tells of it.
-use Rattle.std.proofs.Common.{◌≡◌, ℕ, suc, ◌+◌, ◌≤◌, Bool, true, false, not, cond, nat_lt, List, [], ◌∷◌, ◌++◌, length, map, Some, None, refl, ap, ◌∙◌, arith}
-use Rattle.std.proofs.Common.{if◌then◌else◌, ◌||◌}
-use Rattle.std.specs.List.{list_any, position, position_or_len}
+-- The place of a name among symbols.
+use Rattle.std.proofs.Common.{◌≡◌, ℕ, suc, ◌+◌, Bool, true, false, not, cond, nat_lt, List, [], ◌∷◌, ◌++◌, length, map, Some, None, refl, ap, sym, ◌∙◌, arith}
+use Rattle.std.proofs.Common.{if◌then◌else◌, ◌≤◌, ◌<◌}
+use Rattle.std.proofs.lemmas.List.{length-append}
+use Rattle.std.specs.List.{position, position_or_len}
 use Rattle.std.specs.Str.{bytes_eq}
-use Rattle.std.proofs.lemmas.Bool.{ltb-false}
+use Rattle.std.specs.Cmp.Lexicographic.{bytes_decides}
 use Rattle.sno_store.specs.Store.{place, is_symbol}
 use Rattle.sno_store.specs.Symbols.{found}
+use Rattle.sno_store.specs.inner.Hashes.{text_hash}
+use Rattle.sno_store.specs.inner.Indexed.{AreDistinct, IsAt}
+use Rattle.sno_store.specs.inner.Symbols.{AreKeysOf}
+use Rattle.sno_store.proofs.IndexLaws.{distinct_with, hashes_with, nowhere_at, position_none, position_of}
+use Rattle.sno_store.proofs.KeyLaws.{known_more}
 
 place_step : (b : Bool) (p q : ℕ) → p ≡ q → (if b then 0 else suc p) ≡ cond (not b) (1 + q) 0
 place_step true p q e = refl
@@ -19,22 +25,39 @@ place_at t (text ∷ texts) = place_step (bytes_eq t text) (place t texts) (posi
 pub found_at : (t : List ℕ) (texts : List (List ℕ)) → found t texts ≡ position (bytes_eq t) texts
 found_at t texts = ap (λ p. if nat_lt p (length texts) then Some p else None) (place_at t texts)
 
-absent_step : (b : Bool) (q n : ℕ) (r : Bool) → (n ≤ q → r ≡ false) → suc n ≤ cond (not b) (1 + q) 0 → (b || r) ≡ false
-absent_step true q n r e h = absurd (omega arith)
-absent_step false q n r e h = e (omega arith)
+-- the test of a name's bytes
+pub tells : (t text : List ℕ) → bytes_eq t text ≡ true → text ≡ t
+tells t text h = sym ((bytes_decides t text).0 h)
 
-none_passes : (t : List ℕ) (texts : List (List ℕ)) → length texts ≤ position_or_len (bytes_eq t) texts → list_any (bytes_eq t) texts ≡ false
-none_passes t [] h = refl
-none_passes t (text ∷ texts) h =
-    absent_step (bytes_eq t text) (position_or_len (bytes_eq t) texts) (length texts) (list_any (bytes_eq t) texts) (none_passes t texts) h
+pub itself : (t : List ℕ) → bytes_eq t t ≡ true
+itself t = (bytes_decides t t).1 refl
 
--- a name that is no symbol is no member of the set
-pub absent : (t : List ℕ) (texts : List (List ℕ)) → is_symbol t texts ≡ false → list_any (bytes_eq t) texts ≡ false
-absent t texts h = none_passes t texts (omega (arith, ltb-false (place t texts) (length texts) h, place_at t texts))
+-- a name that is no symbol has no place
+pub absent : (t : List ℕ) (texts : List (List ℕ)) → is_symbol t texts ≡ false → (i : ℕ) → IsAt texts i t → ⊥
+absent t texts h =
+    nowhere_at (bytes_eq t) t (tells t) (itself t) texts
+    (sym (found_at t texts) ∙ ap (λ b. if b then Some (place t texts) else None) h)
 
--- and goes last
-pub pushed : (t : List ℕ) (old new : List (List ℕ)) (text : List ℕ) → is_symbol t old ≡ false → text ≡ t
-    → new ≡ (if list_any (bytes_eq text) old then old else old ++ text ∷ []) → new ≡ old ++ t ∷ []
-pushed t old new text h same f =
-    let none : list_any (bytes_eq text) old ≡ false = rw same (absent t old h) in
-    rw none at f ∙ ap (λ x. old ++ x ∷ []) same
+-- the place of a name is its number
+pub name_here : (t : List ℕ) (texts : List (List ℕ)) (i : ℕ) → AreDistinct texts → IsAt texts i t → Some i ≡ position (bytes_eq t) texts
+name_here t texts i distinct at = sym (position_of (bytes_eq t) t (tells t) (itself t) texts i distinct at)
+
+pub no_name : (t : List ℕ) (texts : List (List ℕ)) → ((i : ℕ) → IsAt texts i t → ⊥) → None ≡ position (bytes_eq t) texts
+no_name t texts none = sym (position_none (bytes_eq t) t (tells t) (itself t) texts none)
+
+-- what stands of symbols, of the keys that are kept and of their hashes
+abbrev pub Stands : List (List ℕ) → List ℕ → List ℕ → Type 0
+Stands texts keys hashes =
+    (length texts ≤ 1_000_000) × AreKeysOf texts keys × (length keys ≤ length texts) × (hashes ≡ map text_hash texts)
+    × AreDistinct texts
+
+pub stands_with : (texts : List (List ℕ)) (name : List ℕ) (keys hashes : List ℕ) → is_symbol name texts ≡ false → length texts < 1_000_000
+    → Stands texts keys hashes → Stands (texts ++ name ∷ []) keys (hashes ++ text_hash name ∷ [])
+stands_with texts name keys hashes new room stands =
+    let long = length-append texts (name ∷ []) in (
+      omega (arith, room, long),
+      known_more texts name keys stands.1,
+      omega (arith, stands.2, long),
+      hashes_with text_hash texts name hashes _ stands.3 refl,
+      distinct_with _ texts name stands.4 (absent name texts new),
+    )

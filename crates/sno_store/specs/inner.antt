@@ -1,3 +1,6 @@
 pub mod First
+pub mod Hashes
+pub mod Indexed
+pub mod Paths
 pub mod Seen
 pub mod Symbols

@@ -1,14 +1,15 @@
 //! Tables.
 ghost use Rattle.std.specs.Prelude.{◌≡◌, ◌<◌, ◌≤◌, ◌↔◌, ◌*◌, [], ◌∷◌, ◌++◌, None, true, length, map, option_copied};
-ghost use Rattle.std.specs.Prelude.{slice_get, IsTrue, IfOk, OnOk, OnErr};
-ghost use Rattle.indexmap.specs.IndexMap.{index_map_len, set_value_at};
+ghost use Rattle.std.specs.Prelude.{slice_get, IfNone, IfOk, IfSome, OnOk, OnErr};
 ghost use Rattle.sno_store.specs.Objects.{with_value_at};
+ghost use Rattle.sno_store.specs.inner.Indexed.{IsAnswer, IsAt, IsNoDouble, keys_of};
 ghost use Rattle.sno_store.specs.inner.Seen.{IsEntry};
 ghost use Rattle.sno_store.specs.Stored.{is_null, is_key, stored_notions};
 ghost use Rattle.sno_store.specs.Tables.{entry_place, filled, rows};
 
 use crate::error::StoreError;
-use indexmap::IndexMap;
+use crate::hash::key_hash;
+use crate::index::Index;
 use sno_value::Value;
 use std::alloc::{AllocError, Global};
 use std::marker::Model;
@@ -19,18 +20,22 @@ const MOST_ENTRIES: usize = 1_000_000;
 /// The entries of a table, in the order in which their keys joined.
 #[derive(Drop)]
 pub(crate) struct Entries {
-    map: IndexMap<Value, Value>,
+    entries: Vec<(Value, Value)>,
+    index: Index,
 }
 
 impl Model for Entries {
-    ghost use Rattle.std.specs.Prelude.{List, ◌≤◌, length};
+    ghost use Rattle.std.specs.Prelude.{List, ◌≡◌, ◌≤◌, length, map};
     ghost use Rattle.sno_value.specs.declared.value.Value.{Value as Stored};
+    ghost use Rattle.sno_store.specs.inner.Hashes.{key_hash};
+    ghost use Rattle.sno_store.specs.inner.Indexed.{AreDistinct, keys_of};
 
     ghost Value = { List (Stored × Stored) };
 
-    ghost view = { λ t. t.map.entries };
+    ghost view = { λ t. t.entries.items };
 
-    ghost invariant = { λ t. length t.map.entries ≤ 1_000_000 };
+    ghost invariant = { λ t. (length t.entries.items ≤ 1_000_000) × (t.index.0 ≡ map key_hash (keys_of t.entries.items))
+        × AreDistinct (keys_of t.entries.items) };
 }
 
 impl Entries {
@@ -38,8 +43,11 @@ impl Entries {
     pub(crate) fn boxed(alloc: Global) -> Result<Box<Entries>, AllocError>
         ensures { IfOk result (λ entries. entries.value ≡ []) }
     {
-        let map = IndexMap::new(alloc);
-        let entries = Box::new(alloc, Entries { map })?;
+        let entries = Entries {
+            entries: Vec::new(alloc),
+            index: Index::new(alloc),
+        };
+        let entries = Box::new(alloc, entries)?;
         Ok(entries)
     }
 
@@ -48,7 +56,7 @@ impl Entries {
         ensures number { result ≡ length self.now }
         ensures few { result ≤ 1_000_000 }
     {
-        self.map.len()
+        self.entries.len()
     }
 
     /// The entry with a key, in expected constant time beside the length of the key's text.
@@ -56,8 +64,13 @@ impl Entries {
         requires { is_key key.now ≡ true }
         ensures { result ≡ entry_place stored_notions key.now self.now }
     {
-        let place = self.map.get_index_of(key)?;
-        Some(place as u32)
+        if let Some(place) = self.index.find(key_hash(key)) {
+            if is_at(&self.entries, place, key) {
+                return Some(place);
+            }
+        }
+        let place = double(&self.entries, self.index.doubles(), key)?;
+        Some(place)
     }
 
     /// A key that has no entry gets one, which is the last. It takes expected constant time.
@@ -69,8 +82,10 @@ impl Entries {
         ensures ok { OnOk result (self.new ≡ self.old ++ (key, value) ∷ []) }
         ensures err { OnErr result (self.new ≡ self.old) }
     {
-        let place = self.map.len() as u32;
-        self.map.insert(key, value)?;
+        let place = self.entries.len() as u32;
+        self.entries.reserve(1)?;
+        self.index.push(key_hash(&key))?;
+        self.entries.push((key, value))?;
         Ok(place)
     }
 
@@ -78,7 +93,7 @@ impl Entries {
     pub(crate) fn get(&self, entry: u32) -> Option<&Value>
         ensures { option_copied result ≡ slice_get (map (λ e. e.1) self.now) entry }
     {
-        let (_key, value) = self.map.get_index(entry as usize)?;
+        let (_key, value) = self.entries.get(entry as usize)?;
         Some(value)
     }
 
@@ -87,8 +102,8 @@ impl Entries {
         ensures { self.new ≡ with_value_at entry value self.old }
     {
         let place = entry as usize;
-        if place < self.map.len() {
-            put(&mut self.map, place, value);
+        if place < self.entries.len() {
+            self.entries[place].1 = value;
         }
     }
 
@@ -97,7 +112,10 @@ impl Entries {
         ensures number { result ≡ length (filled stored_notions self.now) }
         ensures few { result ≤ 1_000_000 }
     {
-        self.map.values().filter(|value| !is_null(value)).count()
+        self.entries
+            .iter()
+            .filter(|entry| !is_null(&entry.1))
+            .count()
     }
 
     /// The keys and values of the entries whose value isn't null, in turn.
@@ -105,7 +123,7 @@ impl Entries {
         ensures { IfOk result (λ values. values.items ≡ rows (filled stored_notions self.now)) }
     {
         let mut values = Vec::new(alloc);
-        'entries: for (key, value) in self.map.iter() {
+        'entries: for (key, value) in self.entries.iter() {
             if !is_null(value) {
                 values.push(key.copy()?)?;
                 values.push(value.copy()?)?;
@@ -115,12 +133,31 @@ impl Entries {
     }
 }
 
-/// A value is put in the place of an entry's.
-fn put(map: &mut IndexMap<Value, Value>, place: usize, value: Value)
-    requires { place < index_map_len map.old }
-    ensures { map.new.entries ≡ set_value_at map.old.entries place value }
+/// The place of a key among the doubles.
+fn double(entries: &[(Value, Value)], doubles: &[u32], key: &Value) -> Option<u32>
+    requires { is_key key.now ≡ true }
+    ensures some { IfSome result (λ place. IsAt (keys_of entries.now) place key.now) }
+    ensures none { IfNone result (IsNoDouble (keys_of entries.now) doubles.now key.now) }
 {
-    map[place] = value;
+    let mut next = 0;
+    'doubles: while next < doubles.len() {
+        if is_at(entries, doubles[next], key) {
+            return Some(doubles[next]);
+        }
+        next += 1;
+    }
+    None
+}
+
+/// Whether a key has this place.
+fn is_at(entries: &[(Value, Value)], place: u32, key: &Value) -> bool
+    requires { is_key key.now ≡ true }
+    ensures { IsAnswer (keys_of entries.now) place key.now result }
+{
+    match entries.get(place as usize) {
+        Some((own, _value)) => key == own,
+        None => false,
+    }
 }
 
 /// The entry with a key, which goes last with null where there is none.

@@ -17,13 +17,15 @@ mod entries;
 mod error;
 mod function_prototype;
 mod functions;
+mod hash;
+mod index;
 mod instance;
 mod object;
 mod objects;
 mod prototype;
-mod spelling;
 mod store;
 mod symbols;
+mod tree;
 mod type_prototype;
 
 pub use definition::Definition;

@@ -1,17 +1,18 @@
 //! The texts of the symbols, by number and by text.
 ghost use Rattle.std.specs.Prelude.{◌≡◌, ◌+◌, ◌||◌, ◌≤◌, ◌<◌, [], ◌∷◌, ◌++◌, length, take, false, slice_index_or};
-ghost use Rattle.std.specs.Prelude.{option_map, true, IfOk, OnOk, OnErr};
-ghost use Rattle.std.specs.List.{list_any};
+ghost use Rattle.std.specs.Prelude.{option_map, true, IfNone, IfOk, IfSome, OnOk, OnErr};
+ghost use Rattle.std.specs.List.{list_any, position};
 ghost use Rattle.std.specs.Str.{bytes_eq};
 ghost use Rattle.sno_value.specs.Keys.{name_of};
 ghost use Rattle.sno_store.specs.Store.{is_symbol};
 ghost use Rattle.sno_store.specs.Definitions.{listed, names, with_names};
+ghost use Rattle.sno_store.specs.inner.Indexed.{IsAnswer, IsAt, IsNoDouble};
 ghost use Rattle.sno_store.specs.inner.Seen.{prototype_seen};
 ghost use Rattle.sno_store.specs.Symbols.{found, HasKey};
 
 use crate::function_prototype::{FunctionPrototype, count, is_among};
-use crate::spelling::Spelling;
-use indexmap::IndexSet;
+use crate::hash::text_hash;
+use crate::index::Index;
 use sno_value::{SymId, Text, name_key};
 use std::alloc::{AllocError, Global};
 use std::marker::Model;
@@ -32,21 +33,24 @@ const NO_KEY: u64 = 1;
 #[derive(Drop)]
 pub(crate) struct Symbols {
     alloc: Global,
-    texts: IndexSet<Text>,
+    texts: Vec<Text>,
+    index: Index,
     // the keys of the first of them
     keys: Vec<u64>,
 }
 
 impl Model for Symbols {
-    ghost use Rattle.std.specs.Prelude.{List, ℕ, ◌≤◌, length};
+    ghost use Rattle.std.specs.Prelude.{List, ℕ, ◌≡◌, ◌≤◌, length, map};
+    ghost use Rattle.sno_store.specs.inner.Hashes.{text_hash};
+    ghost use Rattle.sno_store.specs.inner.Indexed.{AreDistinct};
     ghost use Rattle.sno_store.specs.inner.Symbols.{AreKeysOf};
 
     ghost Value = { List (List ℕ) };
 
-    ghost view = { λ s. s.texts.keys };
+    ghost view = { λ s. s.texts.items };
 
-    ghost invariant = { λ s. (length s.texts.keys ≤ 1_000_000) × AreKeysOf s.texts.keys s.keys.items
-        × (length s.keys.items ≤ length s.texts.keys) };
+    ghost invariant = { λ s. (length s.texts.items ≤ 1_000_000) × AreKeysOf s.texts.items s.keys.items
+        × (length s.keys.items ≤ length s.texts.items) × (s.index.0 ≡ map text_hash s.texts.items) × AreDistinct s.texts.items };
 }
 
 impl Symbols {
@@ -56,7 +60,8 @@ impl Symbols {
     {
         Symbols {
             alloc,
-            texts: IndexSet::new(alloc),
+            texts: Vec::new(alloc),
+            index: Index::new(alloc),
             keys: Vec::new(alloc),
         }
     }
@@ -73,8 +78,21 @@ impl Symbols {
     pub(crate) fn find(&self, name: &[u8]) -> Option<SymId>
         ensures { option_map (λ id. id.0) result ≡ found name.now self.now }
     {
-        let place = self.texts.get_index_of(Spelling { bytes: name })?;
-        Some(SymId(place as u32))
+        let place = self.place_of(name)?;
+        Some(SymId(place))
+    }
+
+    /// The place of a text.
+    fn place_of(&self, name: &[u8]) -> Option<u32>
+        ensures { result ≡ position (bytes_eq name.now) self.now }
+    {
+        if let Some(place) = self.index.find(text_hash(name)) {
+            if is_at(&self.texts, place, name) {
+                return Some(place);
+            }
+        }
+        let place = double(&self.texts, self.index.doubles(), name)?;
+        Some(place)
     }
 
     /// How many symbols there would be, had the names of a prototype joined them.
@@ -155,7 +173,9 @@ impl Symbols {
     {
         let id = SymId(self.texts.len() as u32);
         let text = Text::from_slice(self.alloc, name)?;
-        self.texts.insert(text)?;
+        self.texts.reserve(1)?;
+        self.index.push(text_hash(name))?;
+        self.texts.push(text)?;
         self.keep_key(id, name);
         Ok(id)
     }
@@ -188,6 +208,7 @@ impl Symbols {
         ensures { self.new ≡ take count self.old }
     {
         self.texts.truncate(count);
+        self.index.truncate(count);
         self.keys.truncate(count);
     }
 
@@ -195,7 +216,7 @@ impl Symbols {
     pub(crate) fn text(&self, symbol: SymId) -> &[u8]
         ensures { result.now ≡ slice_index_or self.now symbol.0 [] }
     {
-        match self.texts.get_index(symbol.0 as usize) {
+        match self.texts.get(symbol.0 as usize) {
             Some(text) => text.as_slice(),
             None => b"",
         }
@@ -212,5 +233,30 @@ fn kept_key(symbol: SymId, name: &[u8]) -> u64
         NO_KEY
     } else {
         key
+    }
+}
+
+/// The place of a text among the doubles.
+fn double(texts: &[Text], doubles: &[u32], name: &[u8]) -> Option<u32>
+    ensures some { IfSome result (λ place. IsAt texts.now place name.now) }
+    ensures none { IfNone result (IsNoDouble texts.now doubles.now name.now) }
+{
+    let mut next = 0;
+    'doubles: while next < doubles.len() {
+        if is_at(texts, doubles[next], name) {
+            return Some(doubles[next]);
+        }
+        next += 1;
+    }
+    None
+}
+
+/// Whether a text has this place.
+fn is_at(texts: &[Text], place: u32, name: &[u8]) -> bool
+    ensures { IsAnswer texts.now place name.now result }
+{
+    match texts.get(place as usize) {
+        Some(text) => text.as_slice() == name,
+        None => false,
     }
 }

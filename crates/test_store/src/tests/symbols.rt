@@ -35,6 +35,26 @@ fn numbers_symbols(rt: HostRuntime) -> Result<(), Fail> {
     check(&rt, rt.alloc(), NUMBERED)
 }
 
+// the last 28 bits of their hashes are equal
+const NEAR_NAMES: &[Step] = &[
+    Step::Symbol("AAADOFSVX", Ok(9)),
+    Step::Symbol("AAAHXLTCH", Ok(10)),
+    Step::Symbol("AACHNYJPB", Ok(11)),
+    Step::Set(Name::Var(SymId(9)), Row::Int(1)),
+    Step::Set(Name::Var(SymId(10)), Row::Int(2)),
+    Step::Symbol("AAADOFSVX", Ok(9)),
+    Step::Symbol("AAAHXLTCH", Ok(10)),
+    Step::Symbol("AACHNYJPB", Ok(11)),
+    Step::Get(Name::Var(SymId(9)), Row::Int(1)),
+    Step::Get(Name::Var(SymId(10)), Row::Int(2)),
+    Step::Get(Name::Var(SymId(11)), Row::Str("")),
+];
+
+#[test]
+fn names_with_near_hashes_are_told_apart(rt: HostRuntime) -> Result<(), Fail> {
+    check(&rt, rt.alloc(), NEAR_NAMES)
+}
+
 const X: Name = Name::Var(SymId(9));
 
 const Y: Name = Name::Var(SymId(10));

@@ -83,3 +83,34 @@ const NO_TABLES: &[Step] = &[
 fn other_objects_are_no_tables(rt: HostRuntime) -> Result<(), Fail> {
     check(&rt, rt.alloc(), NO_TABLES)
 }
+
+// the last 28 bits of the hashes of these texts are equal, and the last 24 bits of those of the numbers
+const NEAR_KEYS: &[Step] = &[
+    Step::NewTable(Ok(0)),
+    Step::Entry(0, Row::Str("AAADOFSVX"), Ok(0)),
+    Step::Find(0, Row::Str("AAAHXLTCH"), Ok(None)),
+    Step::Entry(0, Row::Str("AAAHXLTCH"), Ok(1)),
+    Step::Find(0, Row::Str("AACHNYJPB"), Ok(None)),
+    Step::Entry(0, Row::Str("AACHNYJPB"), Ok(2)),
+    Step::Entry(0, Row::Int(7276535), Ok(3)),
+    Step::Find(0, Row::Int(15662595), Ok(None)),
+    Step::Entry(0, Row::Int(15662595), Ok(4)),
+    Step::Set(Name::Entry(ObjId(0), 0), Row::Int(10)),
+    Step::Set(Name::Entry(ObjId(0), 1), Row::Int(11)),
+    Step::Set(Name::Entry(ObjId(0), 3), Row::Int(13)),
+    Step::Find(0, Row::Str("AAADOFSVX"), Ok(Some(0))),
+    Step::Find(0, Row::Str("AAAHXLTCH"), Ok(Some(1))),
+    Step::Find(0, Row::Str("AACHNYJPB"), Ok(Some(2))),
+    Step::Find(0, Row::Int(7276535), Ok(Some(3))),
+    Step::Find(0, Row::Int(15662595), Ok(Some(4))),
+    Step::Get(Name::Entry(ObjId(0), 0), Row::Int(10)),
+    Step::Get(Name::Entry(ObjId(0), 1), Row::Int(11)),
+    Step::Get(Name::Entry(ObjId(0), 2), Row::Str("")),
+    Step::Get(Name::Entry(ObjId(0), 3), Row::Int(13)),
+    Step::Get(Name::Entry(ObjId(0), 4), Row::Str("")),
+];
+
+#[test]
+fn keys_with_near_hashes_are_told_apart(rt: HostRuntime) -> Result<(), Fail> {
+    check(&rt, rt.alloc(), NEAR_KEYS)
+}

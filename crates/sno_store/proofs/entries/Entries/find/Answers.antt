@@ -1,9 +1,43 @@
-use Rattle.std.proofs.Common.{◌∙◌, sym, ap, map, position}
-use Rattle.sno_store.specs.Stored.{same_key}
-use Rattle.sno_store.proofs.EntryLaws.{place_is}
+use Rattle.std.proofs.Common.{◌≡◌, ◌∙◌, ℕ, Some, ap, rules, subst}
+use Rattle.sno_store.specs.Stored.{stored_notions}
+use Rattle.sno_store.specs.Tables.{entry_place}
+use Rattle.sno_store.specs.inner.Hashes.{key_hash}
+use Rattle.sno_store.specs.inner.Indexed.{IsAt, IsFound, IsNoDouble, keys_of}
+use Rattle.sno_store.proofs.EntryLaws.{entry_here, no_entry}
+use Rattle.sno_store.proofs.IndexLaws.{elsewhere, missed}
 use Rattle.sno_store.proofs.entries.Entries.find.Goals as goal
+use Rattle.sno_store.proofs.entries.Entries.find.Goals.{in-Some+else-is_at, in_default}
+
+pub returns-then-is_at : goal.returns-then-is_at
+returns-then-is_at c =
+    let entries = c.self.inside.entries.items in
+    let at : IsAt (keys_of entries) c.in-Some.place c.args.key.now = search rules in
+    entry_here c.args.key.now entries c.in-Some.place c.requires c.self.invariant.2 at
+    ∙ ap (entry_place stored_notions c.args.key.now) c.self.view_is
+
+pub returns-in_err-place : goal.returns-in_err-place
+returns-in_err-place c =
+    let entries = c.self.inside.entries.items in
+    let hashes = c.self.inside.index.0 in
+    let doubles = c.self.inside.index.1 in
+    let told : IsFound hashes doubles (key_hash c.args.key.now) c.find.result =
+    subst (λ h. IsFound hashes doubles h c.find.result) c.key_hash.ensures c.find.ensures in
+    let single : IsNoDouble (keys_of entries) doubles c.args.key.now = search rules in
+    let other : (i : ℕ) → c.find.result ≡ Some i → IsAt (keys_of entries) i c.args.key.now → ⊥ =
+    elim c.match-find.branch [
+      | in-Some+else-is_at w ↦ (let absent : IsAt (keys_of entries) w.in-Some.place c.args.key.now → ⊥ = search rules in
+          elsewhere (keys_of entries) c.args.key.now c.find.result w.in-Some.place w.in-Some.is absent)
+      | in_default w ↦ (λ i is at. w.in_default.not-Some i is)
+    ]
+    in
+    c.from_residual.ensures
+    ∙ no_entry c.args.key.now entries c.requires
+    (missed key_hash (keys_of entries) hashes doubles c.args.key.now c.find.result c.self.invariant.1 told other single)
+    ∙ ap (entry_place stored_notions c.args.key.now) c.self.view_is
 
 pub returns : goal.returns
 returns c =
-    sym c.in_ok-place.was ∙ c.get_index_of.ensures.index ∙ place_is c.args.key.now (map (λ entry. entry.0) c.self.inside.map.entries) c.requires
-    ∙ ap (λ es. position (same_key c.args.key.now) (map (λ entry. entry.0) es)) c.self.view_is
+    let entries = c.self.inside.entries.items in
+    let at : IsAt (keys_of entries) c.in_ok-place.place c.args.key.now = search rules in
+    entry_here c.args.key.now entries c.in_ok-place.place c.requires c.self.invariant.2 at
+    ∙ ap (entry_place stored_notions c.args.key.now) c.self.view_is

@@ -1,19 +1,22 @@
-use Rattle.std.proofs.Common.{◌≡◌, ◌∙◌, ◌≤◌, ap, length, rules, subst, sym, take}
+use Rattle.std.proofs.Common.{◌≡◌, ◌∙◌, ◌≤◌, ap, length, map, rules, subst, sym, take}
+use Rattle.sno_store.specs.inner.Hashes.{text_hash}
+use Rattle.sno_store.specs.inner.Indexed.{AreDistinct}
 use Rattle.sno_store.specs.inner.Symbols.{AreKeysOf}
+use Rattle.sno_store.proofs.IndexLaws.{distinct_cut, hashes_cut}
 use Rattle.sno_store.proofs.KeyLaws.{cut}
 use Rattle.sno_store.proofs.symbols.Symbols.truncate.Goals as goal
 
 pub invariant_of-self : goal.invariant_of-self
 invariant_of-self c =
-    let few : length c.truncate.new.self.keys ≤ 1_000_000 = search rules in
-    let symbols = c.self.inside.texts.keys in
-    let keys : c.truncate-2.new.self.items ≡ take c.args.count c.self.inside.keys.items = search rules in (
+    let few : length c.truncate.new.self.items ≤ 1_000_000 = search rules in
+    let texts = c.self.inside.texts.items in
+    let keys : c.truncate-3.new.self.items ≡ take c.args.count c.self.inside.keys.items = search rules in (
       few,
-      subst (λ ts. AreKeysOf ts c.truncate-2.new.self.items) (sym c.truncate.ensures.keys)
-          (subst (AreKeysOf (take c.args.count symbols)) (sym keys)
-          (cut c.args.count symbols c.self.inside.keys.items (c.self.invariant.1))),
+      subst (λ ts. AreKeysOf ts c.truncate-3.new.self.items) (sym c.truncate.ensures.items)
+          (subst (AreKeysOf (take c.args.count texts)) (sym keys)
+          (cut c.args.count texts c.self.inside.keys.items (c.self.invariant.1))),
       search rules,
+      hashes_cut text_hash c.args.count texts c.self.inside.index.0 _ c.self.invariant.3 c.truncate-2.ensures
+          ∙ ap (map text_hash) (sym c.truncate.ensures.items),
+      subst AreDistinct (sym c.truncate.ensures.items) (distinct_cut c.args.count texts c.self.invariant.4),
     )
-
-pub returns : goal.returns
-returns c = c.truncate.ensures.keys ∙ ap (take c.args.count) c.self.view_is

@@ -1,0 +1,8 @@
+use Rattle.sno_store.specs.inner.Paths.{Keeps}
+use Rattle.sno_store.proofs.tree.Tree.insert.Given as goal
+
+abbrev pub invariant-tries : goal.invariant-tries
+invariant-tries l = Keeps l.hashes l.fn.self l.self
+
+abbrev pub decreases-tries : goal.decreases-tries
+decreases-tries l = l.tries
