@@ -1,6 +1,7 @@
 #!/bin/bash
 # Times patterns that look at the same bytes from many cursors, each on a subject of 1,000,000 bytes, with the step limit that
-# a program has by itself. A row's time grows with its steps and with the subject, never with their product.
+# a program has by itself. A row's time grows with its steps and with the subject, never with their product. Then times keys
+# whose hashes end in the same bits beside as many others: each ratio stays under 3.
 set -eu
 top=$(cd "$(dirname "$0")/.." && pwd)
 program=${1:-$top/snobol4}
@@ -73,3 +74,52 @@ time_row "$same" "(DUPL('A',500000) 'B')"
 time_row "$same" "$(alternatives 4 "SPAN('A')")"
 time_row "$same" "$(alternatives 8 "SPAN('A')")"
 time_row "$same" "$(alternatives 8 "BREAK(',')")"
+
+# seconds PROGRAM INPUT, the least of three
+seconds() {
+    "$program" run "$1" <"$2" >"$work/out" || { echo "hostile.sh: status $? of $1" >&2 && return 1; }
+    for _ in 1 2 3; do
+        { time "$program" run "$1" <"$2" >"$work/out" 2>"$work/err"; } 2>&1
+    done | sort -n | head -n 1
+}
+
+# ratio ROW PROGRAM INPUT OTHER [OTHER-PROGRAM]
+ratio() {
+    local slow fast
+    slow=$(seconds "$2" "$3")
+    fast=$(seconds "${5:-$2}" "$4")
+    awk -v row="$1" -v slow="$slow" -v fast="$fast" \
+        'BEGIN { printf "%7.2f s  %-40s %7.2f s with other keys, ratio %.2f\n", slow, row, fast, slow / (fast < 0.01 ? 0.01 : fast) }'
+}
+
+# text_of KEYS writes a program whose text has them as names, and which ends before any is used
+text_of() {
+    echo ' :(END)' && paste -d ' ' - - <"$1" | sed 's/\(.*\) \(.*\)/ \1 = \2/' && echo END
+}
+
+cc -O2 -o "$work/collide" "$top/bench/collide.c"
+printf '%s\n' ' T = TABLE()' 'L W = INPUT :F(END)' ' T<W> = T<W> + 1 :(L)' END >"$work/words"
+printf '%s\n' ' T = TABLE()' 'L W = INPUT :F(END)' ' T<+W> = T<+W> + 1 :(L)' END >"$work/numbers"
+printf '%s\n' 'L W = INPUT :F(END)' ' $W = 1 :(L)' END >"$work/variables"
+for hash in "fold 13" "sip 11"; do
+    for kind in word int name; do
+        # shellcheck disable=SC2086
+        set -- $hash
+        "$work/collide" "$1" $kind "$2" 160000 >"$work/keys"
+        "$work/collide" "$1" $kind 0 160000 >"$work/others"
+        for count in 40000 80000 160000; do
+            head -n $count "$work/keys" >"$work/some"
+            head -n $count "$work/others" >"$work/as-many"
+            case $kind in
+            word) ratio "T<W> $hash $count" "$work/words" "$work/some" "$work/as-many" ;;
+            int) ratio "T<N> $hash $count" "$work/numbers" "$work/some" "$work/as-many" ;;
+            name)
+                ratio "\$W $hash $count" "$work/variables" "$work/some" "$work/as-many"
+                text_of "$work/some" >"$work/text"
+                text_of "$work/as-many" >"$work/other-text"
+                ratio "names in a text $hash $count" "$work/text" /dev/null /dev/null "$work/other-text"
+                ;;
+            esac
+        done
+    done
+done
