@@ -65,9 +65,9 @@ const own = pathToFileURL(page).href;
 const link = fields => `${own}#${new URLSearchParams(fields)}`;
 const text = id => browser.tell(`document.getElementById('${id}').innerText.trim()`);
 const sleep = time => new Promise(resolve => setTimeout(resolve, time));
-// Waits up to a minute until the condition holds. What is asked while a page goes may never be answered, so it is asked again.
+// Waits up to three minutes until the condition holds. What is asked while a page goes may never be answered, so it is asked again.
 async function soon(condition) {
-  for (const end = Date.now() + 60_000; Date.now() < end; await sleep(100)) {
+  for (const end = Date.now() + 180_000; Date.now() < end; await sleep(100)) {
     if (await Promise.race([browser.tell(condition).catch(() => false), sleep(2000)])) return;
   }
 }
@@ -135,20 +135,15 @@ async function pages() {
 }
 
 const limit = setTimeout(() => {
-  console.log('not ok the browser answers: it does not, after 300 seconds');
+  console.log('not ok the browser answers: it does not, after 900 seconds');
   browser.process.kill('SIGKILL');
   process.exit(1);
-}, 300_000);
+}, 900_000);
 try {
   await browser.open(own);
   await soon(`document.readyState === 'complete'`);
-  if (process.env.SHOTS) {
-    const { shots } = await import(process.env.SHOTS);
-    await shots({ browser, show, soon });
-  } else {
-    await listings();
-    await pages();
-  }
+  await listings();
+  await pages();
 } catch (fault) {
   console.log(`not ok the browser answers: ${String(fault).split('\n')[0]}`);
 }

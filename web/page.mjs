@@ -327,7 +327,7 @@ function restore() {
   show(name);
   if (state.has('tab')) for (const field of FIELDS[name]) $(field).value = state.get(field) ?? (field === 'steps' || field === 'limit' ? 1e6 : '');
   if (state.has('pattern')) $('anchor').checked = state.has('anchor');
-  $('first').open = $('statements').value !== '';
+  fit_statements();
   show_as(state.get('view') === 'search');
   if (name === 'program') show_run();
   else show_ways();
@@ -356,7 +356,12 @@ function offer(field, examples, shows) {
 function fill({ name, anchor, ...texts }) {
   for (const [id, text] of Object.entries(texts)) $(id).value = text;
   if (anchor !== undefined) $('anchor').checked = anchor;
-  $('first').open = $('statements').value !== '';
+  fit_statements();
+}
+
+function fit_statements() {
+  $('first').open ||= $('statements').value !== '';
+  $('statements').rows = Math.max(3, Math.min(10, $('statements').value.split('\n').length));
 }
 
 let timer = 0;
