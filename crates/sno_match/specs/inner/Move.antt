@@ -93,7 +93,6 @@ pub record Steps (nodes : List Node) (s : List ℕ) (goal : Goal) (c : ℕ) (mar
   pub scopes : KeepsScopes nodes goal plan
   pub carried : CarriesOut plan c left old told new
 
-
 -- what is due is a step: no FENCE is backed into, and no cut
 abbrev pub HasStep : List Node → Goal → Mark → Type 0
 HasStep nodes goal Enter = Unit {0}
