@@ -5,3 +5,4 @@ pub mod Ranges
 pub mod RunLaws
 pub mod AskingLaws
 pub mod CallLaws
+pub mod TurnLaws

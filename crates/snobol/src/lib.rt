@@ -4,7 +4,8 @@
 //! `job` does what the command line asks for, and `endings` tells how it ended. `execution` goes through the
 //! statements of a run, each of which `sno_statement` performs. `calls` performs the statements of a function that the
 //! program defines, and `scope` is what statements are performed in: the program itself, or a call. `enumeration` is
-//! the listing of a pattern, and `listing` its loop over events; `machine` evaluates and matches, call after call.
+//! the listing of a pattern, and `listing` its loop over events; `machine` evaluates and matches, call after call. `laws`
+//! has what is true of every program's meaning.
 #![tactic(auto)]
 
 mod calls;
@@ -12,6 +13,7 @@ mod endings;
 mod enumeration;
 mod execution;
 mod job;
+mod laws;
 mod listing;
 mod machine;
 mod no_input;
@@ -20,6 +22,7 @@ mod scope;
 pub use enumeration::{WaysOutcome, ways};
 pub use execution::{Outcome, run};
 pub use job::perform;
+pub use laws::{chains_end, sessions_end};
 pub use machine::Machine;
 pub use sno_io::{Device, DeviceFault, Job, Limits, Sink, Source, command, put, status_of};
 pub use sno_text::ReadError;
