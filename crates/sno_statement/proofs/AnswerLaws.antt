@@ -1,8 +1,11 @@
 -- The answer to a deferred part, from what its expression gave.
-use Rattle.std.proofs.Common.{refl, Option, None, Some, Ok, Err}
+use Rattle.std.proofs.Common.{◌≡◌, false, refl, Option, None, Some, Ok, Err}
+use Rattle.std.specs.Option.{is_some}
 use Rattle.sno_value.specs.declared.ids.PatId.{PatId}
 use Rattle.sno_value.specs.declared.kind.PrimitiveKind.{PrimitiveKind}
 use Rattle.sno_value.specs.declared.value.Value.{Value as Stored}
+use Rattle.sno_value.specs.declared.value.Value.TheVariants.{Pat}
+use Rattle.sno_pattern.specs.Table.{tree}
 use Rattle.sno_runtime.specs.declared.stops.Exit.{Exit}
 use Rattle.sno_runtime.specs.declared.stops.Exit.TheVariants.{Failure, Halt}
 use Rattle.sno_runtime.specs.declared.stops.Stop.{Stop}
@@ -13,7 +16,7 @@ use Rattle.sno_runtime.specs.inner.Runtime.{Does}
 use Rattle.sno_runtime.specs.Values.{Value, shown, IsValueOf}
 use Rattle.sno_runtime.proofs.Outcomes.{gives_does, then_got, then_err}
 use Rattle.sno_statement.specs.inner.Given.{given_of, IsGivenOf}
-use Rattle.sno_statement.specs.Running.{Devices, Runs}
+use Rattle.sno_statement.specs.Running.{CanRun, Devices, Runs}
 use Rattle.sno_statement.specs.Turns.{answer_of}
 use Rattle.sno_statement.proofs.RunningLaws.{does_runs, runs_got, runs_failed, runs_halt}
 
@@ -43,6 +46,14 @@ none_given primitive act a b d e did =
     runs_failed {X = Stored} {Y = Option PatId} shown IsValueOf given_of IsGivenOf act (answer_of primitive) a b b d e e (Ok None) did
     (does_runs {X = Option PatId} given_of IsGivenOf (gives None) b b e (Ok None) did.ready
     (gives_does {X = Option PatId} given_of IsGivenOf b None None refl tt))
+
+-- a variable holds the pattern
+pub held_answered : (primitive : Option PrimitiveKind) (act : Action Value) (a : Runtime) (d : Devices) (id : PatId) → is_some primitive ≡ false
+    → CanRun a d → Does shown IsValueOf act a a (Ok (Pat id)) → Runs given_of IsGivenOf (settles act (answer_of primitive)) a a d d (Ok (Some id))
+held_answered None act a d id none can did =
+    answered None act a a a d d (Pat id) id (does_runs shown IsValueOf act a a d (Ok (Pat id)) can did)
+    (gives_does tree_of IsPatternOf a id (tree a.nodes id.0) refl did.answer)
+held_answered (Some p) act a d id none can did = absurd (cc)
 
 pub halted : (primitive : Option PrimitiveKind) (act : Action Value) (a b : Runtime) (d e : Devices) (why : Stop)
     → Runs {X = Stored} shown IsValueOf act a b d e (Err (Halt why))

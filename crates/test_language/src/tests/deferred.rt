@@ -93,6 +93,38 @@ const PROGRAMS_WITH_EXPRESSIONS: &str = r"
  S = 'AXB'\n C = 'X'\n S *C = '-'\n OUTPUT = S\nEND\n => A-B\n
 ";
 
+/// A variable alone gives what it holds when the match comes to it, of whatever type that is.
+const VARIABLES_IN_MATCHES: &str = r"
+ X = LEN(3)\n 'ABAB' FENCE LEN(1) $ X LEN(1) *X . Y\n OUTPUT = Y\nEND\n => A\n
+ X = 'A'\n 'ABB' FENCE *X LEN(1) $ X *X . Y\n OUTPUT = Y\nEND\n => B\n
+ DEFINE('F()') :(M)\nF X = 'C' :(RETURN)\nM X = 'A'\n 'ABC' *X 'B' *F() *X . Y\n OUTPUT = Y\nEND\n => C\n
+ 'AB' FENCE *X 'A' . Y\n OUTPUT = Y\nEND\n => A\n
+ X =\n 'AB' FENCE *X 'A' . Y\n OUTPUT = Y\nEND\n => A\n
+ N = 12\n '0123' *N . Y\n OUTPUT = Y\nEND\n => 12\n
+ N = -3\n 'A-3B' *N . Y\n OUTPUT = Y\nEND\n => -3\n
+ X = 'ABCDEFGHIJKLMNOPQRSTUVWXYZ'\n 'aABCDEFGHIJKLMNOPQRSTUVWXYZb' *X 'b' . Y\n OUTPUT = Y\nEND\n => b\n
+ X = *Y\n Y = 'B'\n 'AB' LEN(1) *X . Z\n OUTPUT = Z\nEND\n => B\n
+ 'ABC' LEN(1) *REM . Y\n OUTPUT = Y\nEND\n => BC\n
+ &ANCHOR = 1\n '1' *&ANCHOR . Y\n OUTPUT = Y\nEND\n => 1\n
+ A = ARRAY(2)\n 'AB' *A\nEND\n => status 1: snobol4: error 1 in statement 2\n
+ T = TABLE()\n 'AB' *T\nEND\n => status 1: snobol4: error 1 in statement 2\n
+ A = ARRAY(2)\n N = .A<1>\n 'AB' *N\nEND\n => status 1: snobol4: error 1 in statement 3\n
+ DATA('D(F)')\n X = D(1)\n 'AB' *X\nEND\n => status 1: snobol4: error 1 in statement 3\n
+ N = 2\n 'ABC' LEN(*N) REM . Y\n OUTPUT = Y\nEND\n => C\n
+ N = '2'\n 'ABC' TAB(*N) REM . Y\n OUTPUT = Y\nEND\n => C\n
+ X = 'BA'\n 'ABC' SPAN(*X) REM . Y\n OUTPUT = Y\nEND\n => C\n
+ X = 12\n '213' SPAN(*X) REM . Y\n OUTPUT = Y\nEND\n => 3\n
+ A = ARRAY(2)\n 'AB' LEN(*A)\nEND\n => status 1: snobol4: error 1 in statement 2\n
+ P = LEN(1)\n 'AB' ANY(*P)\nEND\n => status 1: snobol4: error 1 in statement 2\n
+ X =\n 'AB' ANY(*X)\nEND\n => status 1: snobol4: error 6 in statement 2\n
+ N = -1\n 'AB' LEN(*N)\nEND\n => status 1: snobol4: error 7 in statement 2\n
+";
+
+#[test]
+fn variables_in_matches(rt: HostRuntime) -> Result<(), Fail> {
+    check_rows::<Programs, _>(&rt, VARIABLES_IN_MATCHES)
+}
+
 #[test]
 fn programs_with_expressions(rt: HostRuntime) -> Result<(), Fail> {
     check_rows::<Programs, _>(&rt, PROGRAMS_WITH_EXPRESSIONS)

@@ -142,6 +142,26 @@ fn replacements(rt: HostRuntime) -> Result<(), Fail> {
     check_rows::<Programs, _>(&rt, REPLACEMENTS)
 }
 
+/// A match searches the bytes that its subject had when it began, whatever is assigned meanwhile. From 23 bytes on a
+/// string lies in a block that others share.
+const SUBJECTS_THAT_CHANGE: &str = r"
+ S = 'ABCDEFGHIJKLMNOPQRSTUVWXYZ'\n S LEN(1) . S = '-'\n OUTPUT = S\nEND\n => -BCDEFGHIJKLMNOPQRSTUVWXYZ\n
+ S = 'ABCDEFGHIJKLMNOPQRSTUVWXYZ'\n T = S\n S LEN(1) . S = '-'\n OUTPUT = T\nEND\n => ABCDEFGHIJKLMNOPQRSTUVWXYZ\n
+ S = 'ABCDEFGHIJKLMNOPQRSTUVWXYZ'\n S LEN(2) $ S LEN(2) . T\n OUTPUT = S T\nEND\n => ABCD\n
+ S = 'ABCDEFGHIJKLMNOPQRSTUVWXYZ'\n S LEN(2) $ S LEN(2) = '-'\n OUTPUT = S\nEND\n => -EFGHIJKLMNOPQRSTUVWXYZ\n
+ DEFINE('F()') :(M)\nF S = S S :(RETURN)\nM S = 'ABCDEFGHIJKLMNOPQRSTUVWXYZ'\n S 'Y' *F() 'Z' RPOS(0) . T\n OUTPUT = SIZE(S)\nEND\n => 52\n
+ DEFINE('F()') :(M)\nF S LEN(24) = :(RETURN)\nM S = 'ABCDEFGHIJKLMNOPQRSTUVWXYZ'\n S LEN(3) *F() LEN(3) . T\n OUTPUT = S T\nEND\n => YZDEF\n
+ DEFINE('F()') :(M)\nF 'XYZ' LEN(1) . F :(RETURN)\nM 'AAAAAAAAAAAAAAAAAAAAAAAAAXB' *F() 'B' . T\n OUTPUT = T\nEND\n => B\n
+ INPUT LEN(25) LEN(1) . T\n OUTPUT = T\nEND\n <- ABCDEFGHIJKLMNOPQRSTUVWXYZ\n => Z\n
+ S = 'ABCDEFGHIJKLMNOPQRSTUVWXYZ'\n T = S\n S LEN(25)\n S = S 'a'\n S 'Za' . U\n OUTPUT = U T\nEND\n => ZaABCDEFGHIJKLMNOPQRSTUVWXYZ\n
+ S = 'ABCDEFGHIJKLMNOPQRSTUVWXYZ'\nL S LEN(1) = :S(L)\n OUTPUT = SIZE(S)\nEND\n => 0\n
+";
+
+#[test]
+fn subjects_that_change(rt: HostRuntime) -> Result<(), Fail> {
+    check_rows::<Programs, _>(&rt, SUBJECTS_THAT_CHANGE)
+}
+
 const LIMITS_OF_A_RUN: &str = r"
 --statements 3 ; L :(L)\nEND\n => status 4: snobol4: error 20 in statement 1\n
 --statements 1 ;  X = 1\nEND\n => status 0
