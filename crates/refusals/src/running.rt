@@ -62,9 +62,16 @@ const OBJECTS: Row = (
     },
 );
 
+/// A subject that is lent while its variable changes, and a deferred variable that holds a string.
+const LENT: Row = (
+    b" S = 'ABCDEFGHIJKLMNOPQRSTUVWXYZ'\n X = 'YZ'\n S LEN(2) $ S *X . T = '-'\n OUTPUT = S\n S = 'ABCDEFGHIJKLMNOPQRSTUVWXYZ'\n S *X . T = '-'\n OUTPUT = S T\nEND\n",
+    b"ABCDEFGHIJKLMNOPQRSTUV-\nABCDEFGHIJKLMNOPQRSTUVWX-YZ\n",
+    Outcome::Ended,
+);
+
 /// Whether each program writes what it must and ends as it must, also where it is run again behind a refusal.
 pub(crate) fn holds(alloc: Global) -> Result<bool, AllocError> {
-    for row in [BRACKETS, FACTORIAL, INNER, RESTORED, ELEMENT, OBJECTS] {
+    for row in [BRACKETS, FACTORIAL, INNER, RESTORED, ELEMENT, OBJECTS, LENT] {
         if !runs(alloc, row)? {
             return Ok(false);
         }

@@ -5,7 +5,7 @@ ghost use Rattle.sno_runtime.specs.Keywords.{is_anchored};
 
 use crate::runtime::Runtime;
 use sno_match::Matcher;
-use sno_value::PatId;
+use sno_value::{PatId, Text};
 use std::alloc::AllocError;
 
 /// The most steps of a match whose matcher is kept: the lists of a matcher have room for little more than what its
@@ -15,16 +15,16 @@ const KEPT_STEPS: u32 = 1_000;
 /// The same where no other matcher is kept, as in a program that begins no match inside another.
 const KEPT_ALONE: u32 = 10_000;
 
-/// The longest subject of a match whose matcher is kept, since the matcher keeps it too.
-const KEPT_BYTES: usize = 10_000;
+/// From how many bytes on a string lies in a block.
+const BLOCK_BYTES: usize = 23;
 
 impl Runtime {
     /// A match of a pattern in a subject, as the keywords have it: a matcher that was kept begins again, where there is
-    /// one. It copies the subject.
+    /// one. It shares the block of a long subject until the matcher is kept again.
     pub fn begin_match(
         &mut self,
         pattern: PatId,
-        subject: &[u8],
+        subject: &Text,
     ) -> Result<Box<Matcher>, AllocError>
         requires { pattern.0 < length self.old.nodes }
         ensures begun { IfOk result (λ matcher. matcher.value ≡ begins self.old.nodes pattern subject.now
@@ -34,7 +34,7 @@ impl Runtime {
         if let Some(mut matcher) = self.idle.pop() {
             let anchored = self.anchored();
             let limit = self.steps();
-            matcher.begin_again(&self.patterns, pattern, subject, anchored, limit)?;
+            matcher.begin_on(&self.patterns, pattern, subject, anchored, limit)?;
             return Ok(matcher);
         }
         self.new_match(pattern, subject)
@@ -43,28 +43,30 @@ impl Runtime {
     /// The same with a matcher of its own. It stands apart, so that a match that begins again needs no room for one.
     #[cold]
     #[inline(never)]
-    fn new_match(&self, pattern: PatId, subject: &[u8]) -> Result<Box<Matcher>, AllocError>
+    fn new_match(&self, pattern: PatId, subject: &Text) -> Result<Box<Matcher>, AllocError>
         requires { pattern.0 < length self.now.nodes }
         ensures { IfOk result (λ matcher. matcher.value ≡ begins self.now.nodes pattern subject.now
             (is_anchored self.now.keywords.anchor) self.now.keywords.steps matcher.value.records) }
     {
         let anchored = self.anchored();
         let limit = self.steps();
-        let matcher = Matcher::new(
+        let none = Vec::new(self.alloc);
+        let mut matcher = Matcher::over(
             self.alloc,
             &self.patterns,
             pattern,
-            subject,
+            none,
             anchored,
             limit,
         )?;
+        matcher.begin_on(&self.patterns, pattern, subject, anchored, limit)?;
         let matcher = Box::new(self.alloc, matcher)?;
         Ok(matcher)
     }
 
-    /// Keeps a matcher that is done with its match for `begin_match`. It is let go where it may hold much memory, or
-    /// where memory is refused.
-    pub fn keep_matcher(&mut self, matcher: Box<Matcher>)
+    /// Keeps a matcher that is done with its match for `begin_match`, and lets go of the subject. It is itself let go
+    /// where it may hold much memory, or where memory is refused.
+    pub fn keep_matcher(&mut self, mut matcher: Box<Matcher>)
         ensures { self.new ≡ self.old }
     {
         let most = if self.idle.is_empty() {
@@ -72,8 +74,24 @@ impl Runtime {
         } else {
             KEPT_STEPS
         };
-        if matcher.steps() <= most && matcher.subject().len() <= KEPT_BYTES {
+        if matcher.steps() <= most && self.lets_go(&mut matcher) {
             let _kept = self.idle.push(matcher);
         }
+    }
+
+    /// Lets go of the block that a matcher's subject shares, where it is so long that it lies in one: the matcher begins
+    /// on the null string. It is false where that isn't done.
+    #[inline(always)]
+    fn lets_go(&self, matcher: &mut Matcher) -> bool {
+        if matcher.subject().len() < BLOCK_BYTES {
+            return true;
+        }
+        if self.patterns.len() == 0 {
+            return false;
+        }
+        let null = Text::null();
+        matcher
+            .begin_on(&self.patterns, PatId(0), &null, true, 0)
+            .is_ok()
     }
 }

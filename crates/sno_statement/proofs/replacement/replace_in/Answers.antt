@@ -1,4 +1,4 @@
-use Rattle.std.proofs.Common.{ap, ◌∙◌, Err}
+use Rattle.std.proofs.Common.{ap, ◌∙◌, refl, Err}
 use Rattle.std.proofs.lemmas.Result.{err_from_is_err_and}
 use Rattle.sno_statement.proofs.RunningLaws.{answered}
 use Rattle.sno_statement.proofs.StatementLaws.{read_runs, part_runs, part_ended, text_runs, textless_runs}
@@ -33,11 +33,11 @@ returns-in_err-matcher g c =
 
 pub replace_first-done-requires-clause-subject : goal.replace_first-done-requires-clause-subject
 replace_first-done-requires-clause-subject g c =
-    rw (c.deref_mut.ensures.value, c.in_ok-matcher.ensures.subject, c.as_slice-bytes.ensures)
+    rw (c.deref_mut.ensures.value, c.in_ok-matcher.ensures.subject)
     (c.in_ok-text.ensures.short c.read.new.self.nodes c.in_ok-value.ensures.answer)
 
 pub replace_first-done-requires-clause-text : goal.replace_first-done-requires-clause-text
-replace_first-done-requires-clause-text g c = rw (c.deref_mut.ensures.value, c.in_ok-matcher.ensures.subject) c.as_slice-bytes.ensures
+replace_first-done-requires-clause-text g c = rw (c.deref_mut.ensures.value, c.in_ok-matcher.ensures.subject) refl
 
 pub replace_first-done-requires-clause-within : goal.replace_first-done-requires-clause-within
 replace_first-done-requires-clause-within g c =
@@ -48,6 +48,6 @@ pub returns : goal.returns
 returns g c =
     let read = read_runs c.requires.ready c.in_ok-value.ensures in
     let begun = c.in_ok-matcher.ensures.does in
-    let done = rw (c.deref_mut.ensures.value, c.in_ok-matcher.ensures.subject, c.as_slice-bytes.ensures) at c.replace_first-done.ensures in
+    let done = rw (c.deref_mut.ensures.value, c.in_ok-matcher.ensures.subject) at c.replace_first-done.ensures in
     rw c.keep_matcher.ensures
     (part_runs _ read (text_runs _ _ c.in_ok-text.text (c.in_ok-text.ensures.text c.read.new.self.nodes) (part_runs _ begun done)))
