@@ -1,2 +1,4 @@
+pub mod Growth
 pub mod Listings
 pub mod Numbers
+pub mod Reports

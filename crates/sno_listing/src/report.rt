@@ -1,4 +1,8 @@
 //! What is written of a program's text: its listing, with warnings behind it.
+ghost use Rattle.std.specs.Prelude.{◌⊎◌, IfOk};
+ghost use Rattle.sno_text.specs.Programs.{IsRefusedProgram, LacksMemory};
+ghost use Rattle.sno_listing.specs.Report.{IsAccepted, IsReported};
+
 use crate::asked::{explain, push_names};
 use crate::fault::{Fault, find_fault};
 use crate::listing::listing;
@@ -23,10 +27,11 @@ pub fn make_report(
     alloc: Global,
     text: &[u8],
     number: Option<u32>,
-) -> Result<Option<Report>, AllocError> {
+) -> Result<Option<Report>, AllocError>
+    ensures { IfOk result (λ report. IsReported text.now number report) }
+{
     match read_program(alloc, text) {
         Ok(program) => accepted(alloc, text, &program, number),
-        Err(ReadError::NoMemory) => Err(AllocError),
         Err(error) => refused(alloc, text, error, number),
     }
 }
@@ -55,7 +60,6 @@ pub fn make_answer(
                 status: 0,
             }))
         }
-        Err(ReadError::NoMemory) => Err(AllocError),
         Err(refusal) => refused(alloc, text, refusal, number),
     }
 }
@@ -66,7 +70,10 @@ fn accepted(
     text: &[u8],
     program: &Program,
     number: Option<u32>,
-) -> Result<Option<Report>, AllocError> {
+) -> Result<Option<Report>, AllocError>
+    requires { IsAccepted text.now program.now }
+    ensures { IfOk result (λ report. IsReported text.now number report) }
+{
     if let Some(number) = number {
         return match single(alloc, text, program, number)? {
             Some(text) => Ok(Some(Report { text, status: 0 })),
@@ -83,14 +90,20 @@ fn accepted(
     }))
 }
 
-/// The report of a program that is refused: up to the line of the refusal, or to that in which its reason is found, and
+/// The report of a text that is refused, for which there may be no memory: up to the line of the refusal, or to that in which its reason is found, and
 /// both below it.
 fn refused(
     alloc: Global,
     text: &[u8],
     error: ReadError,
     number: Option<u32>,
-) -> Result<Option<Report>, AllocError> {
+) -> Result<Option<Report>, AllocError>
+    requires { LacksMemory text.now error ⊎ IsRefusedProgram text.now error }
+    ensures { IfOk result (λ report. IsReported text.now number report) }
+{
+    if let ReadError::NoMemory = error {
+        return Err(AllocError);
+    }
     let mut listed = Vec::new(alloc);
     let mut warnings = Warnings::new(alloc);
     if let Some(known) = known_of(alloc, text, error)? {

@@ -1,4 +1,8 @@
 //! One statement alone: the lines in which it stands.
+ghost use Rattle.std.specs.Prelude.{◌≡◌, IfOk};
+ghost use Rattle.std.specs.Option.{is_some};
+ghost use Rattle.sno_listing.specs.Report.{statement_with};
+
 use crate::cards::{is_closed, is_continuation, is_skipped};
 use crate::listing::push_line;
 use bstr::ByteSlice;
@@ -12,7 +16,9 @@ pub fn single(
     text: &[u8],
     program: &Program,
     number: u32,
-) -> Result<Option<Vec<u8>>, AllocError> {
+) -> Result<Option<Vec<u8>>, AllocError>
+    ensures { IfOk result (λ told. is_some told ≡ is_some (statement_with number program.now.statements)) }
+{
     let Some(statement) = program.statement(number) else {
         return Ok(None);
     };

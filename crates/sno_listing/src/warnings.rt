@@ -1,4 +1,7 @@
 //! Warnings: what a program most likely doesn't mean. They promise nothing, and no warning is a refusal.
+ghost use Rattle.std.specs.Prelude.{OnOk};
+ghost use Rattle.sno_listing.specs.inner.Listing.{Grows};
+
 mod blanks;
 mod endless;
 mod functions;
@@ -78,7 +81,10 @@ impl Warnings {
     }
 
     /// Appends the warnings in the order of their lines and the note, behind an empty line, if there are any.
-    pub fn append_to(&mut self, listing: &mut Vec<u8>) -> Result<(), AllocError> {
+    #[tactic(auto, using(crate::proofs::Growth::growth_facts))]
+    pub fn append_to(&mut self, listing: &mut Vec<u8>) -> Result<(), AllocError>
+        ensures { OnOk result (Grows listing.old.items listing.new.items) }
+    {
         if self.list.is_empty() && self.note.is_empty() {
             return Ok(());
         }
@@ -93,18 +99,31 @@ impl Warnings {
 }
 
 /// Appends a warning.
-fn append(alloc: Global, listing: &mut Vec<u8>, warning: &Warning) -> Result<(), AllocError> {
+#[tactic(auto, using(crate::proofs::Growth::growth_facts))]
+fn append(alloc: Global, listing: &mut Vec<u8>, warning: &Warning) -> Result<(), AllocError>
+    ensures { OnOk result (Grows listing.old.items listing.new.items) }
+{
     listing.extend_from_slice(b"warning: line ")?;
     let line = digits_of(alloc, warning.place.line)?;
     listing.extend_from_slice(line.as_slice())?;
-    if warning.place.number > 0 {
-        listing.extend_from_slice(b", statement ")?;
-        let number = digits_of(alloc, warning.place.number)?;
-        listing.extend_from_slice(number.as_slice())?;
-    }
+    append_number(alloc, listing, warning.place.number)?;
     listing.extend_from_slice(b": ")?;
     listing.extend_from_slice(warning.text.as_slice())?;
     listing.push(b'\n')?;
+    Ok(())
+}
+
+/// Appends the number of a statement, and nothing for 0.
+#[tactic(auto, using(crate::proofs::Growth::growth_facts))]
+fn append_number(alloc: Global, listing: &mut Vec<u8>, number: u32) -> Result<(), AllocError>
+    ensures { OnOk result (Grows listing.old.items listing.new.items) }
+{
+    if number == 0 {
+        return Ok(());
+    }
+    listing.extend_from_slice(b", statement ")?;
+    let digits = digits_of(alloc, number)?;
+    listing.extend_from_slice(digits.as_slice())?;
     Ok(())
 }
 
