@@ -75,7 +75,7 @@ async function soon(condition) {
 async function show(fields, told = fields.tab === 'program' ? 'run-told' : 'ways-told') {
   await browser.call('Page.navigate', { url: 'about:blank' });
   await browser.call('Page.navigate', { url: link(fields) });
-  await soon(`document.readyState === 'complete' && document.getElementById('${told}')?.innerText.trim() !== ''`);
+  await soon(`document.readyState === 'complete' && (document.getElementById('${told}')?.innerText ?? '').trim() !== ''`);
 }
 
 // Each listing of the table, by the page's own module in a worker of the page.
@@ -141,7 +141,7 @@ const limit = setTimeout(() => {
 }, 900_000);
 try {
   await browser.open(own);
-  await soon(`document.readyState === 'complete'`);
+  await soon(`document.readyState === 'complete' && document.getElementById('module') !== null`);
   await listings();
   await pages();
 } catch (fault) {
