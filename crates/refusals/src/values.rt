@@ -71,7 +71,6 @@ fn texts_hold(alloc: Global) -> Result<bool, AllocError> {
             && joined == text
             && part_holds(alloc, &text, 10, 90)?
             && part_holds(alloc, &text, 10, 34)?
-            && append_holds(alloc, &text)?
             && text == copied,
     )
 }
@@ -86,27 +85,6 @@ fn part_holds(alloc: Global, text: &Text, start: usize, end: usize) -> Result<bo
         Ok(part) => part,
     };
     Ok(part.as_slice() == &text.as_slice()[start..end])
-}
-
-/// What is appended to a copy of a text of a hundred bytes, which first shares its block and then has its own. Where
-/// memory is refused the copy is as before.
-fn append_holds(alloc: Global, text: &Text) -> Result<bool, AllocError> {
-    let mut grown = text.copy()?;
-    let mut length = 100;
-    for byte in b'0'..=b'9' {
-        let more = [byte; 50];
-        if let Err(_) = grown.append(alloc, &more) {
-            if grown.as_slice().len() != length {
-                return Ok(false);
-            }
-            grown.append(alloc, &more)?;
-        }
-        length += more.len();
-        if &grown.as_slice()[..100] != text.as_slice() || !grown.as_slice().ends_with(&more) {
-            return Ok(false);
-        }
-    }
-    Ok(grown.as_slice().len() == length)
 }
 
 /// A copy of a text, behind which the text is as before.
