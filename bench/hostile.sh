@@ -19,7 +19,7 @@ run_row() {
 
 # time_row SUBJECT PATTERN
 time_row() {
-    printf ' S = %s\n S %s :S(YES)F(NO)\nYES OUTPUT = "found" :(END)\nNO OUTPUT = "none"\nEND\n' "$1" "$2" >"$work/program"
+    printf ' S = %s\n T = "A"\n S %s :S(YES)F(NO)\nYES OUTPUT = "found" :(END)\nNO OUTPUT = "none"\nEND\n' "$1" "$2" >"$work/program"
     run_row "$1" "$2"
 }
 
@@ -71,9 +71,15 @@ done
 time_choice 10000 "DUPL('A',20000)" T "P | T"
 time_choice 10000 "DUPL('A',20000)" T "T | P"
 time_row "$same" "(DUPL('A',500000) 'B')"
-time_row "$same" "$(alternatives 4 "SPAN('A')")"
-time_row "$same" "$(alternatives 8 "SPAN('A')")"
-time_row "$same" "$(alternatives 8 "BREAK(',')")"
+for count in 4 8 9 16; do
+    time_row "$same" "$(alternatives $count "SPAN('A')")"
+    time_row "$same" "$(alternatives $count "BREAK(',')")"
+done
+time_row "$same" "*SPAN('A') 'B'"
+time_row "$same" "SPAN(*T) 'B'"
+time_row "$same" "REM \$ X 'B'"
+time_row "$same" "SPAN('A') \$ X 'B'"
+time_row "$same" "ARB \$ X 'B'"
 
 # seconds PROGRAM INPUT, the least of three
 seconds() {

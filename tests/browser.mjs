@@ -126,12 +126,56 @@ async function pages() {
   await show({ tab: 'program', text: 'L :(L)\nEND\n', limit: '1000000000000' }, 'listing');
   await browser.tell(`document.getElementById('stop-run').click()`);
   same('Stop ends it', await text('run-told'), 'Stopped.');
+  await exercises();
   await browser.call('Emulation.setDeviceMetricsOverride', { width: 380, height: 800, deviceScaleFactor: 1, mobile: false });
-  for (const tab of ['ways', 'program']) {
-    await show({ tab, pattern: "ARB . X ',' REM . Y", subject: 'one,two,three'.repeat(9), text: `${'*'.repeat(200)}\nEND\n`, view: 'search' });
+  for (const tab of ['ways', 'program', 'exercise']) {
+    await show({ tab, exercises: '11', answer: 'A'.repeat(200), pattern: "ARB . X ',' REM . Y", subject: 'one,two,three'.repeat(9), text: `${'*'.repeat(200)}\nEND\n`, view: 'search' }, { ways: 'ways-told', program: 'run-told', exercise: 'question' }[tab]);
     same(`nothing is wider than 380 pixels: ${tab}`, await browser.tell('document.documentElement.scrollWidth <= 380'), true);
   }
   same('nothing is loaded from elsewhere', await browser.tell(`performance.getEntriesByType('resource').filter(each => !/^(blob|data):/.test(each.name)).map(each => each.name)`), []);
+}
+
+// Answers by the names of their exercises, each with what is told of it. The right ones are those of docs/TUTORIAL.md.
+const ANSWERS = [
+  ['1', 'way 0 2\nway 1 3\nway 2 4\nexhausted', 'Right.'],
+  ['1', 'way 0 2\nway 2 4\nexhausted', 'Not right: line 2 is another.'],
+  ['2', 'way 0 3\nway 0 1\nway 0 3\nway 0 2\nexhausted\n', 'Right.'],
+  ['2', 'way 0 3\nway 0 1\nway 0 3\nway 0 2', 'Not right: line 5 is another, which is missing.'],
+  ['3, with RPOS', "'A' RPOS(0)", 'Right.'],
+  ['3, with RTAB', "RTAB(1) 'A'", 'Right.'],
+  ['3, with RTAB', "'A' RPOS(0)", "Not right: on 'BANANA' it gives no, where yes is wanted."],
+  ['4', "SPAN('0123456789') . H ':'\nSPAN('0123456789') . M RPOS(0)", 'Right.'],
+  ['4', "ARB . H ':' REM . M", "Not right: on '9:3X' it gives yes, H '9', M '3X', where no is wanted."],
+  ['4', "SPAN('0123456789'", 'Not right: syntax 3, in the pattern.'],
+  ['5', 'set X 0 2\nway 0 3\nexhausted', 'Right.'],
+  ['6', 'way 0 2\nway 0 3\nexhausted', 'Right.'],
+  ['7', 'way 0 2 X=0-1\nway 0 5 X=0-4\nexhausted', 'Right.'],
+  ['7', 'way 0 2 X=0-1\nway 0 5 X=0-4\nway 0 7 X=0-7\nexhausted', 'Not right: line 3 is another.'],
+  ['8, the first', 'aborted', 'Right.'],
+  ['8, the second', 'aborted', 'Right.'],
+  ['8, the third', 'way 0 3\nexhausted', 'Right.'],
+  ['9', " LETTERS = 'abcdefghijklmnopqrstuvwxyz'\n WORD = BREAK(LETTERS) . GAP SPAN(LETTERS) . W\nREAD LINE = INPUT :F(END)\n RESULT =\nNEXT LINE WORD = :F(WRITE)\n RESULT = RESULT GAP '[' W ']' :(NEXT)\nWRITE OUTPUT = RESULT LINE :(READ)\nEND", 'Right.'],
+  ['9', 'L OUTPUT = INPUT :S(L)\nEND\n', 'Not right: line 1 is to be, or not, where [to] [be], [or] [not] is wanted.'],
+  ['10', 'PAIRS RPOS(0)', 'Right.', " PAIRS = 'A' *PAIRS 'B' | ''"],
+  ['10', "ARBNO('A') ARBNO('B') RPOS(0)", "Not right: on 'AAB' it gives yes, where no is wanted."],
+  ['11', " DEFINE('ROUND(TEXT)X') :(MAIN)\nROUND TEXT POS(0) LEN(1) . X = :F(RETURN)\n ROUND = X ROUND :(ROUND)\nMAIN OUTPUT = ROUND(INPUT) :S(MAIN)\nEND", 'Right.'],
+  ['11', ' OUTPUT = 1 / 0\nEND\n', 'Not right: error 3 in statement 1.'],
+  ['12', " DATA('CELL(LINE,REST)')\n LAST = .FIRST\nREAD $LAST = CELL(INPUT) :F(SHOW)\n LAST = .REST($LAST) :(READ)\nSHOW OUTPUT = DIFFER(FIRST) LINE(FIRST) :F(END)\n FIRST = REST(FIRST) :(SHOW)\nEND", 'Right.'],
+  ['13', "BREAK(',') . A ',' (BREAK(',') | REM) . B", 'Right.'],
+  ['13', "BREAK(',') . A ',' BREAK(',') . B", "Not right: on '1,2' it gives no, where yes, A '1', B '2' is wanted."],
+];
+
+async function exercises() {
+  await show({ tab: 'exercise' }, 'question');
+  const names = JSON.parse(await browser.tell(`JSON.stringify([...document.getElementById('exercises').options].map(each => each.innerText))`));
+  same('each exercise has an answer here', names.filter(name => !ANSWERS.some(([answered]) => answered === name)), []);
+  same('and is asked', await text('question'), "(Chapter 1.) Which ways has 'AA' on AAAA, and in which order?");
+  for (const [name, answer, told, first] of ANSWERS) {
+    await show({ tab: 'exercise', exercises: names.indexOf(name), answer, ...(first && { 'first-answer': first }) }, 'question');
+    await browser.tell(`document.getElementById('check').click()`);
+    await soon(`document.getElementById('exercise-told').innerText.trim() !== ''`);
+    same(`exercise ${name}: ${told}`, await text('exercise-told'), told);
+  }
 }
 
 const limit = setTimeout(() => {

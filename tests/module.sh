@@ -1,13 +1,13 @@
-# Finds the module for WebAssembly. Read by tests, which set `here` to the repository's root.
+# Finds what was compiled a second time. Read by tests, which set `here` to the repository's root.
 
-# Sets `module` to the one that was built here or, where it was made of these sources, to the one that ships; where there is
+# Sets `module` to the file $1 that was built here or, where it was made of these sources, to the one that ships; where there is
 # neither, `lacking` tells why.
 find_module() {
-    lacking='there is no bin/snobol4.wasm'
+    lacking="there is no bin/$1"
     module=$(
         top=$here
         . "$here/tools/program.sh"
-        choose snobol4.wasm
+        choose "$1"
         if [ -f "$built" ] && ! is_older "$built"; then
             echo "$built"
         elif [ -f "$shipped" ] && is_told && [ "$(told_of_shipped sources)" = "$(sources_digest)" ] &&
@@ -15,5 +15,5 @@ find_module() {
             echo "$shipped"
         fi
     )
-    if [ -z "$module" ] && [ -f "$here/bin/snobol4.wasm" ]; then lacking='the module in bin/ is of other sources'; fi
+    if [ -z "$module" ] && [ -f "$here/bin/$1" ]; then lacking='what ships in bin/ is of other sources'; fi
 }

@@ -1,11 +1,11 @@
 # Runs the program that is meant: the one built here, where it isn't older than the sources; the shipped one, where it was built
-# from these very sources; where no program runs, the module for WebAssembly by node; else one that is proved and built first,
-# with the kit.
+# from these very sources; where no program runs, it as the module for WebAssembly has it, by node; else one that is proved and
+# built first, with the kit.
 # Read behind program.sh.
 
 # Runs the module that ships by node, where the shipped programs can't run; comes back where that can't be done either.
 run_by_node() {
-    if runs_here || ! [ -f "$top/bin/snobol4.wasm" ]; then return; fi
+    if ! [ -f "$top/bin/snobol4-commands.wasm" ] || { runs_here && is_usable "$shipped"; }; then return; fi
     if ! command -v node >/dev/null; then
         why="$why, and elsewhere node from 18 on, which is not on PATH"
         return
@@ -15,10 +15,9 @@ run_by_node() {
         why="$why, and the sources are not those of the module that node runs elsewhere"
         return
     fi
-    if [ "$name" = snobol4-list ]; then set -- list "$@"; fi
-    SNOBOL4_MODULE=$top/bin/snobol4.wasm
+    SNOBOL4_MODULE=$top/bin/snobol4-commands.wasm
     export SNOBOL4_MODULE
-    exec node "$top/web/snobol4.mjs" "$@"
+    exec node "$top/web/$name.mjs" "$@"
 }
 
 find_program || {

@@ -1,8 +1,8 @@
-# Finds a program, or a file of the library for C: the one built here, the one that ships, or none.
+# Finds a program, a file of the library for C, or a module for WebAssembly: the one built here, the one that ships, or none.
 # Read by scripts that have set top to the repository's root.
 
 # What the environment has by these names would be exported with what they are set to here, to each command that is called.
-unset cache answers name crate built shipped one part link looks answer why program
+unset cache answers machine name crate built shipped one part link looks answer why program
 
 cache=$top/.cache
 answers=$cache/answers
@@ -19,28 +19,41 @@ libraries() {
     if grep -q "^$(crate_of libsnobol4.so)[ :]" "$top/crates.txt"; then printf '%s\n' libsnobol4.a libsnobol4.so; fi
 }
 
-# The module for WebAssembly, which web/make makes of the same crate.
+# The modules for WebAssembly, which web/make makes: of the same crate, and of those of the programs.
 modules() {
-    if [ -n "$(libraries)" ]; then echo snobol4.wasm; fi
+    if [ -n "$(libraries)" ]; then printf '%s\n' snobol4.wasm snobol4-commands.wasm; fi
+}
+
+# The programs for aarch64 Linux, which aarch64/make makes.
+others() {
+    if [ -n "$(libraries)" ]; then printf '%s\n' snobol4-aarch64-linux snobol4-list-aarch64-linux; fi
 }
 
 # The crate of the program, or of the file of the library or module, $1.
 crate_of() {
     case $1 in
+    snobol4-commands.wasm) echo snobol4 ;;
     *.a | *.so | *.wasm) echo snobol4_c ;;
-    *) printf '%s\n' "$1" | tr - _ ;;
+    *) printf '%s\n' "${1%-aarch64-linux}" | tr - _ ;;
     esac
 }
 
-# Says which program, or which such file, is meant below: $1.
+# Says which program, or which such file, is meant below: $1. Where this machine is aarch64 Linux, a program is the one for it.
 choose() {
     name=$1
     crate=$(crate_of "$1")
     case $1 in
-    *.*) built=$top/crates/$crate/out/$1 shipped=$top/bin/$1 ;;
-    *) built=$top/crates/$crate/out/$crate shipped=$top/bin/$name-x86_64-linux ;;
+    *.* | *-aarch64-linux) built=$top/crates/$crate/out/$1 shipped=$top/bin/$1 ;;
+    *)
+        if [ "$machine" = 'Linux aarch64' ]; then
+            built=$top/crates/$crate/out/$1-aarch64-linux shipped=$top/bin/$1-aarch64-linux
+        else
+            built=$top/crates/$crate/out/$crate shipped=$top/bin/$1-x86_64-linux
+        fi
+        ;;
     esac
 }
+machine=$(uname -sm)
 
 # Whether the file $1 is there, and can be run where it is a program.
 is_usable() {
@@ -93,10 +106,11 @@ sources_digest() (
         sort -z | xargs -0 sha256sum | sha256sum | cut -d ' ' -f 1
 )
 
-# The digest of what the second compilation of the module is made by, beside the sources.
-second_digest() {
-    cat "$top/web/make" "$top/web/runtime.c" | sha256sum | cut -d ' ' -f 1
-}
+# The digest of what is compiled a second time by, beside the sources.
+second_digest() (
+    cd "$top"
+    cat tools/code.sh web/make web/heap.h web/runtime.c web/system.c aarch64/make aarch64/system.c | sha256sum | cut -d ' ' -f 1
+)
 
 # The first link under the paths $*, from the root: the digest does not see what it leads to, so no source may be one. The kit
 # minds what it made.
@@ -119,7 +133,7 @@ told_of_shipped() {
 # The SHA-256 that bin/BUILD tells of the program that is meant.
 told_sum() {
     awk -v file="${shipped##*/}" '
-    /^(program|library|module): / { is_it = ($2 == file) }
+    /^(program|library|module|elsewhere): / { is_it = ($2 == file) }
     /^sha256: / && is_it { print $2 }' "$top/bin/BUILD"
 }
 
@@ -149,21 +163,30 @@ judge_shipped() (
     echo fits
 )
 
-# Whether the shipped programs run on this machine.
-runs_here() {
-    [ "$(uname -sm)" = 'Linux x86_64' ] && [ -e /lib64/ld-linux-x86-64.so.2 ]
+# Whether what is meant is a program.
+is_program() {
+    case $name in *.*) false ;; esac
 }
 
-# Whether the shipped program is that of these sources and runs on this machine; else `why` tells why not.
+# Whether the shipped programs run on this machine. Those for aarch64 need no C library.
+runs_here() {
+    case $machine in
+    'Linux x86_64') [ -e /lib64/ld-linux-x86-64.so.2 ] ;;
+    'Linux aarch64') ;;
+    *) false ;;
+    esac
+}
+
+# Whether what is meant ships, and is of these sources, and runs on this machine where it is a program; else `why` tells why not.
 # To judge it takes longer than to run it, so the answer is kept under a digest of what all the files looked like: their
 # sizes and the times at which they were written or moved. Where it can't be kept, it is found anew by each call.
 shipped_fits() {
-    if ! is_usable "$shipped" || ! [ -r "$top/bin/BUILD" ]; then
-        why="no built program comes with these sources"
+    if ! runs_here && is_program; then
+        why="the programs in bin/ run on x86-64 Linux with the GNU C library, and on aarch64 Linux"
         return 1
     fi
-    if ! runs_here; then
-        why="the program in bin/ runs on x86-64 Linux with the GNU C library alone"
+    if ! is_usable "$shipped" || ! [ -r "$top/bin/BUILD" ]; then
+        why="no built program comes with these sources"
         return 1
     fi
     looks=$(cd "$top" && find $(source_places) bin -printf '%p %s %T@ %C@\n' 2>/dev/null) || looks=

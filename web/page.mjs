@@ -1,4 +1,5 @@
 // The page: it asks the module, in a worker that can be ended, and shows what it gives.
+import { exercises, first_fault, first_miss, trial } from './exercises.mjs';
 import { behind, lines, marked, MOST_ASKED, Undrawn } from './search.mjs';
 
 const $ = id => document.getElementById(id);
@@ -266,8 +267,52 @@ function show_why(what) {
   const found = what && $('errors').textContent.split(/^### /m).find(each => each.toLowerCase().startsWith(what.toLowerCase()) && !/^\d/.test(each.slice(what.length)));
   if (!found) return;
   const [head, ...paragraphs] = found.trim().split(/\n+/);
-  const text = paragraph => paragraph.split('`').map((each, i) => i % 2 ? element('code', {}, each) : each);
-  $('why').replaceChildren(element('p', {}, element('b', {}, head)), ...paragraphs.map(each => element('p', {}, ...text(each))));
+  $('why').replaceChildren(element('p', {}, element('b', {}, head)), ...paragraphs.map(each => element('p', {}, ...with_code(each))));
+}
+
+const with_code = text => text.split('`').map((each, i) => i % 2 ? element('code', {}, each) : each);
+
+// ---- an exercise
+
+const EXERCISES = exercises($('questions').textContent, $('exercise-list').textContent);
+const ANSWERS = { listing: 'Its listing, a line a way, and how it ends', pattern: 'Your pattern', program: 'Your program' };
+const exercise = () => EXERCISES[$('exercises').value];
+
+function show_exercise() {
+  const { question, kind, anchor, pattern, subject, cases, input, output } = exercise(), mode = anchor ? 'anchored' : 'not anchored';
+  $('question').replaceChildren(...with_code(question));
+  const told = texts => texts.map(text => `'${text}'`).join(', '), lines_of = text => told(text.trimEnd().split('\n'));
+  $('asked').textContent = kind === 'listing' ? `${pattern}   on   ${subject}, ${mode}` : kind === 'pattern' ? `It is tried, ${mode}, on ${told(cases.map(each => each.subject))}.`
+    : `It is run with the input ${lines_of(input)}, and is to write ${lines_of(output)}.`;
+  $('for-answer').textContent = ANSWERS[kind];
+  $('for-first').hidden = kind !== 'pattern';
+  tell('exercise', '', false);
+  keep();
+}
+
+// What is wrong with the answer, or ''.
+const CHECKS = {
+  async listing({ pattern, subject, anchor }, answer) {
+    const { out } = await ask('ways', bytes_of(pattern), bytes_of(subject), { anchor, steps: 1e6, most: MOST_BYTES });
+    return first_fault(answer, latin(out), false);
+  },
+  async pattern(which, answer) {
+    const input = which.cases.map(({ subject }) => `${subject}\n`).join(''), first = latin(encoder.encode($('first-answer').value)).trimEnd();
+    const { status, out, line } = await ask('run', bytes_of(trial(first, answer, which)), bytes_of(input), { statements: 1e6, most: MOST_BYTES });
+    return status ? behind_fault(first, status, line) : first_miss(latin(out), which.cases);
+  },
+  async program({ input, output }, answer) {
+    const { status, out, line } = await ask('run', bytes_of(answer.endsWith('\n') ? answer : `${answer}\n`), bytes_of(input), { statements: 1e6, most: MOST_BYTES });
+    return status ? fault_text(status, line) : first_fault(latin(out), output, true);
+  },
+};
+
+async function check_answer() {
+  keep();
+  await shown('exercise', async () => {
+    const wrong = await CHECKS[exercise().kind](exercise(), latin(encoder.encode($('answer').value)));
+    tell('exercise', wrong ? `Not right: ${unlatin(wrong)}.` : 'Right.', wrong !== '');
+  });
 }
 
 // ---- fields, tabs, the link
@@ -295,7 +340,8 @@ async function shown(where, does) {
   if (id <= asked) $(`stop-${where}`).disabled = true;
 }
 
-const FIELDS = { ways: ['pattern', 'subject', 'statements', 'steps'], program: ['text', 'input', 'limit'] };
+const FIELDS = { ways: ['pattern', 'subject', 'statements', 'steps'], program: ['text', 'input', 'limit'], exercise: ['exercises', 'first-answer', 'answer'] };
+const SHOWS = { ways: show_ways, program: show_run, exercise: show_exercise }, TABS = Object.keys(SHOWS);
 let tab = 'ways';
 
 function show(name) {
@@ -323,14 +369,14 @@ function keep() {
 }
 
 function restore() {
-  const state = new URLSearchParams(location.hash.slice(1)), name = state.get('tab') === 'program' ? 'program' : 'ways';
+  const state = new URLSearchParams(location.hash.slice(1)), name = TABS.find(each => each === state.get('tab')) ?? 'ways';
   show(name);
   if (state.has('tab')) for (const field of FIELDS[name]) $(field).value = state.get(field) ?? (field === 'steps' || field === 'limit' ? 1e6 : '');
+  if (!exercise()) $('exercises').value = 0;
   if (state.has('pattern')) $('anchor').checked = state.has('anchor');
   fit_statements();
   show_as(state.get('view') === 'search');
-  if (name === 'program') show_run();
-  else show_ways();
+  SHOWS[name]();
 }
 
 const [, ...EXAMPLES] = `\n${$('examples').textContent.trimEnd()}`.split(/^(?===)/m);
@@ -376,15 +422,16 @@ fill(PATTERNS[0]);
 fill(PROGRAMS[0]);
 $('steps').value = $('limit').value = 1e6;
 for (const id of ['pattern', 'subject', 'statements', 'steps', 'anchor']) $(id).oninput = soon;
-for (const [name, other, shows] of [['ways', 'program', show_ways], ['program', 'ways', show_run]]) {
+for (const [i, name] of TABS.entries()) {
   $(`tab-${name}`).onclick = () => {
     show(name);
-    shows();
+    SHOWS[name]();
   };
   $(`tab-${name}`).onkeydown = ({ key }) => {
     if (key !== 'ArrowLeft' && key !== 'ArrowRight') return;
-    $(`tab-${other}`).click();
-    $(`tab-${other}`).focus();
+    const other = $(`tab-${TABS[(i + (key === 'ArrowRight' ? 1 : TABS.length - 1)) % TABS.length]}`);
+    other.click();
+    other.focus();
   };
 }
 for (const [id, tree] of [['as-list', false], ['as-tree', true]]) {
@@ -393,7 +440,7 @@ for (const [id, tree] of [['as-list', false], ['as-tree', true]]) {
     show_ways();
   };
 }
-for (const where of ['ways', 'run']) {
+for (const where of ['ways', 'run', 'exercise']) {
   $(`stop-${where}`).onclick = () => {
     asked++;
     halt();
@@ -402,6 +449,12 @@ for (const where of ['ways', 'run']) {
   };
 }
 $('run').onclick = show_run;
+$('check').onclick = check_answer;
+$('exercises').append(...EXERCISES.map(({ name }, i) => element('option', { value: i }, name)));
+$('exercises').onchange = () => {
+  $('answer').value = $('first-answer').value = '';
+  show_exercise();
+};
 $('program').onkeydown = event => {
   if (event.key === 'Enter' && (event.ctrlKey || event.metaKey)) show_run();
 };

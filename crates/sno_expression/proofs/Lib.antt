@@ -4,6 +4,7 @@ pub mod Instructions
 pub mod NumeralLaws
 pub mod QuickLaws
 pub mod StringLaws
+pub mod GrowingLaws
 pub mod ToldLaws
 pub mod ExaminingLaws
 pub mod InPlaceLaws

@@ -1,4 +1,5 @@
 pub mod Flat
 pub mod Forms
+pub mod Growing
 pub mod InPlace
 pub mod Told

@@ -4,8 +4,8 @@
 //! instruction (`instruction`), and `flat` that of all expressions of a program; `names` are those that stand in it,
 //! each with the symbol that it is likely to be. `in_place` reads tokens and runs the operation behind them at once,
 //! `told` tells what instructions give of numbers alone, and `alone` what some code gives that is a token or is told
-//! so, where `joined` joins strings; `quick` does what two numbers (`numerals`), an array or a function that examines
-//! its arguments (`examining`) need, and `apply` any form. The loop over the instructions stands in `snobol`, since a
+//! so, where `joined` joins strings; `quick` does what two numbers (`numerals`), an item (`items`) or a function that
+//! examines its arguments (`examining`) need, and `apply` any form. The loop over the instructions stands in `snobol`, since a
 //! call in their midst performs statements.
 #![tactic(auto)]
 
@@ -15,8 +15,10 @@ mod compile;
 mod examining;
 mod flat;
 mod forms;
+mod growing;
 mod in_place;
 mod instruction;
+mod items;
 mod joined;
 mod names;
 mod numerals;
@@ -27,10 +29,11 @@ pub use alone::{
     calculated, first_operand, is_call, is_null_literal, last_form, only_item, only_name,
     only_token, token_value, told_integer,
 };
-pub use apply::apply_form;
+pub use apply::apply_instruction;
 pub use compile::Compiler;
 pub use flat::{Flat, Roots};
 pub use forms::{Part, Wanted, name_of, value_of};
+pub use growing::{begins_with, joined_behind};
 pub use in_place::{instruction_at, run_in_place};
 pub use instruction::{Failing, Instruction};
 pub use joined::only_joined;

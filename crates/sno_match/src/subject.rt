@@ -1,11 +1,14 @@
 //! The bytes that a match searches.
-ghost use Rattle.std.specs.Prelude.{◌≡◌, ◌≤◌, length, OnOk};
+ghost use Rattle.std.specs.Prelude.{◌≡◌, ◌≤◌, length, slice_range, IfOk, OnOk};
 ghost use Rattle.sno_match.specs.inner.Subject.{searched};
 
 use crate::bytes::put_in_place;
 use sno_value::Text;
-use std::alloc::AllocError;
+use std::alloc::{AllocError, Global};
 use std::marker::Model;
+
+/// From how many bytes on a part may share a block: a shorter one is copied sooner than that is found out.
+const LONG: usize = 64;
 
 /// The bytes of a subject: those of a string that is lent, whose block is shared, or else its own.
 #[derive(Drop)]
@@ -41,6 +44,23 @@ impl Subject {
             Some(text) => text.as_slice(),
             None => self.own.as_slice(),
         }
+    }
+
+    /// The bytes from `start` up to `end` as a string. A long one shares the block of what is lent, as `Text::part` does.
+    #[inline(always)]
+    pub(crate) fn part(&self, alloc: Global, start: usize, end: usize) -> Result<Text, AllocError>
+        requires order { start ≤ end }
+        requires inside { end ≤ length self.now.bytes }
+        ensures { IfOk result (λ text. text ≡ slice_range self.now.bytes start end) }
+    {
+        if let Some(text) = &self.lent
+            && end - start >= LONG
+        {
+            let part = text.part(alloc, start, end)?;
+            return Ok(part);
+        }
+        let part = Text::from_slice(alloc, &self.as_slice()[start..end])?;
+        Ok(part)
     }
 
     /// Makes room for so many bytes that are copied.

@@ -55,6 +55,11 @@ first_of_text : (text : List ℕ) (first : ℕ) → (length text == 0) ≡ false
 first_of_text [] first some is = absurd (true_or_false (sym (eq-eqb 0 0 refl) ∙ some))
 first_of_text (byte ∷ rest) first some is = sym is
 
+-- the first byte of a text that has one, whatever is asked for where there is none
+pub first_stays : (text : List ℕ) (one other : ℕ) → (length text == 0) ≡ false → get_or text 0 one ≡ get_or text 0 other
+first_stays [] one other some = absurd (cc)
+first_stays (byte ∷ text) one other some = refl
+
 pub text_among : (text old new s : List ℕ) (c first : ℕ) → (length text == 0) ≡ false → first ≡ get_or text 0 first
     → ((b : ℕ) → is_in new b ≡ (is_in old b || (first == b))) → stands_at new s c ≡ false → leaf_has_end (Text text) s c ≡ false
 text_among text old new s c first some is joined h =

@@ -18,7 +18,7 @@ use Rattle.sno_pattern.specs.declared.kind.Entry.{Entry}
 use Rattle.sno_pattern.specs.declared.kind.Kind.{Kind}
 use Rattle.sno_pattern.specs.declared.kind.Kind.TheVariants as K
 use Rattle.sno_pattern.specs.Looks.{IsTrueRun, Found, AreTrue}
-use Rattle.sno_pattern.specs.inner.Looks.{found_of}
+use Rattle.sno_pattern.specs.inner.Looks.{found_of, AreBefore}
 use Rattle.sno_pattern.specs.declared.looks.Run.{Run}
 use Rattle.sno_pattern.proofs.BalanceLaws.{balanced_next}
 use Rattle.sno_pattern.proofs.PlaceLaws.{same_place, below_or_not}
@@ -123,11 +123,23 @@ grown_run nodes more s run is = record {
 }
 
 pub true_grown : (nodes more : List Node) (s : List ℕ) (found : Found) → AreTrue nodes s found → AreTrue (nodes ++ more) s found
-true_grown nodes more s found are =
-    record { eight = are.eight; each = λ slot other h. grown_run nodes more s (get_or found.runs slot other) (are.each slot other h); balance = are.balance }
+true_grown nodes more s found are = record {
+  places = are.places;
+  each = λ slot other h told. grown_run nodes more s (get_or found.runs slot other) (are.each slot other h told);
+  balance = are.balance;
+}
 
-pub empty_run : (nodes : List Node) (s : List ℕ) (run : Run) → run.until < run.from → IsTrueRun nodes s run
-empty_run nodes s run h = record { known = λ some. absurd (omega arith); ends = λ c low high. absurd (omega arith) }
+-- where nothing is told of the subject, all that is remembered is true
+pub empty_true : (runs : List Run) (turn : ℕ) (first_ends : List ℕ) → AreBefore turn runs → first_ends ≡ [] → (nodes : List Node) (s : List ℕ)
+    → AreTrue nodes s (found_of runs turn first_ends)
+empty_true runs turn first_ends before none nodes s = record {
+  places = before.places;
+  each = λ slot other h told. absurd (omega (arith, told, before.each slot other (omega (arith, before.places, h))));
+  balance = record { made = λ some. absurd (omega (arith, some, ap length none)) };
+}
+
+pub still_before : (turn : ℕ) (runs : List Run) → AreBefore turn runs → AreBefore (turn + 1) runs
+still_before turn runs before = record { places = before.places; each = λ slot other h. omega (arith, before.each slot other h) }
 
 same_or_not : (i j : ℕ) → (i ≡ j) ⊎ (i ≢ j)
 same_or_not zero zero = inl refl
@@ -135,28 +147,47 @@ same_or_not zero (suc j) = inr (λ e. omega arith)
 same_or_not (suc i) zero = inr (λ e. omega arith)
 same_or_not (suc i) (suc j) = ⊎_elim (λ e. inl (ap suc e)) (λ n. inr (λ e. n (omega arith))) (same_or_not i j)
 
+-- a run that is told of the subject in the place of one
+pub put_before : (runs : List Run) (slot : ℕ) (run : Run) (turn : ℕ) → AreBefore (turn + 1) runs → run.turn ≡ turn → AreBefore (turn + 1) (slice_set runs slot run)
+put_before runs slot run turn before is = record {
+  places = length-set runs slot run ∙ before.places;
+  each = λ at other h.
+      ⊎_elim
+      (λ same. rw (← same)
+      (subst (λ (one : Run). one.turn < turn + 1) (sym (get_or-set_same runs slot run other (omega (arith, h, before.places, same)))) (omega (arith, is))))
+      (λ apart. subst (λ (one : Run). one.turn < turn + 1) (sym (get_or-set_other runs slot at run other (λ e. apart (sym e)))) (before.each at other h))
+      (same_or_not slot at);
+}
+
 -- a true run in the place of one
-pub true_put : (nodes : List Node) (s first_ends : List ℕ) (runs : List Run) (slot : ℕ) (run : Run) → AreTrue nodes s (found_of runs first_ends)
-    → IsTrueRun nodes s run → AreTrue nodes s (found_of (slice_set runs slot run) first_ends)
-true_put nodes s first_ends runs slot run are is = record {
-  eight = length-set runs slot run ∙ are.eight;
-  each = λ at other h. let long = length-set runs slot run in
+pub true_put : (nodes : List Node) (s first_ends : List ℕ) (runs : List Run) (turn slot : ℕ) (run : Run) → AreTrue nodes s (found_of runs turn first_ends)
+    → IsTrueRun nodes s run → AreTrue nodes s (found_of (slice_set runs slot run) turn first_ends)
+true_put nodes s first_ends runs turn slot run are is = record {
+  places = length-set runs slot run ∙ are.places;
+  each = λ at other h told. let long = length-set runs slot run in
       ⊎_elim
       (λ same. rw (← same) (subst (IsTrueRun nodes s) (sym (get_or-set_same runs slot run other (omega (arith, h, long, same)))) is))
-      (λ apart. subst (IsTrueRun nodes s) (sym (get_or-set_other runs slot at run other (λ e. apart (sym e)))) (are.each at other (omega (arith, h, long))))
+      (λ apart.
+      let stays = get_or-set_other runs slot at run other (λ e. apart (sym e)) in
+      subst (IsTrueRun nodes s) (sym stays) (are.each at other (omega (arith, h, long)) (ap (λ (one : Run). one.turn) (sym stays) ∙ told)))
       (same_or_not slot at);
   balance = are.balance;
 }
 
+-- a run is as true of whatever subject it is told
+pub told_now : (nodes : List Node) (s : List ℕ) (run : Run) (turn : ℕ) → IsTrueRun nodes s run
+    → IsTrueRun nodes s (record { id = run.id; from = run.from; until = run.until; end = run.end; turn = turn })
+told_now nodes s run turn is = record { known = is.known; ends = is.ends }
+
 -- what a run says from one of its cursors
-pub run_tells : (nodes : List Node) (s first_ends : List ℕ) (runs : List Run) (found : Found) (slot : ℕ) (other : Run) (id at : ℕ) → found_of runs first_ends
-    ≡ found → AreTrue nodes s found → slot < 8 →
-    (get_or runs slot other).id.0 ≡ id → (get_or runs slot other).from ≤ at → at ≤ (get_or runs slot other).until → (get_or runs slot other).end
-    ≡ end_of (tree nodes id) s at 0
-run_tells nodes s first_ends runs found slot other id at is are h same low high =
+pub run_tells : (nodes : List Node) (s first_ends : List ℕ) (runs : List Run) (turn : ℕ) (found : Found) (slot : ℕ) (other : Run) (at : ℕ)
+    → found_of runs turn first_ends ≡ found → AreTrue nodes s found → slot < 32 → (get_or runs slot other).turn ≡ turn →
+    (get_or runs slot other).from ≤ at → at ≤ (get_or runs slot other).until → (get_or runs slot other).end
+    ≡ end_of (tree nodes (get_or runs slot other).id.0) s at 0
+run_tells nodes s first_ends runs turn found slot other at is are h told low high =
     let known = subst (AreTrue nodes s) (sym is) are in
-    let one = known.each slot other (omega (arith, known.eight, h)) in
-    sym (one.ends at low high) ∙ ap (λ n. end_of (tree nodes n) s at 0) same
+    let one = known.each slot other (omega (arith, known.places, h)) told in
+    sym (one.ends at low high)
 
 -- the same where a look says whether there is an end
 pub break_look : (set s : List ℕ) (c d : ℕ) (end : Option ℕ) → end ≡ slice_get (ends (Among Break set) s c) 0 → c ≤ d → d ≤ unwrap_or end (length s)
@@ -231,3 +262,13 @@ pub run_of_node : (nodes : List Node) (node : Node) (s : List ℕ) (run : Run) �
     → ((c : ℕ) → end_of_node node s c 0 ≡ end_of (tree nodes run.id.0) s c 0) →
     ((c : ℕ) → run.from ≤ c → c ≤ run.until → end_of_node node s c 0 ≡ run.end) → IsTrueRun nodes s run
 run_of_node nodes node s run known same ends = record { known = λ _. known; ends = λ c low high. sym (same c) ∙ ends c low high }
+
+-- numbers of equal nodes stand for the same
+pub same_tree : (entries : List Entry) (nodes : List Node) (i j : ℕ) (one other : Entry) → nodes_of entries ≡ nodes → IsTable entries → i < length nodes
+    → j < length nodes → get_or entries i one ≡ one → get_or entries j other ≡ other → node_of one.kind ≡ node_of other.kind → tree nodes i ≡ tree nodes j
+same_tree entries nodes i j one other is t h k at there same =
+    let all = trees_onto [] (nodes_of entries) in
+    let first : i < length entries = omega (arith, length-nodes entries, ap length is, h) in
+    let second : j < length entries = omega (arith, length-nodes entries, ap length is, k) in
+    ap (λ (n : List Node). tree n i) (sym is) ∙ tree-at (nodes_of entries) i (node_of one.kind) t.parts (node-at entries i one first at) ∙ ap (tree_over all) same
+    ∙ sym (tree-at (nodes_of entries) j (node_of other.kind) t.parts (node-at entries j other second there)) ∙ ap (λ (n : List Node). tree n j) is

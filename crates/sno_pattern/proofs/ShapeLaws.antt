@@ -130,7 +130,7 @@ one_set_end prim set s c i x h = refl
 -- a primitive without a set has one end at most, but for ARB and BAL
 pub one_end : (kind : Kind) (s : List ℕ) (c i : ℕ) → kind ≢ K.Arb → kind ≢ K.Bal → ((prim : PrimitiveKind) (set : List ℕ) → kind ≢ K.Among prim set)
     → i ≢ 0 → None ≡ end_of_node (node_of kind) s c i
-one_end (K.Text bytes) s c i a b x h = end_if-one (starts_with nat_eq (drop c s) bytes.items) (c + length bytes.items) i h
+one_end (K.Text bytes) s c i a b x h = end_if-one (starts_with nat_eq (drop c s) bytes) (c + length bytes) i h
 one_end (K.Counted prim n) s c i a b x h = one_count_end prim n s c i h
 one_end (K.Among prim set) s c i a b x h = absurd (x prim set refl)
 one_end K.Arb s c i a b x h = absurd (a refl)

@@ -1,5 +1,5 @@
 //! Sets of bytes.
-ghost use Rattle.std.specs.Prelude.{◌≡◌, ◌==◌, ℕ, Bool, false, not, ◌||◌, position, IfSome};
+ghost use Rattle.std.specs.Prelude.{◌≡◌, ◌==◌, ℕ, Bool, false, not, ◌||◌, position, IfSome, IsTrue};
 ghost use Rattle.sno_pattern.specs.Ends.{is_in};
 ghost use Rattle.sno_pattern.specs.Sets.{set_of};
 ghost use Rattle.sno_pattern.specs.inner.Lanes.{passes};
@@ -10,6 +10,9 @@ use std::marker::Model;
 
 /// How many bytes are looked up one by one before lanes are made ready.
 const NEAR: usize = 8;
+
+/// An odd number of which a multiple has a bit of each factor in its upper half.
+const SPREAD: u64 = 0x9E37_79B9_7F4A_7C15;
 
 /// Fewer bytes than this are looked up one by one.
 pub(crate) const FEW: usize = 32;
@@ -69,6 +72,20 @@ impl ByteSet {
         ensures { members result ≡ self.now }
     {
         self.words
+    }
+
+    /// Whether another set has the same bytes.
+    pub(crate) fn is_same(&self, other: &ByteSet) -> bool
+        ensures { IsTrue result → self.now ≡ other.now }
+    {
+        self.words == other.words
+    }
+
+    /// A number for the set, below 2^32, by which few different sets are told to be the same.
+    pub(crate) fn hash(&self) -> u32 {
+        let [a, b, c, d] = self.words;
+        let folded = a ^ b.rotate_left(17) ^ c.rotate_left(34) ^ d.rotate_left(51);
+        (folded.wrapping_mul(SPREAD) >> 32) as u32
     }
 
     /// The byte joins the set.

@@ -71,7 +71,7 @@ pub(crate) fn first_end(kind: &Kind, subject: &[u8], at: usize) -> Option<usize>
     ensures { result ≡ end_of_node (node_of kind.now) subject.now at 0 }
 {
     match kind {
-        Kind::Text(text) => text_end(text, subject, at),
+        Kind::Text(text) => text_end(text.as_slice(), subject, at),
         Kind::Counted(prim, n) => count_end(*prim, *n, subject, at),
         Kind::Among(prim, set) => first_set_end(*prim, set, subject, at),
         Kind::Arb => Some(at),

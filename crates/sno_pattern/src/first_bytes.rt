@@ -121,6 +121,7 @@ pub(crate) fn add_first_bytes_of_kind(kind: &Kind, set: &mut ByteSet) -> bool
 {
     match kind {
         Kind::Text(text) => {
+            let text = text.as_slice();
             if text.is_empty() {
                 return false;
             }
@@ -149,7 +150,7 @@ pub(crate) fn kind_fails_at(kind: &Kind, subject: &[u8], at: usize) -> bool
     ensures { IsTrue result → node_has_end (node_of kind.now) subject.now at ≡ false }
 {
     match kind {
-        Kind::Text(text) => text_end(text, subject, at).is_none(),
+        Kind::Text(text) => text_end(text.as_slice(), subject, at).is_none(),
         Kind::Among(prim, members) => match prim {
             Prim::Any => any_end(members, subject, at).is_none(),
             Prim::Span => any_end(members, subject, at).is_none(),

@@ -32,7 +32,7 @@ pub(crate) fn head_of_kind(kind: &Kind, subject: &[u8], at: usize) -> Head
 {
     match kind {
         Kind::Text(text) => {
-            let first = text_end(text, subject, at);
+            let first = text_end(text.as_slice(), subject, at);
             Head::Ends { first, next: None }
         }
         Kind::Counted(prim, n) => {

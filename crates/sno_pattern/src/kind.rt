@@ -1,19 +1,18 @@
 //! What the table stores of a pattern.
-ghost use Rattle.std.specs.Prelude.{◌≡◌, length};
+ghost use Rattle.std.specs.Prelude.{◌≡◌, length, IsTrue};
 ghost use Rattle.sno_pattern.specs.inner.Table.{PartsBelow};
 ghost use Rattle.sno_pattern.specs.inner.Shape.{shape_of};
 ghost use Rattle.sno_pattern.specs.inner.Kinds.{node_of, flags_of, quiet_over};
 
 use crate::byte_set::ByteSet;
 use crate::first_bytes::FirstBytes;
-use crate::looks::is_far;
 use crate::shape::Shape;
-use sno_value::{ExprId, Name, PatId, Prim};
+use sno_value::{ExprId, Name, PatId, Prim, Text};
 
 /// A pattern's head as the table keeps it: with its text, count or set, and the numbers of its parts.
 #[derive(Drop)]
 pub(crate) enum Kind {
-    Text(Vec<u8>),
+    Text(Text),
     Counted(Prim, u64),
     Among(Prim, ByteSet),
     Arb,
@@ -40,20 +39,20 @@ pub(crate) enum Kind {
 pub(crate) struct Entry {
     pub(crate) kind: Kind,
     pub(crate) quiet: bool,
-    /// How many nodes up to this one have runs that are worth remembering, which numbers these.
+    /// Where its runs are remembered, which it shares with equal nodes (`numbers`).
     pub(crate) number: u32,
 }
 
-/// The number of a node that comes behind these entries.
-pub(crate) fn number_behind(entries: &[Entry], kind: &Kind) -> u32 {
-    let before = match entries.last() {
-        Some(entry) => entry.number,
-        None => 0,
-    };
-    if is_far(kind) {
-        before.wrapping_add(1)
-    } else {
-        before
+/// Whether two nodes are the same primitive with the same set of bytes.
+pub(crate) fn is_same_search(kind: &Kind, other: &Kind) -> bool
+    ensures { IsTrue result → node_of kind.now ≡ node_of other.now }
+{
+    match kind {
+        Kind::Among(prim, set) => match other {
+            Kind::Among(other_prim, other_set) => prim == other_prim && set.is_same(other_set),
+            _ => false,
+        },
+        _ => false,
     }
 }
 

@@ -18,6 +18,7 @@ mod head;
 mod kind;
 mod lanes;
 mod looks;
+mod numbers;
 mod places;
 mod sets;
 mod shape;

@@ -3,6 +3,7 @@ ghost use Rattle.std.specs.Prelude.{◌≡◌, ℕ, List, ◌<◌, ◌≤◌, �
 ghost use Rattle.sno_pattern.specs.BalanceTable.{IsTableIfMade};
 ghost use Rattle.sno_pattern.specs.Ends.{ends};
 ghost use Rattle.sno_pattern.specs.inner.Kinds.{node_of};
+ghost use Rattle.sno_pattern.specs.inner.Looks.{AreBefore};
 ghost use Rattle.sno_pattern.specs.Looks.{IsTrueRun, AreTrue};
 ghost use Rattle.sno_pattern.specs.Pattern.{Bal};
 ghost use Rattle.sno_pattern.specs.Places.{IsFirstPlace};
@@ -18,24 +19,26 @@ use std::alloc::Global;
 use std::marker::Model;
 
 /// How many runs are remembered.
-const RUNS: usize = 8;
+const RUNS: usize = 32;
 
-/// A run of cursors from each of which the first end of a primitive is the same. There is no cursor in it where `from`
-/// is greater than `until`.
+/// A run of cursors from each of which the first end of a primitive is the same.
 #[derive(Clone, Copy, Drop)]
 pub(crate) struct Run {
     pub id: PatId,
     pub from: usize,
     pub until: usize,
     pub end: Option<usize>,
+    /// The subject of which it is told.
+    pub turn: u32,
 }
 
-/// A run without a cursor.
+/// A run of no subject.
 const NO_RUN: Run = Run {
     id: PatId(0),
-    from: 1,
+    from: 0,
     until: 0,
     end: None,
+    turn: 0,
 };
 
 /// What the looks through one subject have found out: the last runs that SPAN, BREAK and BREAKX looked through, and
@@ -43,23 +46,25 @@ const NO_RUN: Run = Run {
 #[derive(Drop)]
 pub struct Looks {
     runs: [Run; RUNS],
+    /// The number of the subject: what was told of others counts no more.
+    turn: u32,
     balance: Balance,
     /// Whether anything may have been kept since they were cleared.
     used: bool,
 }
 
 impl Model for Looks {
-    ghost use Rattle.std.specs.Prelude.{◌≡◌, ℕ, List, false};
+    ghost use Rattle.std.specs.Prelude.{◌≡◌, ◌+◌, ℕ, List, false};
     ghost use Rattle.sno_pattern.specs.Looks.{AreTrue, Found};
     ghost use Rattle.sno_pattern.specs.Table.{Node};
-    ghost use Rattle.sno_pattern.specs.inner.Looks.{found_of};
+    ghost use Rattle.sno_pattern.specs.inner.Looks.{found_of, AreBefore};
 
     ghost Value = { Found };
 
-    ghost view = { λ looks. found_of looks.runs looks.balance };
+    ghost view = { λ looks. found_of looks.runs looks.turn looks.balance };
 
-    ghost invariant = { λ looks. looks.used ≡ false → (nodes : List Node) (s : List ℕ)
-        → AreTrue nodes s (found_of looks.runs looks.balance) };
+    ghost invariant = { λ looks. AreBefore (looks.turn + 1) looks.runs × (looks.used ≡ false
+        → (nodes : List Node) (s : List ℕ) → AreTrue nodes s (found_of looks.runs looks.turn looks.balance)) };
 }
 
 impl Looks {
@@ -68,7 +73,8 @@ impl Looks {
         ensures { (nodes : List Node) (s : List ℕ) → AreTrue nodes s result }
     {
         Looks {
-            runs: [NO_RUN; RUNS],
+            runs: no_runs(),
+            turn: 1,
             balance: Balance::new(alloc),
             used: false,
         }
@@ -79,21 +85,21 @@ impl Looks {
         ensures { (nodes : List Node) (s : List ℕ) → AreTrue nodes s self.new }
     {
         if self.used {
-            self.runs = [NO_RUN; RUNS];
+            self.turn = next_turn(&mut self.runs, self.turn);
             self.balance.clear();
             self.used = false;
         }
     }
 
-    /// The first end of a primitive from a cursor, if the run in this slot tells it.
-    pub(crate) fn recall(&self, slot: usize, id: PatId, at: usize) -> Option<Option<usize>>
-        requires { slot < 8 }
+    /// The run in a slot, if a cursor is in it.
+    pub(crate) fn run_at(&self, slot: usize, at: usize) -> Option<Run>
+        requires { slot < 32 }
         ensures { (nodes : List Node) (s : List ℕ) → AreTrue nodes s self.now
-            → IfSome result (λ end. end ≡ end_of (tree nodes id.0) s at 0) }
+            → IfSome result (λ run. run.end ≡ end_of (tree nodes run.id.0) s at 0) }
     {
         let run = self.runs[slot];
-        if run.id.0 == id.0 && run.from <= at && at <= run.until {
-            Some(run.end)
+        if run.turn == self.turn && run.from <= at && at <= run.until {
+            Some(run)
         } else {
             None
         }
@@ -101,11 +107,14 @@ impl Looks {
 
     /// Puts a run into a slot, in the place of the one before.
     pub(crate) fn remember(&mut self, slot: usize, run: Run)
-        requires { slot < 8 }
+        requires { slot < 32 }
         ensures { (nodes : List Node) (s : List ℕ) → AreTrue nodes s self.old → IsTrueRun nodes s run
             → AreTrue nodes s self.new }
     {
-        self.runs[slot] = run;
+        self.runs[slot] = Run {
+            turn: self.turn,
+            ..run
+        };
         self.used = true;
     }
 
@@ -141,16 +150,38 @@ impl Looks {
     }
 }
 
+/// Nothing was looked through.
+fn no_runs() -> [Run; RUNS]
+    ensures { AreBefore 1 result }
+{
+    let runs = [NO_RUN; RUNS];
+    runs
+}
+
+/// The number of the next subject, of which no run is told. When all numbers were given the runs are cleared.
+fn next_turn(runs: &mut [Run; RUNS], turn: u32) -> u32
+    requires { AreBefore (turn + 1) runs.old }
+    ensures { AreBefore result runs.new }
+{
+    match turn.checked_add(1) {
+        Some(next) => next,
+        None => {
+            *runs = no_runs();
+            1
+        }
+    }
+}
+
 /// The slot for the first end of a primitive with this number.
 pub(crate) fn slot_of_first(number: u32) -> usize
-    ensures { result < 8 }
+    ensures { result < 32 }
 {
     number as usize % RUNS
 }
 
 /// The slot for the end behind another, which is never that for the first end of the same primitive.
 pub(crate) fn slot_behind(number: u32, last: usize) -> usize
-    ensures { result < 8 }
+    ensures { result < 32 }
 {
     (number as usize % RUNS + 1 + last % (RUNS - 1)) % RUNS
 }

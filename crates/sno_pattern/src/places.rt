@@ -22,7 +22,7 @@ pub(crate) fn first_place_of_kind(kind: &Kind, subject: &[u8], from: usize, unti
     ensures { IsFirstPlace (node_has_end (node_of kind.now) subject.now) from until result }
 {
     match kind {
-        Kind::Text(text) => place_of_text(text, subject, from, until),
+        Kind::Text(text) => place_of_text(text.as_slice(), subject, from, until),
         Kind::Among(prim, set) => match prim {
             Prim::Any => place_in_set(set, subject, from, until),
             Prim::NotAny => place_outside_set(set, subject, from, until),

@@ -26,3 +26,4 @@ pub mod FunctionLaws
 pub mod ItemLaws
 pub mod ContainerLaws
 pub mod Found
+pub mod Growing

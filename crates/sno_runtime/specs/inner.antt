@@ -1,6 +1,7 @@
 pub mod Calls
 pub mod Converted
 pub mod Effects
+pub mod Growing
 pub mod Operations
 pub mod Performs
 pub mod Primitives

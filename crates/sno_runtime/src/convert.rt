@@ -101,7 +101,7 @@ pub fn as_pattern(runtime: &mut Runtime, value: Value) -> Result<PatId, Exit>
 {
     match value {
         Value::Str(text) => {
-            let id = runtime.text(text.as_slice())?;
+            let id = runtime.text_of(&text)?;
             Ok(id)
         }
         Value::Int(number) => {

@@ -12,7 +12,7 @@ use crate::errors::DATA_TYPE;
 use crate::runtime::{Runtime, is_output};
 use crate::stops::Stop;
 use sno_io::{DeviceFault, Sink, put};
-use sno_match::Event;
+use sno_match::{Event, Matcher};
 use sno_value::{Name, Text, Value, int_text};
 use std::alloc::Global;
 
@@ -39,6 +39,32 @@ pub fn take_effect<W: Sink>(
         }
         Event::Cursor { target, at } => assign(runtime, target, Value::Int(at as i64), writer),
         _ => Ok(()),
+    }
+}
+
+/// What an event of a match does, as `take_effect` has it, in the subject of the match. A long part that `$` assigns
+/// shares the subject's block.
+pub fn take_effect_in<W: Sink>(
+    runtime: &mut Runtime,
+    matcher: &Matcher,
+    event: Event,
+    writer: &mut W,
+) -> Result<(), Stop>
+    requires subject { length matcher.now.subject ≤ 1_000_000 }
+    requires within { IsWithin (length matcher.now.subject) (in_trace event []) }
+    requires sound { (W.drain writer.old).broken ≡ false }
+    ensures does { Performs (effect matcher.now.subject (in_trace event [])) runtime.old runtime.new
+        (W.drain writer.old).taken (W.drain writer.new).taken result }
+    ensures nodes { runtime.new.nodes ≡ runtime.old.nodes }
+    ensures sound { OnOk result ((W.drain writer.new).broken ≡ false) }
+    ensures fault { result ≡ Err Stop.WriteFault → (W.drain writer.new).broken ≡ true }
+{
+    match event {
+        Event::Assign { target, start, end } => {
+            let part = matcher.text(runtime.alloc(), start, end)?;
+            assign(runtime, target, Value::Str(part), writer)
+        }
+        _ => take_effect(runtime, matcher.subject(), event, writer),
     }
 }
 

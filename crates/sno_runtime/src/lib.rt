@@ -30,7 +30,7 @@ mod unary_operators;
 
 pub use builtins::{Builtin, Plain, Relation, function_named};
 pub use convert::{as_pattern, is_null, number, number_of, text_of};
-pub use effects::{assign, take_effect};
+pub use effects::{assign, take_effect, take_effect_in};
 pub use errors::{
     CALL_LEVEL, DATA_TYPE, FAILURE_IN_GOTO, MATCH_LIMIT, NO_KEYWORD, NO_VARIABLE, NULL_STRING,
     RETURN_OUTSIDE, TOO_LONG, UNDEFINED_FUNCTION, UNDEFINED_LABEL,

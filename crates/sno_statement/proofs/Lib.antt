@@ -4,6 +4,7 @@ pub mod AssignLaws
 pub mod CallingLaws
 pub mod FunctionLaws
 pub mod GotoLaws
+pub mod GrowingLaws
 pub mod Leads
 pub mod MadeCalls
 pub mod MatchLaws

@@ -2,9 +2,9 @@
 //!
 //! A program's `code` is what is known of it before its first statement begins: what its statements do and where they
 //! go on (`steps`, `targets`), and the instructions of each expression, which `sno_expression` makes. `perform` does
-//! one statement and finds the next one (`gotos`); `statements` does the parts of one. `evaluation` runs the
-//! instructions of an expression, over a list of values where `operands` can't do without, and `made` calls the
-//! functions that the program has made. `matching` runs a match up to its first way, `answers` gives it what its
+//! one statement and finds the next one (`gotos`); `statements` does the parts of one. `evaluation` gives the value of
+//! an expression, by a loop over `instructions` and a list of values where `operands` can't do without, and `made` calls
+//! the functions that the program has made. `matching` runs a match up to its first way, `answers` gives it what its
 //! deferred parts stand for, and `replacement` puts a text in the place of what matched. How a call of a function that
 //! the program defines is done comes from above (`calls`), since it performs statements in its turn.
 #![tactic(auto)]
@@ -14,6 +14,8 @@ mod calls;
 mod code;
 mod evaluation;
 mod gotos;
+mod growing;
+mod instructions;
 mod made;
 mod matching;
 mod operands;

@@ -1,6 +1,7 @@
 //! Calls of the functions that a program has made.
-ghost use Rattle.std.specs.Prelude.{◌≡◌, ◌<◌, ◌-◌, Some, IfSome, map};
+ghost use Rattle.std.specs.Prelude.{◌≡◌, ◌<◌, ◌-◌, None, Some, true, IfSome, map};
 ghost use Rattle.std.specs.List.{AllByRecursion};
+ghost use Rattle.sno_runtime.specs.Action.{gives};
 ghost use Rattle.sno_runtime.specs.Runtime.{itself};
 ghost use Rattle.sno_runtime.specs.inner.Runtime.{Does, any};
 ghost use Rattle.sno_runtime.specs.Values.{shown, IsValueOf};
@@ -37,6 +38,9 @@ pub(crate) fn called_function(
     {
         return Ok(made_function(runtime, Name::Var(id)));
     }
+    if calls_nothing(&next.form) {
+        return Ok(None);
+    }
     searched_function(runtime, program, next.part)
 }
 
@@ -47,10 +51,25 @@ fn called_name(form: &Form) -> Option<&Known>
         → IsCallOf program part name.now.span × IsNameOf program.text name.now) }
 {
     match form {
-        Form::Call(name) => Some(name),
+        Form::Call(_, name) => Some(name),
         Form::Comparison(_, name) => Some(name),
         Form::Examination(_, name) => Some(name),
         _ => None,
+    }
+}
+
+/// Whether a form is known to be no call. Where that isn't known, its node tells.
+#[inline(always)]
+fn calls_nothing(form: &Form) -> bool
+    ensures { result ≡ true → (program : Program) (part : Part) → IsFormOf program part form.now
+        → function_called program.text (node_at program part) part.wanted ≡ gives None }
+{
+    match form {
+        Form::Concatenation => true,
+        Form::Binary(_) => true,
+        Form::Item => true,
+        Form::ItemName => true,
+        _ => false,
     }
 }
 

@@ -11,7 +11,7 @@ use Rattle.sno_pattern.specs.declared.kind.Kind.TheVariants as K
 use Rattle.sno_pattern.specs.declared.kind.Entry.{Entry}
 
 abbrev pub node_of : Kind → Node
-node_of (K.Text bytes) = LeafNode (Text bytes.items)
+node_of (K.Text bytes) = LeafNode (Text bytes)
 node_of (K.Counted prim n) = LeafNode (Counted prim n)
 node_of (K.Among prim set) = LeafNode (Among prim set)
 node_of K.Arb = LeafNode Arb

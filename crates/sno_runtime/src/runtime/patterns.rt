@@ -22,6 +22,15 @@ impl Runtime {
         Ok(id)
     }
 
+    /// The same of a string, whose block it shares.
+    pub fn text_of(&mut self, text: &sno_value::Text) -> Result<PatId, Exit>
+        requires { length text.now ≤ 1_000_000 }
+        ensures { Does tree_of IsPatternOf (makes (Leaf (Text text.now))) self.old self.new result }
+    {
+        let id = self.patterns.text_of(text)?;
+        Ok(id)
+    }
+
     /// A primitive with its argument: a count for those that take one, and a set for the others. A null set is error
     /// 6, and a negative count error 7.
     pub fn prim(&mut self, prim: Prim, arg: Arg<'_>) -> Result<PatId, Exit>

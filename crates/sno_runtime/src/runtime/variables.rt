@@ -1,10 +1,12 @@
 //! Variables by their names, and what names hold.
-ghost use Rattle.std.specs.Prelude.{◌≡◌, IfSome, List, ℕ, Ok, true};
+ghost use Rattle.std.specs.Prelude.{◌≡◌, false, IfSome, List, ℕ, Ok, OnErr, OnOk, option_map, true};
 ghost use Rattle.sno_value.specs.Keys.{IsKeyOf};
-ghost use Rattle.sno_store.specs.Store.{with_value};
+ghost use Rattle.sno_value.specs.declared.value.Value.TheVariants as Stored;
+ghost use Rattle.sno_store.specs.Store.{value_of, with_value};
 ghost use Rattle.sno_runtime.specs.Action.{and_then};
 ghost use Rattle.sno_runtime.specs.Values.{shown, IsValueOf};
 ghost use Rattle.sno_runtime.specs.Runtime.{itself};
+ghost use Rattle.sno_runtime.specs.inner.Growing.{lengthened, string_in};
 ghost use Rattle.sno_runtime.specs.inner.Runtime.{Does, any};
 ghost use Rattle.sno_runtime.specs.Variables.{variable_named, name_value, text_of_name, reads, holds};
 ghost use Rattle.sno_runtime.specs.Variables.{is_input, is_output};
@@ -14,6 +16,7 @@ use crate::limits::MOST_BYTES;
 use crate::runtime::{FOUND_SYMBOLS, Runtime};
 use crate::stops::{Exit, error};
 use sno_value::{Name, SymId, Text, Value};
+use std::alloc::AllocError;
 
 /// The number of INPUT among the symbols.
 const INPUT: u32 = 7;
@@ -165,6 +168,57 @@ impl Runtime {
         ensures { self.new ≡ record self.old { store = with_value name value self.old.store } }
     {
         self.store.set(name, value);
+    }
+
+    /// The string that a variable holds, where it lies, if that is neither INPUT nor OUTPUT.
+    #[inline(always)]
+    pub fn string_held(&self, symbol: SymId) -> Option<&[u8]>
+        ensures reads { IfSome result (λ bytes. Does shown IsValueOf (reads (Name.Var symbol))
+            self.now self.now (Ok (Stored.Str bytes.now))) }
+        ensures held { IfSome result (λ bytes. value_of self.now.store (Name.Var symbol) ≡ Stored.Str bytes.now) }
+        ensures stored { IfSome result (λ bytes. is_output (Name.Var symbol) ≡ false) }
+    {
+        let name = Name::Var(symbol);
+        if is_input(name) || is_output(name) {
+            return None;
+        }
+        let text = string(self.store.get(name))?;
+        Some(text.as_slice())
+    }
+
+    /// Puts bytes behind the string that a variable holds, which is taken out of it meanwhile, so that nothing else keeps
+    /// its block. Where memory is refused nothing changes, nor where the variable holds no string.
+    #[inline(never)]
+    pub fn append_to(&mut self, symbol: SymId, bytes: &[u8]) -> Result<(), AllocError>
+        requires { IsValueOf self.old.nodes (lengthened bytes.now (value_of self.old.store (Name.Var symbol))) }
+        ensures ok { OnOk result (self.new ≡ record self.old {
+          store = with_value (Name.Var symbol)
+              (lengthened bytes.now (value_of self.old.store (Name.Var symbol))) self.old.store;
+        }) }
+        ensures err { OnErr result (self.new ≡ self.old) }
+    {
+        let name = Name::Var(symbol);
+        let Some(text) = string(self.store.get(name)) else {
+            return Ok(());
+        };
+        let mut text = text.copy()?;
+        self.set(name, Value::null());
+        if let Err(refused) = text.append(self.alloc, bytes) {
+            self.set(name, Value::Str(text));
+            return Err(refused);
+        }
+        self.set(name, Value::Str(text));
+        Ok(())
+    }
+}
+
+/// The string that a value is.
+fn string(value: &Value) -> Option<&Text>
+    ensures { option_map (λ text. text.now) result ≡ string_in value.now }
+{
+    match value {
+        Value::Str(text) => Some(text),
+        _ => None,
     }
 }
 

@@ -37,6 +37,40 @@ const LENGTHS: &str = r"
  A = DUPL('a',1000000)\n B = A N\n OUTPUT = SIZE(B)\n B = N A\n OUTPUT = SIZE(B)\nEND\n => 1000000\n1000000\n
 ";
 
+/// Strings that are long enough to grow where they lie, when tokens are joined to them: what else has their bytes keeps
+/// them, and what ends otherwise goes the general way.
+const GROWING: &str = r"
+ X = DUPL('a',60)\nL X = X '0123456789'\n LT(SIZE(X),200) :S(L)\n OUTPUT = X\nEND\n => \<60:a\>\<14:0123456789\>\n
+ X = 'a'\nL X = X 'bc'\n Y = X\n X = X 'd' Y\n LT(SIZE(X),40) :S(L)\n OUTPUT = X\nEND\n => abcdabcbcdabcdabcbcbcdabcdabcbcdabcdabcbcbc\n
+ X = DUPL('a',70)\n Y = X\n X = X 'b'\n Y = Y 'c'\n X = X 'd'\n OUTPUT = X\n OUTPUT = Y\nEND\n => \<70:a\>bd\n\<70:a\>c\n
+ X = DUPL('a',70)\n X = X 'b' X\n OUTPUT = X\n X = X X\n OUTPUT = SIZE(X)\nEND\n => \<70:a\>b\<70:a\>\n282\n
+ N = -7\n X = DUPL('a',70)\n X = X 5 N '' M 'x'\n OUTPUT = X\nEND\n => \<70:a\>5-7x\n
+ X = DUPL('a',40) DUPL('b',40)\n X LEN(70) . Y\n Y = Y 'c'\n X = X 'd'\n OUTPUT = Y\n OUTPUT = X\nEND\n => \<40:a\>\<30:b\>c\n\<40:a\>\<40:b\>d\n
+ X = DUPL('a',40) DUPL('b',40)\n X LEN(10) =\n X = X 'c'\n OUTPUT = X\n X RPOS(6) REM =\n X = X 'd'\n OUTPUT = X\nEND\n => \<30:a\>\<40:b\>c\n\<30:a\>\<35:b\>d\n
+ T = TABLE()\n X = DUPL('a',70)\n T<X> = 1\n X = X 'b'\n OUTPUT = T<X> T<DUPL('a',70)>\nEND\n => 1\n
+ DEFINE('F(X)') :(M)\nF X = X 'b'\n F = X :(RETURN)\nM X = DUPL('a',70)\n OUTPUT = F(X)\n OUTPUT = X\nEND\n => \<70:a\>b\n\<70:a\>\n
+ X = DUPL('a',70)\n P = X | 'c'\n X = X 'b'\n DUPL('a',70) P :F(END)\n OUTPUT = 'same'\nEND\n => same\n
+ X = DUPL('a',70)\n DEFINE('F()') :(M)\nF X = X 'b' :(RETURN)\nM X LEN(69) *F() 'a' RPOS(0) :F(END)\n OUTPUT = X\nEND\n => \<70:a\>b\n
+ LONGNAMED = DUPL('a',70)\n LONGNAMED = LONGNAMED 'b' LONGNAMED\n OUTPUT = LONGNAMED\n $'LONGNAMED' = LONGNAMED 'c'\n OUTPUT = SIZE(LONGNAMED)\nEND\n => \<70:a\>b\<70:a\>\n142\n
+ X = DUPL('a',70)\n Y = X 'b'\n X = Y 'c'\n OUTPUT = X\n X = 'd' X\n OUTPUT = X\nEND\n => \<70:a\>bc\nd\<70:a\>bc\n
+";
+
+/// What grows elsewhere, or not at all.
+const NOT_GROWING: &str = r"
+ X = 5\n X = X 'a'\n OUTPUT = X\n Y = Y 'b'\n OUTPUT = Y\nEND\n => 5a\nb\n
+ X = LEN(1)\n X = X 'b'\n 'ab' X :F(END)\n OUTPUT = DATATYPE(X)\nEND\n => PATTERN\n
+ P = LEN(1)\n X = DUPL('a',70)\n X = X 'b' P\n OUTPUT = DATATYPE(X)\nEND\n => PATTERN\n
+ A = ARRAY(2)\n X = DUPL('a',70)\n X = X A\nEND\n => status 1: snobol4: error 1 in statement 3\n
+ X = DUPL('a',70)\n X = X &ANCHOR\n X = X SIZE(X)\n X = X LT(2,1) 'b'\n OUTPUT = X\nEND\n => \<70:a\>071\n
+ DEFINE('F()') :(M)\nF X = X 'b'\n F = '!' :(RETURN)\nM X = DUPL('a',70)\n X = X F()\n OUTPUT = X\n X = F() X\n OUTPUT = X\nEND\n => \<70:a\>!\n!\<70:a\>!b\n
+ X = DUPL('a',70)\n X = X INPUT\n OUTPUT = X\n X = X INPUT :S(END)\n OUTPUT = X\nEND\n <- b\n => \<70:a\>b\n\<70:a\>b\n
+ INPUT = DUPL('a',70)\n INPUT = INPUT 'b' :S(END)\n OUTPUT = 'no line'\nEND\n => no line\n
+ OUTPUT = DUPL('a',70)\n OUTPUT = OUTPUT 'b'\n OUTPUT = OUTPUT 'c'\nEND\n => \<70:a\>\n\<70:a\>b\n\<70:a\>bc\n
+ X = DUPL('a',999998)\n X = X 'b'\n OUTPUT = SIZE(X)\n X = X 1\n OUTPUT = SIZE(X)\n X = X N ''\n OUTPUT = SIZE(X)\n X = X 'c'\nEND\n => 999999\n1000000\n1000000\nstatus 1: snobol4: error 8 in statement 8\n
+ X = DUPL('a',999998)\n X = X 'b' 'cd'\nEND\n => status 1: snobol4: error 8 in statement 2\n
+ X = DUPL('a',999998)\n N = -12\n X = X N\nEND\n => status 1: snobol4: error 8 in statement 3\n
+";
+
 /// Arguments that are absent, and literals in their place.
 const ARGUMENTS: &str = r"
  DEFINE('F(A)') :(M)\nF F = '<' A '>' :(RETURN)\nM OUTPUT = F() F('') F('x') F(5)\nEND\n => <><><x><5>\n
@@ -57,6 +91,16 @@ fn operands_are_joined(rt: HostRuntime) -> Result<(), Fail> {
 #[test]
 fn long_strings_are_joined(rt: HostRuntime) -> Result<(), Fail> {
     check_rows::<Programs, _>(&rt, LENGTHS)
+}
+
+#[test]
+fn long_strings_grow(rt: HostRuntime) -> Result<(), Fail> {
+    check_rows::<Programs, _>(&rt, GROWING)
+}
+
+#[test]
+fn other_strings_are_joined(rt: HostRuntime) -> Result<(), Fail> {
+    check_rows::<Programs, _>(&rt, NOT_GROWING)
 }
 
 #[test]

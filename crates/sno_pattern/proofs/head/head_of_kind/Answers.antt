@@ -6,7 +6,7 @@ use Rattle.sno_pattern.proofs.head.head_of_kind.Goals as goal
 
 pub returns-in-Text : goal.returns-in-Text
 returns-in-Text c =
-    let first = subst (λ bytes. slice_get (ends (Text bytes) c.args.subject.now c.args.at) 0 ≡ c.text_end-first.result) c.deref.ensures.value
+    let first = subst (λ bytes. slice_get (ends (Text bytes) c.args.subject.now c.args.at) 0 ≡ c.text_end-first.result) c.as_slice.ensures
     (sym c.text_end-first.ensures) in
     rw c.in-Text.is (_, refl, first, one_text_end _ c.args.subject.now c.args.at)
 

@@ -5,3 +5,6 @@ returns-in-Comparison c = λ program part known. let of = rw c.in-Comparison.is 
 
 pub returns-in-Examination : goal.returns-in-Examination
 returns-in-Examination c = λ program part known. let of = rw c.in-Examination.is at known in (of.0, of.1)
+
+pub returns-in-Call : goal.returns-in-Call
+returns-in-Call c = λ program part known. let of = rw c.in-Call.is at known in (of.0, of.1)

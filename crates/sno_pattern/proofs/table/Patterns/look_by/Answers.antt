@@ -23,14 +23,14 @@ returns-then-at-until-clause-looks c =
 pub returns-in-Some-clause-ahead : goal.returns-in-Some-clause-ahead
 returns-in-Some-clause-ahead c =
     let value : c.in-Some.end ≡ end_of (tree c.args.self.now c.args.id.0) c.args.subject.now c.args.at 0 =
-    c.in-Some.ensures c.args.self.now c.args.subject.now c.requires.looks in
+    c.in-Some.ensures c.args.subject.now c.requires.looks in
     IfSome-to _ _ c.in-Some.end (λ e within. omega (arith, within.0))
     (end_of-range (tree c.args.self.now c.args.id.0) c.args.subject.now c.args.at 0 c.in-Some.end c.requires.at value)
 
 pub returns-in-Some-clause-inside : goal.returns-in-Some-clause-inside
 returns-in-Some-clause-inside c =
     let value : c.in-Some.end ≡ end_of (tree c.args.self.now c.args.id.0) c.args.subject.now c.args.at 0 =
-    c.in-Some.ensures c.args.self.now c.args.subject.now c.requires.looks in
+    c.in-Some.ensures c.args.subject.now c.requires.looks in
     IfSome-to _ _ c.in-Some.end (λ e within. within.1)
     (end_of-range (tree c.args.self.now c.args.id.0) c.args.subject.now c.args.at 0 c.in-Some.end c.requires.at value)
 
