@@ -49,9 +49,9 @@ fn replacement_holds(alloc: Global) -> bool {
     }
 }
 
-/// Strings that are too long to lie in their values, and parts of one: a part that is shorter than a quarter is copied.
+/// Strings that are too long to lie in their values, and parts of one: a part that is shorter than an eighth is copied.
 fn texts_hold(alloc: Global) -> Result<bool, AllocError> {
-    let bytes = [b'x'; 100];
+    let bytes = [b'x'; 200];
     let list = Vec::from_slice(alloc, &bytes)?;
     let text = match Text::new(alloc, list) {
         Err(_) => Text::new(alloc, Vec::from_slice(alloc, &bytes)?)?,

@@ -141,7 +141,7 @@ impl Text {
         Ok(Text { held })
     }
 
-    /// The bytes from `start` up to `end`. One of at least a quarter of its block shares it; what is shorter is copied,
+    /// The bytes from `start` up to `end`. One of at least an eighth of its block shares it; what is shorter is copied,
     /// so that no small string keeps a large block.
     pub fn part(&self, alloc: Global, start: usize, end: usize) -> Result<Text, AllocError>
         requires order { start ≤ end }
@@ -150,7 +150,7 @@ impl Text {
     {
         if let Held::Shared(block, first, _) = &self.held
             && end - start > MOST_HERE
-            && end - start >= block.len() / 4
+            && end - start >= block.len() / 8
         {
             let first = *first as usize;
             return Ok(Text {
