@@ -17,8 +17,8 @@ use Rattle.sno_pattern.specs.inner.Kinds.{node_of, nodes_of, IsTable}
 use Rattle.sno_pattern.specs.declared.kind.Entry.{Entry}
 use Rattle.sno_pattern.specs.declared.kind.Kind.{Kind}
 use Rattle.sno_pattern.specs.declared.kind.Kind.TheVariants as K
-use Rattle.sno_pattern.specs.Looks.{IsTrueRun, Found, AreTrue}
-use Rattle.sno_pattern.specs.inner.Looks.{found_of, AreBefore}
+use Rattle.sno_pattern.specs.Looks.{IsTrueRun, Found, AreTrueRuns, AreTrue}
+use Rattle.sno_pattern.specs.inner.Looks.{found_of, AreEarlier, AreBefore, HaveNoCursor}
 use Rattle.sno_pattern.specs.declared.looks.Run.{Run}
 use Rattle.sno_pattern.proofs.BalanceLaws.{balanced_next}
 use Rattle.sno_pattern.proofs.PlaceLaws.{same_place, below_or_not}
@@ -122,24 +122,51 @@ grown_run nodes more s run is = record {
   ends = λ c low high. ap (λ (t : Pattern). end_of t s c 0) (tree-append nodes more run.id.0 (is.known (omega (arith, low, high)))) ∙ is.ends c low high;
 }
 
+grown_runs : (nodes more : List Node) (s : List ℕ) (turn : ℕ) (runs : List Run) → AreTrueRuns nodes s turn runs → AreTrueRuns (nodes ++ more) s turn runs
+grown_runs nodes more s turn runs are = record { each = λ place other h told. grown_run nodes more s (get_or runs place other) (are.each place other h told) }
+
 pub true_grown : (nodes more : List Node) (s : List ℕ) (found : Found) → AreTrue nodes s found → AreTrue (nodes ++ more) s found
 true_grown nodes more s found are = record {
   places = are.places;
-  each = λ slot other h told. grown_run nodes more s (get_or found.runs slot other) (are.each slot other h told);
+  runs = grown_runs nodes more s found.turn found.runs are.runs;
+  more = grown_runs nodes more s found.turn found.more are.more;
   balance = are.balance;
 }
 
 -- where nothing is told of the subject, all that is remembered is true
-pub empty_true : (runs : List Run) (turn : ℕ) (first_ends : List ℕ) → AreBefore turn runs → first_ends ≡ [] → (nodes : List Node) (s : List ℕ)
-    → AreTrue nodes s (found_of runs turn first_ends)
-empty_true runs turn first_ends before none nodes s = record {
+earlier_true : (nodes : List Node) (s : List ℕ) (turn : ℕ) (runs : List Run) → AreEarlier turn runs → AreTrueRuns nodes s turn runs
+earlier_true nodes s turn runs earlier = record { each = λ place other h told. absurd (omega (arith, told, earlier.each place other h)) }
+
+pub empty_true : (runs more : List Run) (turn : ℕ) (first_ends : List ℕ) → AreBefore turn runs → AreEarlier turn more → first_ends ≡ [] →
+    (nodes : List Node) (s : List ℕ) → AreTrue nodes s (found_of runs more turn first_ends)
+empty_true runs more turn first_ends before earlier none nodes s = record {
   places = before.places;
-  each = λ slot other h told. absurd (omega (arith, told, before.each slot other (omega (arith, before.places, h))));
+  runs = earlier_true nodes s turn runs before.earlier;
+  more = earlier_true nodes s turn more earlier;
   balance = record { made = λ some. absurd (omega (arith, some, ap length none)) };
 }
 
+pub still_earlier : (turn : ℕ) (runs : List Run) → AreEarlier turn runs → AreEarlier (turn + 1) runs
+still_earlier turn runs earlier = record { each = λ place other h. omega (arith, earlier.each place other h) }
+
 pub still_before : (turn : ℕ) (runs : List Run) → AreBefore turn runs → AreBefore (turn + 1) runs
-still_before turn runs before = record { places = before.places; each = λ slot other h. omega (arith, before.each slot other h) }
+still_before turn runs before = record { places = before.places; earlier = still_earlier turn runs before.earlier }
+
+-- no run is told of no subject
+pub none_earlier : (turn : ℕ) (runs : List Run) → runs ≡ [] → AreEarlier turn runs
+none_earlier turn runs none = record { each = λ place other h. absurd (omega (arith, h, ap length none)) }
+
+-- runs that have no cursor are true, and are told of no subject
+pub no_cursor_true : (nodes : List Node) (s : List ℕ) (turn : ℕ) (runs : List Run) → HaveNoCursor runs → AreTrueRuns nodes s turn runs
+no_cursor_true nodes s turn runs have = record {
+  each = λ place other h told. record {
+    known = λ some. absurd (omega (arith, some, have.each place other h));
+    ends = λ c low high. absurd (omega (arith, low, high, have.each place other h));
+  };
+}
+
+pub no_cursor_earlier : (turn : ℕ) (runs : List Run) → HaveNoCursor runs → AreEarlier (turn + 1) runs
+no_cursor_earlier turn runs have = record { each = λ place other h. omega (arith, have.turn place other h) }
 
 same_or_not : (i j : ℕ) → (i ≡ j) ⊎ (i ≢ j)
 same_or_not zero zero = inl refl
@@ -148,46 +175,69 @@ same_or_not (suc i) zero = inr (λ e. omega arith)
 same_or_not (suc i) (suc j) = ⊎_elim (λ e. inl (ap suc e)) (λ n. inr (λ e. n (omega arith))) (same_or_not i j)
 
 -- a run that is told of the subject in the place of one
-pub put_before : (runs : List Run) (slot : ℕ) (run : Run) (turn : ℕ) → AreBefore (turn + 1) runs → run.turn ≡ turn → AreBefore (turn + 1) (slice_set runs slot run)
-put_before runs slot run turn before is = record {
-  places = length-set runs slot run ∙ before.places;
-  each = λ at other h.
+pub put_earlier : (runs : List Run) (place : ℕ) (run : Run) (turn : ℕ) → AreEarlier (turn + 1) runs → run.turn ≡ turn → AreEarlier (turn + 1) (slice_set runs place run)
+put_earlier runs place run turn earlier is = record {
+  each = λ at other h. let long = length-set runs place run in
       ⊎_elim
       (λ same. rw (← same)
-      (subst (λ (one : Run). one.turn < turn + 1) (sym (get_or-set_same runs slot run other (omega (arith, h, before.places, same)))) (omega (arith, is))))
-      (λ apart. subst (λ (one : Run). one.turn < turn + 1) (sym (get_or-set_other runs slot at run other (λ e. apart (sym e)))) (before.each at other h))
-      (same_or_not slot at);
+      (subst (λ (one : Run). one.turn < turn + 1) (sym (get_or-set_same runs place run other (omega (arith, h, long, same)))) (omega (arith, is))))
+      (λ apart. subst (λ (one : Run). one.turn < turn + 1) (sym (get_or-set_other runs place at run other (λ e. apart (sym e))))
+      (earlier.each at other (omega (arith, h, long))))
+      (same_or_not place at);
+}
+
+pub put_before : (runs : List Run) (place : ℕ) (run : Run) (turn : ℕ) → AreBefore (turn + 1) runs → run.turn ≡ turn → AreBefore (turn + 1) (slice_set runs place run)
+put_before runs place run turn before is = record {
+  places = length-set runs place run ∙ before.places;
+  earlier = put_earlier runs place run turn before.earlier is;
 }
 
 -- a true run in the place of one
-pub true_put : (nodes : List Node) (s first_ends : List ℕ) (runs : List Run) (turn slot : ℕ) (run : Run) → AreTrue nodes s (found_of runs turn first_ends)
-    → IsTrueRun nodes s run → AreTrue nodes s (found_of (slice_set runs slot run) turn first_ends)
-true_put nodes s first_ends runs turn slot run are is = record {
-  places = length-set runs slot run ∙ are.places;
-  each = λ at other h told. let long = length-set runs slot run in
+pub runs_put : (nodes : List Node) (s : List ℕ) (runs : List Run) (turn place : ℕ) (run : Run) → AreTrueRuns nodes s turn runs → IsTrueRun nodes s run
+    → AreTrueRuns nodes s turn (slice_set runs place run)
+runs_put nodes s runs turn place run are is = record {
+  each = λ at other h told. let long = length-set runs place run in
       ⊎_elim
-      (λ same. rw (← same) (subst (IsTrueRun nodes s) (sym (get_or-set_same runs slot run other (omega (arith, h, long, same)))) is))
+      (λ same. rw (← same) (subst (IsTrueRun nodes s) (sym (get_or-set_same runs place run other (omega (arith, h, long, same)))) is))
       (λ apart.
-      let stays = get_or-set_other runs slot at run other (λ e. apart (sym e)) in
+      let stays = get_or-set_other runs place at run other (λ e. apart (sym e)) in
       subst (IsTrueRun nodes s) (sym stays) (are.each at other (omega (arith, h, long)) (ap (λ (one : Run). one.turn) (sym stays) ∙ told)))
-      (same_or_not slot at);
+      (same_or_not place at);
+}
+
+pub true_put : (nodes : List Node) (s first_ends : List ℕ) (runs more : List Run) (turn place : ℕ) (run : Run) →
+    AreTrue nodes s (found_of runs more turn first_ends) → IsTrueRun nodes s run →
+    AreTrue nodes s (found_of (slice_set runs place run) more turn first_ends)
+true_put nodes s first_ends runs more turn place run are is = record {
+  places = length-set runs place run ∙ are.places;
+  runs = runs_put nodes s runs turn place run are.runs is;
+  more = are.more;
   balance = are.balance;
 }
 
--- a run is as true of whatever subject it is told
-pub told_now : (nodes : List Node) (s : List ℕ) (run : Run) (turn : ℕ) → IsTrueRun nodes s run
-    → IsTrueRun nodes s (record { id = run.id; from = run.from; until = run.until; end = run.end; turn = turn })
-told_now nodes s run turn is = record { known = is.known; ends = is.ends }
+-- other runs that are true in the place of more
+pub true_more : (nodes : List Node) (s first_ends : List ℕ) (runs more others : List Run) (turn : ℕ) → AreTrue nodes s (found_of runs more turn first_ends)
+    → AreTrueRuns nodes s turn others → AreTrue nodes s (found_of runs others turn first_ends)
+true_more nodes s first_ends runs more others turn are is = record { places = are.places; runs = are.runs; more = is; balance = are.balance }
 
--- what a run says from one of its cursors
-pub run_tells : (nodes : List Node) (s first_ends : List ℕ) (runs : List Run) (turn : ℕ) (found : Found) (slot : ℕ) (other : Run) (at : ℕ)
-    → found_of runs turn first_ends ≡ found → AreTrue nodes s found → slot < 32 → (get_or runs slot other).turn ≡ turn →
-    (get_or runs slot other).from ≤ at → at ≤ (get_or runs slot other).until → (get_or runs slot other).end
-    ≡ end_of (tree nodes (get_or runs slot other).id.0) s at 0
-run_tells nodes s first_ends runs turn found slot other at is are h told low high =
+-- a run is as true of whatever subject it is told, and by whatever key it is looked up
+pub told_now : (nodes : List Node) (s : List ℕ) (run : Run) (turn key : ℕ) → IsTrueRun nodes s run
+    → IsTrueRun nodes s (record { id = run.id; from = run.from; until = run.until; end = run.end; turn = turn; key = key })
+told_now nodes s run turn key is = record { known = is.known; ends = is.ends }
+
+-- what a run of a list says from one of its cursors
+pub runs_tell : (nodes : List Node) (s : List ℕ) (runs : List Run) (turn place : ℕ) (other : Run) (at : ℕ) → AreTrueRuns nodes s turn runs
+    → place < length runs → (get_or runs place other).turn ≡ turn → (get_or runs place other).from ≤ at → at ≤ (get_or runs place other).until →
+    (get_or runs place other).end ≡ end_of (tree nodes (get_or runs place other).id.0) s at 0
+runs_tell nodes s runs turn place other at are h told low high = sym ((are.each place other h told).ends at low high)
+
+pub run_tells : (nodes : List Node) (s first_ends : List ℕ) (runs more : List Run) (turn : ℕ) (found : Found) (place : ℕ) (other : Run) (at : ℕ)
+    → found_of runs more turn first_ends ≡ found → AreTrue nodes s found → place < 32 → (get_or runs place other).turn ≡ turn →
+    (get_or runs place other).from ≤ at → at ≤ (get_or runs place other).until → (get_or runs place other).end
+    ≡ end_of (tree nodes (get_or runs place other).id.0) s at 0
+run_tells nodes s first_ends runs more turn found place other at is are h told low high =
     let known = subst (AreTrue nodes s) (sym is) are in
-    let one = known.each slot other (omega (arith, known.places, h)) told in
-    sym (one.ends at low high)
+    runs_tell nodes s runs turn place other at known.runs (omega (arith, known.places, h)) told low high
 
 -- the same where a look says whether there is an end
 pub break_look : (set s : List ℕ) (c d : ℕ) (end : Option ℕ) → end ≡ slice_get (ends (Among Break set) s c) 0 → c ≤ d → d ≤ unwrap_or end (length s)

@@ -10,15 +10,20 @@ pub record IsTrueRun (nodes : List Node) (s : List ℕ) (run : Run) : Type 0 whe
   pub known : run.from ≤ run.until → run.id.0 < length nodes
   pub ends : (c : ℕ) → run.from ≤ c → c ≤ run.until → end_of (tree nodes run.id.0) s c 0 ≡ run.end
 
--- the runs that are remembered, the number of the subject of which they are told, and the table of BAL's first ends
+-- each run of a list that is told of this subject is true of it and this table
+pub record AreTrueRuns (nodes : List Node) (s : List ℕ) (turn : ℕ) (runs : List Run) : Type 0 where
+  pub each : (place : ℕ) (other : Run) → place < length runs → (get_or runs place other).turn ≡ turn → IsTrueRun nodes s (get_or runs place other)
+
+-- the runs that are remembered, those in place and more, the number of the subject of which they are told, and the table of BAL's first ends
 pub record Found : Type 0 where
   pub runs : List Run
+  pub more : List Run
   pub turn : ℕ
   pub first_ends : List ℕ
 
 -- each run that is remembered of this subject is true of it and this table, and the ends of BAL are the subject's
 pub record AreTrue (nodes : List Node) (s : List ℕ) (found : Found) : Type 0 where
   pub places : length found.runs ≡ 32
-  pub each : (slot : ℕ) (other : Run) → slot < length found.runs → (get_or found.runs slot other).turn ≡ found.turn
-      → IsTrueRun nodes s (get_or found.runs slot other)
+  pub runs : AreTrueRuns nodes s found.turn found.runs
+  pub more : AreTrueRuns nodes s found.turn found.more
   pub balance : IsTableIfMade s found.first_ends

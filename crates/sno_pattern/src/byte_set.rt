@@ -84,8 +84,8 @@ impl ByteSet {
     /// A number for the set, below 2^32, by which few different sets are told to be the same.
     pub(crate) fn hash(&self) -> u32 {
         let [a, b, c, d] = self.words;
-        let folded = a ^ b.rotate_left(17) ^ c.rotate_left(34) ^ d.rotate_left(51);
-        (folded.wrapping_mul(SPREAD) >> 32) as u32
+        let mixed = mix(mix(mix(mix(a) ^ b) ^ c) ^ d);
+        (mixed >> 32) as u32
     }
 
     /// The byte joins the set.
@@ -174,6 +174,12 @@ impl ByteSet {
             bytes.iter().position(|byte| !self.contains(*byte))
         }
     }
+}
+
+/// A number of which each bit depends on many of the word's. Different words have different ones.
+fn mix(word: u64) -> u64 {
+    let product = word.wrapping_mul(SPREAD);
+    product ^ product >> 32
 }
 
 /// The different bytes of a list, if they are at most eight, filled up with one of them.

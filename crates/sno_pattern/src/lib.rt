@@ -18,6 +18,7 @@ mod head;
 mod kind;
 mod lanes;
 mod looks;
+mod more_runs;
 mod numbers;
 mod places;
 mod sets;

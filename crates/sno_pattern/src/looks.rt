@@ -3,7 +3,7 @@ ghost use Rattle.std.specs.Prelude.{◌≡◌, ℕ, List, ◌<◌, ◌≤◌, �
 ghost use Rattle.sno_pattern.specs.BalanceTable.{IsTableIfMade};
 ghost use Rattle.sno_pattern.specs.Ends.{ends};
 ghost use Rattle.sno_pattern.specs.inner.Kinds.{node_of};
-ghost use Rattle.sno_pattern.specs.inner.Looks.{AreBefore};
+ghost use Rattle.sno_pattern.specs.inner.Looks.{AreBefore, AreEarlier};
 ghost use Rattle.sno_pattern.specs.Looks.{IsTrueRun, AreTrue};
 ghost use Rattle.sno_pattern.specs.Pattern.{Bal};
 ghost use Rattle.sno_pattern.specs.Places.{IsFirstPlace};
@@ -14,12 +14,19 @@ ghost use Rattle.sno_pattern.specs.Table.{Node, tree};
 
 use crate::balance_table::Balance;
 use crate::kind::Kind;
+use crate::more_runs::MoreRuns;
 use sno_value::{PatId, Prim};
 use std::alloc::Global;
 use std::marker::Model;
 
-/// How many runs are remembered.
+/// How many runs are remembered in places that take no memory.
 const RUNS: usize = 32;
+
+/// Keys below this are numbers of primitives, under which their first ends are remembered.
+const FIRST_BEHIND: u32 = 1 << 31;
+
+/// An odd number of which a multiple has a bit of each factor in its upper half.
+const SPREAD: u64 = 0x9E37_79B9_7F4A_7C15;
 
 /// A run of cursors from each of which the first end of a primitive is the same.
 #[derive(Clone, Copy, Drop)]
@@ -30,15 +37,18 @@ pub(crate) struct Run {
     pub end: Option<usize>,
     /// The subject of which it is told.
     pub turn: u32,
+    /// What it is looked up by.
+    pub key: u32,
 }
 
-/// A run of no subject.
-const NO_RUN: Run = Run {
+/// A run of no subject, which has no cursor.
+pub(crate) const NO_RUN: Run = Run {
     id: PatId(0),
-    from: 0,
+    from: 1,
     until: 0,
     end: None,
     turn: 0,
+    key: 0,
 };
 
 /// What the looks through one subject have found out: the last runs that SPAN, BREAK and BREAKX looked through, and
@@ -46,6 +56,8 @@ const NO_RUN: Run = Run {
 #[derive(Drop)]
 pub struct Looks {
     runs: [Run; RUNS],
+    /// The runs whose place among these another primitive has, and those of ends behind others.
+    more: MoreRuns,
     /// The number of the subject: what was told of others counts no more.
     turn: u32,
     balance: Balance,
@@ -57,14 +69,14 @@ impl Model for Looks {
     ghost use Rattle.std.specs.Prelude.{◌≡◌, ◌+◌, ℕ, List, false};
     ghost use Rattle.sno_pattern.specs.Looks.{AreTrue, Found};
     ghost use Rattle.sno_pattern.specs.Table.{Node};
-    ghost use Rattle.sno_pattern.specs.inner.Looks.{found_of, AreBefore};
+    ghost use Rattle.sno_pattern.specs.inner.Looks.{found_of, AreBefore, AreEarlier};
 
     ghost Value = { Found };
 
-    ghost view = { λ looks. found_of looks.runs looks.turn looks.balance };
+    ghost view = { λ looks. found_of looks.runs looks.more looks.turn looks.balance };
 
-    ghost invariant = { λ looks. AreBefore (looks.turn + 1) looks.runs × (looks.used ≡ false
-        → (nodes : List Node) (s : List ℕ) → AreTrue nodes s (found_of looks.runs looks.turn looks.balance)) };
+    ghost invariant = { λ looks. AreBefore (looks.turn + 1) looks.runs × (AreEarlier (looks.turn + 1) looks.more × (looks.used ≡ false
+        → (nodes : List Node) (s : List ℕ) → AreTrue nodes s (found_of looks.runs looks.more looks.turn looks.balance))) };
 }
 
 impl Looks {
@@ -74,6 +86,7 @@ impl Looks {
     {
         Looks {
             runs: no_runs(),
+            more: MoreRuns::new(alloc),
             turn: 1,
             balance: Balance::new(alloc),
             used: false,
@@ -85,37 +98,42 @@ impl Looks {
         ensures { (nodes : List Node) (s : List ℕ) → AreTrue nodes s self.new }
     {
         if self.used {
-            self.turn = next_turn(&mut self.runs, self.turn);
+            self.turn = next_turn(&mut self.runs, &mut self.more, self.turn);
             self.balance.clear();
             self.used = false;
         }
     }
 
-    /// The run in a slot, if a cursor is in it.
-    pub(crate) fn run_at(&self, slot: usize, at: usize) -> Option<Run>
-        requires { slot < 32 }
+    /// The run under a key that has a cursor.
+    pub(crate) fn find(&self, key: u32, at: usize) -> Option<Run>
         ensures { (nodes : List Node) (s : List ℕ) → AreTrue nodes s self.now
             → IfSome result (λ run. run.end ≡ end_of (tree nodes run.id.0) s at 0) }
     {
-        let run = self.runs[slot];
-        if run.turn == self.turn && run.from <= at && at <= run.until {
-            Some(run)
-        } else {
-            None
+        let run = &self.runs[place_of(key)];
+        if run.turn == self.turn && run.key == key && run.from <= at && at <= run.until {
+            return Some(*run);
         }
+        let found = self.more.find(key, self.turn, at);
+        found
     }
 
-    /// Puts a run into a slot, in the place of the one before.
-    pub(crate) fn remember(&mut self, slot: usize, run: Run)
-        requires { slot < 32 }
+    /// Remembers a run under its key. That of a first end has a place of its own, unless another primitive has that.
+    pub(crate) fn remember(&mut self, run: Run)
         ensures { (nodes : List Node) (s : List ℕ) → AreTrue nodes s self.old → IsTrueRun nodes s run
             → AreTrue nodes s self.new }
     {
-        self.runs[slot] = Run {
+        let told = Run {
             turn: self.turn,
             ..run
         };
         self.used = true;
+        let place = place_of(run.key);
+        let before = self.runs[place];
+        if run.key < FIRST_BEHIND && (before.turn != self.turn || before.key == run.key) {
+            self.runs[place] = told;
+        } else {
+            self.more.remember(told);
+        }
     }
 
     /// BAL's first end from a cursor.
@@ -158,32 +176,43 @@ fn no_runs() -> [Run; RUNS]
     runs
 }
 
-/// The number of the next subject, of which no run is told. When all numbers were given the runs are cleared.
-fn next_turn(runs: &mut [Run; RUNS], turn: u32) -> u32
-    requires { AreBefore (turn + 1) runs.old }
-    ensures { AreBefore result runs.new }
+/// The number of the next subject, of which no run is told.
+fn next_turn(runs: &mut [Run; RUNS], more: &mut MoreRuns, turn: u32) -> u32
+    requires runs { AreBefore (turn + 1) runs.old }
+    requires more { AreEarlier (turn + 1) more.old }
+    ensures runs { AreBefore result runs.new }
+    ensures more { AreEarlier result more.new }
 {
     match turn.checked_add(1) {
         Some(next) => next,
         None => {
-            *runs = no_runs();
+            forget_all(runs, more);
             1
         }
     }
 }
 
-/// The slot for the first end of a primitive with this number.
-pub(crate) fn slot_of_first(number: u32) -> usize
-    ensures { result < 32 }
+/// Clears the runs when all numbers of subjects were given.
+#[inline(never)]
+fn forget_all(runs: &mut [Run; RUNS], more: &mut MoreRuns)
+    ensures runs { AreBefore 1 runs.new }
+    ensures more { AreEarlier 1 more.new }
 {
-    number as usize % RUNS
+    *runs = no_runs();
+    more.clear();
 }
 
-/// The slot for the end behind another, which is never that for the first end of the same primitive.
-pub(crate) fn slot_behind(number: u32, last: usize) -> usize
+/// The place in which the first end under a key stands.
+fn place_of(key: u32) -> usize
     ensures { result < 32 }
 {
-    (number as usize % RUNS + 1 + last % (RUNS - 1)) % RUNS
+    key as usize % RUNS
+}
+
+/// The key for the end behind another, which is never that for a first end. It is another for few others.
+pub(crate) fn key_behind(number: u32, last: usize) -> u32 {
+    let both = (last as u64).wrapping_mul(SPREAD) ^ u64::from(number);
+    (both.wrapping_mul(SPREAD) >> 32) as u32 | FIRST_BEHIND
 }
 
 /// Whether the first end of a primitive may be so far that it is worth remembering.

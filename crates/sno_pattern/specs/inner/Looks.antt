@@ -5,13 +5,22 @@ use Rattle.sno_value.specs.declared.kind.PrimitiveKind.TheVariants.{BreakX}
 use Rattle.sno_pattern.specs.Pattern.{Pattern, Bal, Leaf, Among}
 use Rattle.sno_pattern.specs.Looks.{Found}
 
-abbrev pub found_of : List Run → ℕ → List ℕ → Found
-found_of runs turn first_ends = record { runs = runs; turn = turn; first_ends = first_ends }
+abbrev pub found_of : List Run → List Run → ℕ → List ℕ → Found
+found_of runs more turn first_ends = record { runs = runs; more = more; turn = turn; first_ends = first_ends }
 
--- the 32 runs are told of subjects before this one
+-- the runs are told of subjects before this one
+pub record AreEarlier (turn : ℕ) (runs : List Run) : Type 0 where
+  pub each : (place : ℕ) (other : Run) → place < length runs → (get_or runs place other).turn < turn
+
+-- there are 32 runs, which are told of subjects before this one
 pub record AreBefore (turn : ℕ) (runs : List Run) : Type 0 where
   pub places : length runs ≡ 32
-  pub each : (slot : ℕ) (other : Run) → slot < 32 → (get_or runs slot other).turn < turn
+  pub earlier : AreEarlier turn runs
+
+-- the runs have no cursor and are told of no subject
+pub record HaveNoCursor (runs : List Run) : Type 0 where
+  pub each : (place : ℕ) (other : Run) → place < length runs → (get_or runs place other).until < (get_or runs place other).from
+  pub turn : (place : ℕ) (other : Run) → place < length runs → (get_or runs place other).turn ≡ 0
 
 -- a pattern that is BREAKX
 abbrev pub StopsOften : Pattern → Type 0

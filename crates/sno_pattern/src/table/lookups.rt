@@ -14,7 +14,7 @@ use crate::ends::{end_behind_of_kind, end_of_kind, has_one_end};
 use crate::first_bytes::{Beginning, add_first_bytes_of_kind, kind_fails_at};
 use crate::head::{Head, behind_in_arb, head_of_kind};
 use crate::kind::{Kind, is_same_search, shape_of_kind};
-use crate::looks::{Looks, Run, is_far, is_near, last_with_end, slot_behind, slot_of_first};
+use crate::looks::{Looks, Run, is_far, is_near, key_behind, last_with_end};
 use crate::places::first_place_of_kind;
 use crate::shape::Shape;
 use crate::table::Patterns;
@@ -168,8 +168,8 @@ impl Patterns {
             let end = self.end_at(id, subject, at, 0);
             return end;
         }
-        let slot = slot_of_first(self.entries[id.0 as usize].number);
-        let end = self.look_by(looks, slot, id, subject, at);
+        let key = self.entries[id.0 as usize].number;
+        let end = self.look_by(looks, key, id, subject, at);
         end
     }
 
@@ -198,8 +198,8 @@ impl Patterns {
             return end;
         }
         if last < subject.len() && self.stops_often(id) {
-            let slot = slot_behind(self.entries[id.0 as usize].number, last);
-            let end = self.look_by(looks, slot, id, subject, last + 1);
+            let key = key_behind(self.entries[id.0 as usize].number, last);
+            let end = self.look_by(looks, key, id, subject, last + 1);
             return end;
         }
         let end = self.end_behind(id, subject, at, last);
@@ -257,14 +257,13 @@ impl Patterns {
         matches!(&self.entries[id.0 as usize].kind, Kind::Bal)
     }
 
-    /// The first end of a primitive from a cursor, if the run in this slot tells it: that of this node or of an equal one.
-    fn recall(&self, looks: &Looks, slot: usize, id: PatId, at: usize) -> Option<Option<usize>>
-        requires slot { slot < 32 }
+    /// The first end of a primitive from a cursor, if a run under this key tells it: that of this node or of an equal one.
+    fn recall(&self, looks: &Looks, key: u32, id: PatId, at: usize) -> Option<Option<usize>>
         requires id { id.0 < length self.now }
         ensures { (s : List ℕ) → AreTrue self.now s looks.now
             → IfSome result (λ end. end ≡ end_of (tree self.now id.0) s at 0) }
     {
-        let run = looks.run_at(slot, at)?;
+        let run = looks.find(key, at)?;
         if run.id.0 == id.0 || self.searches_same(run.id, id) {
             Some(run.end)
         } else {
@@ -284,16 +283,15 @@ impl Patterns {
         is_same_search(kind, &self.entries[other.0 as usize].kind)
     }
 
-    /// The first end of a primitive. A run that is looked through is remembered in the slot.
+    /// The first end of a primitive. A run that is looked through is remembered under the key.
     fn look_by(
         &self,
         looks: &mut Looks,
-        slot: usize,
+        key: u32,
         id: PatId,
         subject: &[u8],
         at: usize,
     ) -> Option<usize>
-        requires slot { slot < 32 }
         requires id { id.0 < length self.now }
         requires primitive { IsPrimitive (tree self.now id.0) }
         requires at { at ≤ length subject.now }
@@ -312,22 +310,20 @@ impl Patterns {
             let end = self.end_at(id, subject, at, 0);
             return end;
         }
-        if let Some(end) = self.recall(looks, slot, id, at) {
+        if let Some(end) = self.recall(looks, key, id, at) {
             return end;
         }
         let end = self.end_at(id, subject, at, 0);
         let until = last_with_end(kind, subject, at, end);
         if at + WORTH_KEEPING <= until {
-            looks.remember(
-                slot,
-                Run {
-                    id,
-                    from: at,
-                    until,
-                    end,
-                    turn: 0,
-                },
-            );
+            looks.remember(Run {
+                id,
+                from: at,
+                until,
+                end,
+                turn: 0,
+                key,
+            });
         }
         end
     }

@@ -62,12 +62,27 @@ AAAAAAAAAABBAA: SPAN:A *:0 &:0,1 TEXT:B &:2,3
 AABAAB: SPAN:A *:0 |:0,1 TEXT:B &:2,3
 ";
 
-/// A ninth primitive takes the slot of the first.
+/// Nine primitives and more, which stand apart.
 const PUSHED_OUT: &str = r"
 ABCDEFGHI: SPAN:A SPAN:B SPAN:C SPAN:D SPAN:E SPAN:F SPAN:G SPAN:H SPAN:I &:0,1 &:9,2 &:10,3 &:11,4 &:12,5 &:13,6 &:14,7 &:15,8
 ABBCDEFGHI: SPAN:A SPAN:B SPAN:C SPAN:D SPAN:E SPAN:F SPAN:G SPAN:H SPAN:I &:0,1 &:9,2 &:10,3 &:11,4 &:12,5 &:13,6 &:14,7 &:15,8
 AAAAAAAAAABBBBBBBBBBAABB: SPAN:A TEXT: TEXT: TEXT: TEXT: TEXT: TEXT: TEXT: SPAN:B |:0,8 ARBNO:9 TEXT:C &:10,11
 AAAAAAAAAA,BBBBBBBBBB;A,B;: BREAKX:, TEXT: TEXT: TEXT: TEXT: TEXT: TEXT: TEXT: BREAKX:; &:0,8 TEXT:C &:9,10
+";
+
+/// 36 different sets, for which there are not enough places in the match itself, on runs that are long enough for the
+/// places behind these.
+const MANY_SETS: &str = r"
+AAAAAAAAAAAAAAAAAAAAAAAAAAAAAAAAAAAAAAAAAAAAAAAAAAAAAAAAAAAAAAAAAAAA,: SPAN:AB SPAN:AC SPAN:AD SPAN:AE SPAN:AF SPAN:AG SPAN:AH SPAN:AI SPAN:AJ SPAN:AK SPAN:AL SPAN:AM SPAN:AN SPAN:AO SPAN:AP SPAN:AQ SPAN:AR SPAN:AS SPAN:AT SPAN:AU SPAN:AV SPAN:AW SPAN:AX SPAN:AY SPAN:AZ SPAN:Ab SPAN:Ac SPAN:Ad SPAN:Ae SPAN:Af SPAN:Ag SPAN:Ah SPAN:Ai SPAN:Aj SPAN:Ak SPAN:Al |:34,35 |:33,36 |:32,37 |:31,38 |:30,39 |:29,40 |:28,41 |:27,42 |:26,43 |:25,44 |:24,45 |:23,46 |:22,47 |:21,48 |:20,49 |:19,50 |:18,51 |:17,52 |:16,53 |:15,54 |:14,55 |:13,56 |:12,57 |:11,58 |:10,59 |:9,60 |:8,61 |:7,62 |:6,63 |:5,64 |:4,65 |:3,66 |:2,67 |:1,68 |:0,69 TEXT:! &:70,71
+AAAAAAAAAAAAAAAAAAAAAAAAAAAAAAAAAAAAAAAAAAAAAAAAAAAAAAAAAAAAAAAAAAAA,: BREAK:B BREAK:C BREAK:D BREAK:E BREAK:F BREAK:G BREAK:H BREAK:I BREAK:J BREAK:K BREAK:L BREAK:M BREAK:N BREAK:O BREAK:P BREAK:Q BREAK:R BREAK:S BREAK:T BREAK:U BREAK:V BREAK:W BREAK:X BREAK:Y BREAK:Z BREAK:b BREAK:c BREAK:d BREAK:e BREAK:f BREAK:g BREAK:h BREAK:i BREAK:j BREAK:k BREAK:, |:34,35 |:33,36 |:32,37 |:31,38 |:30,39 |:29,40 |:28,41 |:27,42 |:26,43 |:25,44 |:24,45 |:23,46 |:22,47 |:21,48 |:20,49 |:19,50 |:18,51 |:17,52 |:16,53 |:15,54 |:14,55 |:13,56 |:12,57 |:11,58 |:10,59 |:9,60 |:8,61 |:7,62 |:6,63 |:5,64 |:4,65 |:3,66 |:2,67 |:1,68 |:0,69 TEXT:! &:70,71
+AAAAAAAAAAAAAAAAAAAAAAAAAAAAAAAAAAAAAAAAAAAAAAAAAAAAAAAAAAAAAAAAABAAAAAAAAAAAAAAAAAAAAAAAAAAAAAAAAAAAAAAAAAAAAAAAAAAAAAAAAAAAAAAAAAn,: BREAKX:B BREAKX:C BREAKX:D BREAKX:E BREAKX:F BREAKX:G BREAKX:H BREAKX:I BREAKX:J BREAKX:K BREAKX:L BREAKX:M BREAKX:N BREAKX:O BREAKX:P BREAKX:Q BREAKX:R BREAKX:S BREAKX:T BREAKX:U BREAKX:V BREAKX:W BREAKX:X BREAKX:Y BREAKX:Z BREAKX:b BREAKX:c BREAKX:d BREAKX:e BREAKX:f BREAKX:g BREAKX:h BREAKX:i BREAKX:n BREAKX:B BREAKX:A |:34,35 |:33,36 |:32,37 |:31,38 |:30,39 |:29,40 |:28,41 |:27,42 |:26,43 |:25,44 |:24,45 |:23,46 |:22,47 |:21,48 |:20,49 |:19,50 |:18,51 |:17,52 |:16,53 |:15,54 |:14,55 |:13,56 |:12,57 |:11,58 |:10,59 |:9,60 |:8,61 |:7,62 |:6,63 |:5,64 |:4,65 |:3,66 |:2,67 |:1,68 |:0,69 TEXT:! &:70,71
+";
+
+/// Stops so far apart that the ends behind them are remembered.
+const FAR_STOPS: &str = r"
+AAAAAAAAAAAAAAAAAAAAAAAAAAAAAAAAAAAAAAAAAAAAAAAAAAAAAAAAAAAAAAAAAABAAAAAAAAAAAAAAAAAAAAAAAAAAAAAAAAAAAAAAAAAAAAAAAAAAAAAAAAAAAAAAAAAABAAA: BREAKX:B TEXT:C &:0,1
+AAAAAAAAAAAAAAAAAAAAAAAAAAAAAAAAAAAAAAAAAAAAAAAAAAAAAAAAAAAAAAAAAABAAAAAAAAAAAAAAAAAAAAAAAAAAAAAAAAAAAAAAAAAAAAAAAAAAAAAAAAAAAAAAAAAABAAAAAAAAAAAAAAAAAAAAAAAAAAAAAAAAAAAAAAAAAAAAAAAAAAAAAAAAAAAAAAAAAAAAAA: BREAKX:B SPAN:A TEXT:C |:0,1 &:3,2
+AAAAAAAAAAAAAAAAAAAAAAAAAAAAAAAAAAAAAAAAAAAAAAAAAAAAAAAAAAAAAAAAAABAAAAAAAAAAAAAAAAAAAAAAAAAAAAAAAAAAAAAAAAAAAAAAAAAAAAAAAAAAAAAAAAAACAAAAAAAAAAAAAAAAAAAAAAAAAAAAAAAAAAAAAAAAAAAAAAAAAAAAAAAAAAAAAAAAAA: BREAKX:B BREAKX:C BREAKX:BC |:0,1 |:3,2 TEXT:D &:4,5
 ";
 
 /// BAL at the heads of patterns, behind other parts and backed into, so that it is looked for more often than the
@@ -97,6 +112,19 @@ fn compare_all(rt: &impl Abort, alloc: Global, block: &'static str) -> Result<()
     Ok(())
 }
 
+/// The same with a few limits, for patterns that take many steps.
+fn compare_some(rt: &impl Abort, alloc: Global, block: &'static str) -> Result<(), Fail> {
+    for row in block.lines() {
+        if !row.is_empty() {
+            for limit in [75, 150, 400] {
+                compare(rt, alloc, row, false, limit)?;
+                compare(rt, alloc, row, true, limit)?;
+            }
+        }
+    }
+    Ok(())
+}
+
 #[test]
 fn remembered_looks_change_no_event(rt: HostRuntime) -> Result<(), Fail> {
     compare_all(&rt, rt.alloc(), RUNS)
@@ -110,6 +138,16 @@ fn balanced_parts_change_no_event(rt: HostRuntime) -> Result<(), Fail> {
 #[test]
 fn runs_are_pushed_out(rt: HostRuntime) -> Result<(), Fail> {
     compare_all(&rt, rt.alloc(), PUSHED_OUT)
+}
+
+#[test]
+fn more_sets_than_places_change_no_event(rt: HostRuntime) -> Result<(), Fail> {
+    compare_some(&rt, rt.alloc(), MANY_SETS)
+}
+
+#[test]
+fn far_stops_change_no_event(rt: HostRuntime) -> Result<(), Fail> {
+    compare_some(&rt, rt.alloc(), FAR_STOPS)
 }
 
 /// How many bytes a long run has. If each start looked through it again, a thousand million bytes would be looked at.

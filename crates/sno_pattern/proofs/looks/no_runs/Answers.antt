@@ -6,7 +6,9 @@ use Rattle.sno_pattern.proofs.looks.no_runs.Goals as goal
 pub returns : goal.returns
 returns c = record {
   places = refl;
-  each = λ slot other h.
-      let none : Run = record { id = record { 0 = 0 }; from = 0; until = 0; end = None; turn = 0 } in
-      subst (λ (run : Run). run.turn < 1) (sym (get_or-replicate 32 slot none other h)) (omega arith);
+  earlier = record {
+    each = λ place other h.
+        let none : Run = record { id = record { 0 = 0 }; from = 1; until = 0; end = None; turn = 0; key = 0 } in
+        subst (λ (run : Run). run.turn < 1) (sym (get_or-replicate 32 place none other h)) (omega arith);
+  };
 }
