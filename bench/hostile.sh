@@ -37,6 +37,17 @@ alternatives() {
     printf '(%s)' "$choice"
 }
 
+# time_sets COUNT PRIMITIVE BYTES: so many alternatives of the primitive, each with another set, of these and two bytes more
+time_sets() {
+    local i first=BCDEFGHIJKLMNOPQ second=abcdefghijklmnop
+    printf ' S = %s\n P = FAIL\n' "$same" >"$work/program"
+    for ((i = 0; i < $1; i++)); do
+        printf " P = %s('%s') '!' | P\n" "$2" "$3${first:i/16:1}${second:i%16:1}" >>"$work/program"
+    done
+    printf ' S P :S(YES)F(NO)\nYES OUTPUT = "found" :(END)\nNO OUTPUT = "none"\nEND\n' >>"$work/program"
+    run_row "$same" "$1 alternatives of $2, each with another set"
+}
+
 same="DUPL('A',1000000)" mixed="DUPL('AB',500000)" open="DUPL('(',1000000)"
 nested="DUPL('(',500000) DUPL(')',500000)" unclosed="DUPL('(A',500000)"
 time_row "$same" "BREAK(',')"
@@ -75,6 +86,14 @@ for count in 4 8 9 16; do
     time_row "$same" "$(alternatives $count "SPAN('A')")"
     time_row "$same" "$(alternatives $count "BREAK(',')")"
 done
+for count in 33 64 200; do
+    time_sets $count SPAN A
+    time_sets $count BREAK ""
+    time_sets $count BREAKX ""
+    time_sets $count "*SPAN" A
+done
+time_row "DUPL('A',389990) 'B' DUPL('A',309999) 'B' DUPL('A',299999)" "BREAKX('B') 'C'"
+time_row "DUPL(DUPL('A',9990) 'B',100)" "BREAKX('B') 'C'"
 time_row "$same" "*SPAN('A') 'B'"
 time_row "$same" "SPAN(*T) 'B'"
 time_row "$same" "REM \$ X 'B'"

@@ -1,6 +1,6 @@
 -- The entries of a table, and when two keys are one.
 use Rattle.std.proofs.Common.{◌≡◌, ◌==◌, ℕ, ◌*◌, Bool, true, false, ◌&&◌, List, [], ◌∷◌, length, refl, sym, ap, ◌∙◌, arith}
-use Rattle.std.proofs.Common.{zero, suc, ◌≤◌, ◌<◌, ◌++◌, map, None, Some, slice_index_or, slice_set, subst}
+use Rattle.std.proofs.Common.{zero, suc, ◌≤◌, ◌<◌, ◌⊎◌, ◌++◌, map, None, Some, slice_index_or, slice_set, subst}
 use Rattle.std.specs.Cmp.Lexicographic.{bytes_decides}
 use Rattle.std.proofs.lemmas.Bool.{eq-eqb, eqb-true}
 use Rattle.std.proofs.lemmas.Bool.Decides.{Decides-int_eq}
@@ -15,8 +15,11 @@ use Rattle.sno_store.specs.Objects.{with_value_at}
 use Rattle.sno_store.specs.Stored.{is_key, same_key, stored_notions}
 use Rattle.sno_store.specs.Tables.{entry_place, rows}
 use Rattle.sno_store.specs.inner.Hashes.{key_hash}
-use Rattle.sno_store.specs.inner.Indexed.{AreDistinct, IsAnswer, IsAt, keys_of}
-use Rattle.sno_store.proofs.IndexLaws.{distinct_with, hashes_with, nowhere_at, position_none, position_of}
+use Rattle.sno_store.specs.declared.doubles.KeyDoubles.{KeyDoubles}
+use Rattle.sno_store.specs.inner.Doubles.{key_place, Stay}
+use Rattle.sno_store.specs.inner.Indexed.{AreDistinct, AreFound, IsAnswer, IsAt, keys_of}
+use Rattle.sno_store.specs.inner.Paths.{IsOn, Keeps}
+use Rattle.sno_store.proofs.IndexLaws.{distinct_with, found_with, hashes_with, nowhere_at, position_none, position_of, still_found}
 
 -- `==` of values, for a key
 pub is_same : (key value : Value) → is_key key ≡ true → ghosts.eq key value ≡ same_key key value
@@ -147,28 +150,50 @@ pub placed : (entries : List (Value × Value)) (k : ℕ) (value : Value) (own : 
     → slice_set entries k (own.0, value) ≡ with_value_at k value entries
 placed entries k value own is = ap (λ (e : Value × Value). slice_set entries k (e.0, value)) is ∙ set_is entries k value own
 
--- what stands of entries and of the hashes of their keys
-abbrev pub Stands : List (Value × Value) → List ℕ → Type 0
-Stands entries hashes =
+-- what stands of entries, of the hashes of their keys, of the slots of the paths to them and of the doubles
+abbrev pub Stands : List (Value × Value) → List ℕ → List ℕ → KeyDoubles → Type 0
+Stands entries hashes slots doubles =
     (length entries ≤ 1_000_000) × (hashes ≡ map key_hash (keys_of entries)) × AreDistinct (keys_of entries)
+    × AreFound (key_place doubles) key_hash slots (keys_of entries)
 
-pub stands_set : (entries : List (Value × Value)) (hashes : List ℕ) (k : ℕ) (value : Value) (own : Value × Value)
-    → own ≡ slice_index_or entries k own → Stands entries hashes → Stands (slice_set entries k (own.0, value)) hashes
-stands_set entries hashes k value own is stands =
-    (subst (λ n. n ≤ 1_000_000) (sym long) stands.0, stands.1 ∙ ap (map key_hash) (sym keys), subst AreDistinct (sym keys) stands.2) where
-      keys : keys_of (slice_set entries k (own.0, value)) ≡ keys_of entries
-      keys = ap keys_of (placed entries k value own is) ∙ keys_stay entries k value
+pub stands_set : (entries : List (Value × Value)) (hashes slots : List ℕ) (doubles : KeyDoubles) (k : ℕ) (value : Value) (own : Value × Value)
+    → own ≡ slice_index_or entries k own → Stands entries hashes slots doubles
+    → Stands (slice_set entries k (own.0, value)) hashes slots doubles
+stands_set entries hashes slots doubles k value own is stands = (
+  subst (λ n. n ≤ 1_000_000) (sym long) stands.0,
+  stands.1 ∙ ap (map key_hash) (sym keys),
+  subst AreDistinct (sym keys) stands.2,
+  subst (AreFound (key_place doubles) key_hash slots) (sym keys) stands.3,
+) where
+  keys : keys_of (slice_set entries k (own.0, value)) ≡ keys_of entries
+  keys = ap keys_of (placed entries k value own is) ∙ keys_stay entries k value
 
-      long : length (slice_set entries k (own.0, value)) ≡ length entries
-      long = sym (length-map (slice_set entries k (own.0, value)) (λ entry. entry.0)) ∙ ap length keys ∙ length-map entries (λ entry. entry.0)
+  long : length (slice_set entries k (own.0, value)) ≡ length entries
+  long = sym (length-map (slice_set entries k (own.0, value)) (λ entry. entry.0)) ∙ ap length keys ∙ length-map entries (λ entry. entry.0)
 
-pub stands_with : (entries : List (Value × Value)) (hashes : List ℕ) (key value : Value) → is_key key ≡ true
-    → entry_place stored_notions key entries ≡ None → length entries < 1_000_000 → Stands entries hashes
-    → Stands (entries ++ (key, value) ∷ []) (hashes ++ key_hash key ∷ [])
-stands_with entries hashes key value h none room stands = (
+-- the same where a path was made for a key that has no entry, and where it was given a place
+pub stands_still : (entries : List (Value × Value)) (hashes slots new : List ℕ) (doubles given : KeyDoubles) (key : Value)
+    → is_key key ≡ true → entry_place stored_notions key entries ≡ None → Keeps hashes slots new
+    → Stay key (key_place doubles) (key_place given) → Stands entries hashes slots doubles → Stands entries hashes new given
+stands_still entries hashes slots new doubles given key h none keeps stay stands = (
+  stands.0,
+  stands.1,
+  stands.2,
+  still_found (key_place doubles) (key_place given) key_hash slots new (keys_of entries) key hashes stands.1 keeps stay
+      (nowhere key entries h none) stands.3,
+)
+
+pub stands_with : (entries : List (Value × Value)) (hashes slots : List ℕ) (doubles : KeyDoubles) (key value : Value) → is_key key ≡ true
+    → entry_place stored_notions key entries ≡ None → length entries < 1_000_000 → Stands entries hashes slots doubles
+    → IsOn slots (key_hash key) (length entries) ⊎ (key_place doubles key ≡ Some (length entries))
+    → Stands (entries ++ (key, value) ∷ []) (hashes ++ key_hash key ∷ []) slots doubles
+stands_with entries hashes slots doubles key value h none room stands last = (
   omega (arith, room, length-append entries ((key, value) ∷ [])),
   hashes_with key_hash (keys_of entries) key hashes _ stands.1 refl ∙ ap (map key_hash) (sym keys),
   subst AreDistinct (sym keys) (distinct_with _ (keys_of entries) key stands.2 (nowhere key entries h none)),
+  subst (AreFound (key_place doubles) key_hash slots) (sym keys)
+      (found_with (key_place doubles) key_hash slots (keys_of entries) key stands.3
+      (subst (λ n. IsOn slots (key_hash key) n ⊎ (key_place doubles key ≡ Some n)) (sym (length-map entries (λ entry. entry.0))) last)),
 ) where
   keys : keys_of (entries ++ (key, value) ∷ []) ≡ keys_of entries ++ key ∷ []
   keys = map-append (λ entry. entry.0) entries ((key, value) ∷ [])

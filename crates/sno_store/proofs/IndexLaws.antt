@@ -7,8 +7,9 @@ use Rattle.std.proofs.lemmas.Bool.{cases_lt, lt-ltb, le-ltb}
 use Rattle.std.proofs.Math.Nat.{min-le_left, min-le_right}
 use Rattle.std.proofs.lemmas.List.{get_or_append_left, get_or_default, get_or-map, get_or-take, length-append, length-map, length-take, map-append, take-map}
 use Rattle.std.proofs.lemmas.List.Sums.{position_or_len_is}
-use Rattle.sno_store.specs.inner.Paths.{IsAmong}
-use Rattle.sno_store.specs.inner.Indexed.{IsFound, AreDistinct, IsAt, IsNoDouble}
+use Rattle.sno_store.specs.inner.Doubles.{Stay}
+use Rattle.sno_store.specs.inner.Paths.{at, end_of, IsFoundIn, IsOn, Keeps}
+use Rattle.sno_store.specs.inner.Indexed.{AreDistinct, AreFound, IsAt, IsNoDouble}
 
 -- a test is true or false
 pub cases_bool : (b : Bool) → (b ≡ true) ⊎ (b ≡ false)
@@ -60,17 +61,13 @@ module _ {K : Type 0} (test : K → Bool) (key : K) (tells : (k : K) → test k 
       sym (ap (λ b. cond b (Some (position_or_len test keys)) None) in_it) ∙ none in
       cc
 
--- a key that the index doesn't find has no place
-pub missed : {K : Type 0} (hash_of : K → ℕ) (keys : List K) (hashes doubles : List ℕ) (key : K) (found : Option ℕ)
-    → hashes ≡ map hash_of keys → IsFound hashes doubles (hash_of key) found → ((i : ℕ) → found ≡ Some i → IsAt keys i key → ⊥)
-    → IsNoDouble keys doubles key → (i : ℕ) → IsAt keys i key → ⊥
-missed hash_of keys hashes doubles key found are told other single i at =
-    ⊎_elim (λ is. other i is at) (λ among. single.each i among at) (told.each i within same) where
-      within : i < length hashes
-      within = subst (λ hs. i < length hs) (sym are) (subst (λ n. i < n) (sym (length-map keys hash_of)) at.within)
-
-      same : slice_index_or hashes i 0 ≡ hash_of key
-      same = ap (λ hs. slice_index_or hs i 0) are ∙ get_or-map hash_of keys i key 0 at.within ∙ ap hash_of (at.here key)
+-- a key that is neither found by its hash nor among the doubles has no place
+pub missed : {K : Type 0} (given : K → Option ℕ) (hash_of : K → ℕ) (slots : List ℕ) (keys : List K) (key : K) (found : Option ℕ)
+    → length keys ≤ 1_000_000 → AreFound given hash_of slots keys
+    → IsFoundIn found (at slots (end_of slots (hash_of key)).slot) → ((i : ℕ) → found ≡ Some i → IsAt keys i key → ⊥)
+    → IsNoDouble given keys key → (i : ℕ) → IsAt keys i key → ⊥
+missed given hash_of slots keys key found few all told other single i place =
+    ⊎_elim (λ on. other i (told.each i on (omega (arith, place.within, few))) place) (λ is. single.each i is place) (all.each i key place)
 
 -- a key that isn't where it was found has no place that was found
 pub elsewhere : {K : Type 0} (keys : List K) (key : K) (found : Option ℕ) (place : ℕ) → found ≡ Some place → (IsAt keys place key → ⊥)
@@ -115,20 +112,64 @@ distinct_with K keys key distinct new = record { each = λ i j d below within sa
         ∙ ap (λ k. slice_index_or (keys ++ key ∷ []) k d) end ∙ get_or-append_seam keys key [] d in
         new i (record { within = inside; here = λ e. get_or_default keys i e d inside ∙ equal })
 
--- a number in a list is in a longer one
-pub among_more : (numbers : List ℕ) (last number : ℕ) → IsAmong numbers number → IsAmong (numbers ++ last ∷ []) number
-among_more numbers last number among = record {
-  place = among.place;
-  within = omega (arith, among.within, length-append numbers (last ∷ []));
-  here = get_or_append_left numbers (last ∷ []) 0 among.place among.within ∙ among.here;
+-- where the slots keep all and no place of a key that is there changes, each key is found as before
+pub still_found : {K : Type 0} (given now : K → Option ℕ) (hash_of : K → ℕ) (slots new : List ℕ) (keys : List K) (key : K) (hashes : List ℕ)
+    → hashes ≡ map hash_of keys → Keeps hashes slots new → Stay key given now → ((i : ℕ) → IsAt keys i key → ⊥)
+    → AreFound given hash_of slots keys → AreFound now hash_of new keys
+still_found {K = K} given now hash_of slots new keys key hashes are keeps stay absent all = record { each = each } where
+  each : (i : ℕ) (k : K) → IsAt keys i k → IsOn new (hash_of k) i ⊎ (now k ≡ Some i)
+  each i k place = ⊎_elim (λ on. inl (by_path on)) (λ is. inr (stay.each k other ∙ is)) (all.each i k place) where
+    within : i < length hashes
+    within = subst (λ hs. i < length hs) (sym are) (subst (λ n. i < n) (sym (length-map keys hash_of)) place.within)
+
+    same : slice_index_or hashes i 0 ≡ hash_of k
+    same = ap (λ hs. slice_index_or hs i 0) are ∙ get_or-map hash_of keys i k 0 place.within ∙ ap hash_of (place.here k)
+
+    by_path : IsOn slots (hash_of k) i → IsOn new (hash_of k) i
+    by_path on = subst (λ h. IsOn new h i) same (keeps.each i within (subst (λ h. IsOn slots h i) (sym same) on))
+
+    other : k ≡ key → ⊥
+    other e = absent i (subst (λ k. IsAt keys i k) e place)
+
+-- nothing changes where no place does
+pub stays : {K : Type 0} (key : K) (given : K → Option ℕ) → Stay key given given
+stays key given = record { each = λ k other. refl }
+
+-- a key joins that has a path, or was given its place
+pub found_with : {K : Type 0} (given : K → Option ℕ) (hash_of : K → ℕ) (slots : List ℕ) (keys : List K) (key : K)
+    → AreFound given hash_of slots keys → IsOn slots (hash_of key) (length keys) ⊎ (given key ≡ Some (length keys))
+    → AreFound given hash_of slots (keys ++ key ∷ [])
+found_with {K = K} given hash_of slots keys key all last = record { each = each } where
+  each : (i : ℕ) (k : K) → IsAt (keys ++ key ∷ []) i k → IsOn slots (hash_of k) i ⊎ (given k ≡ Some i)
+  each i k place = ⊎_elim before behind (cases_lt i (length keys)) where
+    before : i < length keys → IsOn slots (hash_of k) i ⊎ (given k ≡ Some i)
+    before h = all.each i k (record { within = h; here = λ d. sym (get_or_append_left keys (key ∷ []) d i h) ∙ place.here d })
+
+    behind : length keys ≤ i → IsOn slots (hash_of k) i ⊎ (given k ≡ Some i)
+    behind h =
+        let end : length keys ≡ i = omega (arith, h, place.within, length-append keys (key ∷ [])) in
+        let own : key ≡ k = sym (get_or-append_seam keys key [] k) ∙ ap (λ n. slice_index_or (keys ++ key ∷ []) n k) end ∙ place.here k in
+        subst (λ n. IsOn slots (hash_of k) n ⊎ (given k ≡ Some n)) end
+        (subst (λ x. IsOn slots (hash_of x) (length keys) ⊎ (given x ≡ Some (length keys))) own last)
+
+-- the first keys are found
+pub found_cut : {K : Type 0} (given : K → Option ℕ) (hash_of : K → ℕ) (slots : List ℕ) (count : ℕ) (keys : List K)
+    → AreFound given hash_of slots keys → AreFound given hash_of slots (take count keys)
+found_cut given hash_of slots count keys all = record {
+  each = λ i k place.
+      let short = length-take count keys in
+      let kept = min-le_left count (length keys) in
+      let known = min-le_right count (length keys) in
+      let low : i < count = omega (arith, place.within, short, kept) in
+      all.each i k (record {
+        within = omega (arith, place.within, short, known);
+        here = λ d. sym (get_or-take count keys i d low) ∙ place.here d;
+      });
 }
 
-pub among_last : (numbers : List ℕ) (last : ℕ) → IsAmong (numbers ++ last ∷ []) last
-among_last numbers last = record {
-  place = length numbers;
-  within = omega (arith, length-append numbers (last ∷ []));
-  here = get_or-append_seam numbers last [] 0;
-}
+-- no key is found where none is
+pub found_none : {K : Type 0} (given : K → Option ℕ) (hash_of : K → ℕ) (slots : List ℕ) → AreFound {K = K} given hash_of slots []
+found_none given hash_of slots = record { each = λ i k place. absurd (omega (arith, place.within)) }
 
 -- hashes stay those of the keys where one joins, and where the last ones go
 pub hashes_with : {K : Type 0} (hash_of : K → ℕ) (keys : List K) (key : K) (hashes new : List ℕ) → hashes ≡ map hash_of keys

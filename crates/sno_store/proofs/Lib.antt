@@ -1,6 +1,7 @@
 pub mod CallLaws
 pub mod CountLaws
 pub mod DefineLaws
+pub mod DoubleLaws
 pub mod EntryLaws
 pub mod FunctionLaws
 pub mod IndexLaws

@@ -1,16 +1,12 @@
 -- Where the paths of hashes end, when a slot changes at which others end, or a node joins.
-use Rattle.std.proofs.Common.{◌≡◌, ℕ, zero, suc, ◌+◌, ◌-◌, ◌/◌, ◌%◌, ◌<◌, ◌≤◌, ⊎_elim, inl, inr, Bool}
-use Rattle.std.proofs.Common.{List, [], ◌∷◌, ◌++◌, length, slice_index_or, slice_set, refl, sym, subst, ap, ◌∙◌, arith, if◌then◌else◌}
+use Rattle.std.proofs.Common.{◌≡◌, ℕ, zero, suc, ◌+◌, ◌-◌, ◌/◌, ◌%◌, ◌<◌, ◌≤◌, ⊎_elim, Bool}
+use Rattle.std.proofs.Common.{List, [], ◌++◌, length, slice_index_or, slice_set, refl, sym, subst, ap, ◌∙◌, arith, if◌then◌else◌}
 use Rattle.std.proofs.lemmas.Bool.{cases_lt, le-leb, lt-leb}
 use Rattle.std.proofs.lemmas.List.{get_or_past, get_or-set_other}
-use Rattle.std.proofs.Common.{Option, replicate, take}
+use Rattle.std.proofs.Common.{replicate, take}
 use Rattle.std.proofs.lemmas.List.{get_or_append_left, get_or-append_right, get_or-replicate, length-append, length-replicate, take_all}
-use Rattle.std.proofs.Math.Seq.{get_or-append_seam}
 use Rattle.sno_store.specs.declared.tree.End.{End}
-use Rattle.sno_store.specs.declared.tree.Tree.{Tree}
-use Rattle.sno_store.specs.inner.Paths.{at, end_at, path_end, end_of, AllLead, IsFoundIn, IsLive, Leads}
-use Rattle.sno_store.specs.inner.Indexed.{IsFound}
-use Rattle.sno_store.proofs.IndexLaws.{among_more}
+use Rattle.sno_store.specs.inner.Paths.{at, end_at, path_end, end_of, IsLive, IsOn}
 
 -- the branches of a step
 abbrev step : List ℕ → ℕ → ℕ → ℕ → Bool → End
@@ -97,23 +93,19 @@ module _ (old new : List ℕ) (s : ℕ) (leaf : at old s ≤ 1_000_000)
       ap (λ (x : End). at new x.slot) (kept 16 0 hash off) ∙ others (end_of old hash).slot off ∙ here
 
 -- a slot at which no number is found gets one
-pub written : (old new doubles hashes : List ℕ) (s held : ℕ) → at old s ≡ held → held ≤ 1_000_000
+pub written : (old new hashes : List ℕ) (s held : ℕ) → at old s ≡ held → held ≤ 1_000_000
     → ((t : ℕ) → (t ≡ s → ⊥) → at new t ≡ at old t) → (IsLive old hashes s held → ⊥)
-    → ((i : ℕ) → i < length hashes → Leads old doubles (slice_index_or hashes i 0) i)
-    → (i : ℕ) → i < length hashes → Leads new doubles (slice_index_or hashes i 0) i
-written old new doubles hashes s held is few others free all i within = ⊎_elim by_path inr (all i within) where
-  hash : ℕ
-  hash = slice_index_or hashes i 0
-
-  by_path : at old (end_of old hash).slot ≡ suc i → Leads new doubles hash i
-  by_path here =
-      inl (still old new s (subst (λ v. v ≤ 1_000_000) (sym is) few) others hash (suc i) here (λ h.
-      let count : held ≡ suc i = sym is ∙ ap (at old) (sym h) ∙ here in
-      free (record {
-        some = omega (arith, count);
-        known = omega (arith, count, within);
-        here = subst (λ k. (end_of old (slice_index_or hashes k 0)).slot ≡ s) (omega (arith, count)) h;
-      })))
+    → (i : ℕ) → i < length hashes → IsOn old (slice_index_or hashes i 0) i → IsOn new (slice_index_or hashes i 0) i
+written old new hashes s held is few others free i within here =
+    still old new s (subst (λ v. v ≤ 1_000_000) (sym is) few) others hash (suc i) here (λ h.
+    let count : held ≡ suc i = sym is ∙ ap (at old) (sym h) ∙ here in
+    free (record {
+      some = omega (arith, count);
+      known = omega (arith, count, within);
+      here = subst (λ k. (end_of old (slice_index_or hashes k 0)).slot ≡ s) (omega (arith, count)) h;
+    })) where
+      hash : ℕ
+      hash = slice_index_or hashes i 0
 
 -- and its own path ends there
 pub written_here : (old new : List ℕ) (hash number : ℕ) → at old (end_of old hash).slot ≤ 1_000_000 → suc number ≤ 1_000_000
@@ -147,72 +139,70 @@ written_here old new hash number leaf few others here = ends 16 0 hash refl wher
         ∙ below (at old t - 1_000_000) (sym (ap (λ (x : End). x.slot) e) ∙ is)
 
 -- a number goes to a node that joined, to which its slot leads
-pub divided : (old mid new doubles hashes : List ℕ) (s held node place m : ℕ) → IsLive old hashes s held → at old s ≡ held → held ≤ 1_000_000
+pub divided : (old mid new hashes : List ℕ) (s held node place m : ℕ) → IsLive old hashes s held → at old s ≡ held → held ≤ 1_000_000
     → (end_of old (slice_index_or hashes (held - 1) 0)).left ≡ suc m
     → place ≡ node + (end_of old (slice_index_or hashes (held - 1) 0)).rest % 16
     → s < place → 1 ≤ node → at old place ≡ 0 → at mid place ≡ held
     → ((t : ℕ) → (t ≡ place → ⊥) → at mid t ≡ at old t)
     → at new s ≡ node + 1_000_000
     → ((t : ℕ) → (t ≡ s → ⊥) → at new t ≡ at mid t)
-    → ((i : ℕ) → i < length hashes → Leads old doubles (slice_index_or hashes i 0) i)
-    → (i : ℕ) → i < length hashes → Leads new doubles (slice_index_or hashes i 0) i
-divided old mid new doubles hashes s held node place m live is few left lies past some fresh put grown linked others all i within = ⊎_elim by_path inr (all i within) where
-  hash : ℕ
-  hash = slice_index_or hashes i 0
+    → (i : ℕ) → IsOn old (slice_index_or hashes i 0) i → IsOn new (slice_index_or hashes i 0) i
+divided old mid new hashes s held node place m live is few left lies past some fresh put grown linked others i here =
+    ⊎_elim other (λ up. ⊎_elim other_up (equal up) (cases_lt s (end_of old hash).slot)) (cases_lt (end_of old hash).slot s) where
+      hash : ℕ
+      hash = slice_index_or hashes i 0
 
-  own : ℕ
-  own = slice_index_or hashes (held - 1) 0
+      own : ℕ
+      own = slice_index_or hashes (held - 1) 0
 
-  apart : s ≡ place → ⊥
-  apart h = absurd (omega (arith, h, past))
+      apart : s ≡ place → ⊥
+      apart h = absurd (omega (arith, h, past))
 
-  mid_s : at mid s ≡ held
-  mid_s = grown s apart ∙ is
+      mid_s : at mid s ≡ held
+      mid_s = grown s apart ∙ is
 
-  mid_leaf : at mid s ≤ 1_000_000
-  mid_leaf = subst (λ v. v ≤ 1_000_000) (sym mid_s) few
+      mid_leaf : at mid s ≤ 1_000_000
+      mid_leaf = subst (λ v. v ≤ 1_000_000) (sym mid_s) few
 
-  none : at old place ≤ 1_000_000
-  none = omega (arith, fresh)
+      none : at old place ≤ 1_000_000
+      none = omega (arith, fresh)
 
-  -- its own path
-  moved : at new (end_of new own).slot ≡ held
-  moved =
-      let same : end_of mid own ≡ end_of old own = kept old mid place none grown 16 0 own (λ h. apart (sym live.here ∙ h)) in
-      let base : at new s - 1_000_000 ≡ node = omega (arith, linked) in
-      let slot : at new (node + (end_of mid own).rest % 16) ≡ held =
-      ap (λ (x : End). at new (node + x.rest % 16)) same ∙ ap (at new) (sym lies) ∙ others place (λ h. apart (sym h)) ∙ put in
-      let on = deeper mid new s mid_leaf others (omega (arith, linked, some)) 16 0 own m
-      (ap (λ (x : End). x.slot) same ∙ live.here) (ap (λ (x : End). x.left) same ∙ left) in
-      ap (λ (x : End). at new x.slot) (on ∙ ap (λ b. path_end new (suc m) b (end_of mid own).rest) base
-      ∙ stops new m node (end_of mid own).rest (subst (λ v. v ≤ 1_000_000) (sym slot) few)) ∙ slot
+      -- its own path
+      moved : at new (end_of new own).slot ≡ held
+      moved =
+          let same : end_of mid own ≡ end_of old own = kept old mid place none grown 16 0 own (λ h. apart (sym live.here ∙ h)) in
+          let base : at new s - 1_000_000 ≡ node = omega (arith, linked) in
+          let slot : at new (node + (end_of mid own).rest % 16) ≡ held =
+          ap (λ (x : End). at new (node + x.rest % 16)) same ∙ ap (at new) (sym lies) ∙ others place (λ h. apart (sym h)) ∙ put in
+          let on = deeper mid new s mid_leaf others (omega (arith, linked, some)) 16 0 own m
+          (ap (λ (x : End). x.slot) same ∙ live.here) (ap (λ (x : End). x.left) same ∙ left) in
+          ap (λ (x : End). at new x.slot) (on ∙ ap (λ b. path_end new (suc m) b (end_of mid own).rest) base
+          ∙ stops new m node (end_of mid own).rest (subst (λ v. v ≤ 1_000_000) (sym slot) few)) ∙ slot
 
-  by_path : at old (end_of old hash).slot ≡ suc i → Leads new doubles hash i
-  by_path here = ⊎_elim other (λ up. ⊎_elim other_up (equal up) (cases_lt s (end_of old hash).slot)) (cases_lt (end_of old hash).slot s) where
-    off : (end_of old hash).slot ≡ place → ⊥
-    off h = absurd (omega (arith, ap (at old) h, here, fresh))
+      off : (end_of old hash).slot ≡ place → ⊥
+      off h = absurd (omega (arith, ap (at old) h, here, fresh))
 
-    in_mid : at mid (end_of mid hash).slot ≡ suc i
-    in_mid = still old mid place none grown hash (suc i) here off
+      in_mid : at mid (end_of mid hash).slot ≡ suc i
+      in_mid = still old mid place none grown hash (suc i) here off
 
-    same : end_of mid hash ≡ end_of old hash
-    same = kept old mid place none grown 16 0 hash off
+      same : end_of mid hash ≡ end_of old hash
+      same = kept old mid place none grown 16 0 hash off
 
-    elsewhere : ((end_of old hash).slot ≡ s → ⊥) → Leads new doubles hash i
-    elsewhere away = inl (still mid new s mid_leaf others hash (suc i) in_mid (λ h. away (sym (ap (λ (x : End). x.slot) same) ∙ h)))
+      elsewhere : ((end_of old hash).slot ≡ s → ⊥) → IsOn new hash i
+      elsewhere away = still mid new s mid_leaf others hash (suc i) in_mid (λ h. away (sym (ap (λ (x : End). x.slot) same) ∙ h))
 
-    other : (end_of old hash).slot < s → Leads new doubles hash i
-    other h = elsewhere (λ e. absurd (omega (arith, h, e)))
+      other : (end_of old hash).slot < s → IsOn new hash i
+      other h = elsewhere (λ e. absurd (omega (arith, h, e)))
 
-    other_up : s < (end_of old hash).slot → Leads new doubles hash i
-    other_up h = elsewhere (λ e. absurd (omega (arith, h, e)))
+      other_up : s < (end_of old hash).slot → IsOn new hash i
+      other_up h = elsewhere (λ e. absurd (omega (arith, h, e)))
 
-    equal : s ≤ (end_of old hash).slot → (end_of old hash).slot ≤ s → Leads new doubles hash i
-    equal up low =
-        let e : (end_of old hash).slot ≡ s = omega (arith, up, low) in
-        let count : held ≡ suc i = sym is ∙ ap (at old) (sym e) ∙ here in
-        let index : held - 1 ≡ i = omega (arith, count) in
-        inl (subst (λ k. at new (end_of new (slice_index_or hashes k 0)).slot ≡ suc i) index (moved ∙ count))
+      equal : s ≤ (end_of old hash).slot → (end_of old hash).slot ≤ s → IsOn new hash i
+      equal up low =
+          let e : (end_of old hash).slot ≡ s = omega (arith, up, low) in
+          let count : held ≡ suc i = sym is ∙ ap (at old) (sym e) ∙ here in
+          let index : held - 1 ≡ i = omega (arith, count) in
+          subst (λ k. at new (end_of new (slice_index_or hashes k 0)).slot ≡ suc i) index (moved ∙ count)
 
 -- the same where the levels are counted down
 pub stops_at : (slots : List ℕ) (n node rest : ℕ) → 1 ≤ n → at slots (node + rest % 16) ≤ 1_000_000
@@ -229,17 +219,10 @@ goes_at slots (suc n) node rest some more =
     let one : n ≡ suc n - 1 = omega arith in
     goes slots n node rest more ∙ ap (λ k. path_end slots k (at slots (node + rest % 16) - 1_000_000) (rest / 16)) one
 
--- a double joins
-pub doubled : (slots doubles hashes : List ℕ) (number : ℕ)
-    → ((i : ℕ) → i < length hashes → Leads slots doubles (slice_index_or hashes i 0) i)
-    → (i : ℕ) → i < length hashes → Leads slots (doubles ++ number ∷ []) (slice_index_or hashes i 0) i
-doubled slots doubles hashes number all i within = ⊎_elim inl (λ among. inr (among_more doubles number i among)) (all i within)
-
--- where no slot has anything, all numbers are doubles
-pub from_none : (new doubles hashes : List ℕ) → ((i : ℕ) → i < length hashes → Leads [] doubles (slice_index_or hashes i 0) i)
-    → (i : ℕ) → i < length hashes → Leads new doubles (slice_index_or hashes i 0) i
-from_none new doubles hashes all i within =
-    ⊎_elim (λ leaf. absurd (omega (arith, leaf, get_or_past {X = ℕ} [] (end_of [] (slice_index_or hashes i 0)).slot 0 (omega arith)))) inr (all i within)
+-- where no slot has anything, no number is found
+pub from_none : (new hashes : List ℕ) (i : ℕ) → IsOn [] (slice_index_or hashes i 0) i → IsOn new (slice_index_or hashes i 0) i
+from_none new hashes i leaf =
+    absurd (omega (arith, leaf, get_or_past {X = ℕ} [] (end_of [] (slice_index_or hashes i 0)).slot 0 (omega arith)))
 
 -- a list that is filled up with zeros has in each place what it had
 pub widened : (old new : List ℕ) (n k : ℕ) → new ≡ take n old ++ replicate k 0 → length old ≤ n → (t : ℕ) → at new t ≡ at old t
@@ -271,28 +254,3 @@ pub written_at : (old new : List ℕ) (hash number s : ℕ) → s ≡ (end_of ol
     → ((t : ℕ) → (t ≡ s → ⊥) → at new t ≡ at old t) → at new s ≡ suc number → at new (end_of new hash).slot ≡ suc number
 written_at old new hash number s e leaf few others here =
     written_here old new hash number (subst (λ v. at old v ≤ 1_000_000) e leaf) few (λ t off. others t (λ h. off (h ∙ e))) (ap (at new) (sym e) ∙ here)
-
--- what the tree finds is what the index tells
-pub told : (tree : Tree) (hashes : List ℕ) (hash : ℕ) (found : Option ℕ) → length hashes ≤ 1_000_000 → AllLead tree hashes
-    → IsFoundIn found (at tree.slots.items (end_of tree.slots.items hash).slot) → IsFound hashes tree.doubles.items hash found
-told tree hashes hash found few all is = record {
-  each = λ i within same.
-      ⊎_elim (λ here. inl (is.each i (ap (λ h. at tree.slots.items (end_of tree.slots.items h).slot) (sym same) ∙ here) (omega (arith, within, few))))
-      inr (all i within);
-}
-
--- a hash joins
-pub all_with : (tree : Tree) (hashes : List ℕ) (hash : ℕ) → AllLead tree hashes
-    → Leads tree.slots.items tree.doubles.items hash (length hashes) → AllLead tree (hashes ++ hash ∷ [])
-all_with tree hashes hash all leads i within = ⊎_elim before last (cases_lt i (length hashes)) where
-  Goal : ℕ → ℕ → Type 0
-  Goal h k = Leads tree.slots.items tree.doubles.items h k
-
-  before : i < length hashes → Goal (slice_index_or (hashes ++ hash ∷ []) i 0) i
-  before h = subst (λ v. Goal v i) (sym (get_or_append_left hashes (hash ∷ []) 0 i h)) (all i h)
-
-  last : length hashes ≤ i → Goal (slice_index_or (hashes ++ hash ∷ []) i 0) i
-  last h =
-      let end : length hashes ≡ i = omega (arith, h, within, length-append hashes (hash ∷ [])) in
-      subst (λ k. Goal (slice_index_or (hashes ++ hash ∷ []) k 0) k) end
-      (subst (λ v. Goal v (length hashes)) (sym (get_or-append_seam hashes hash [] 0)) leads)

@@ -1,3 +1,4 @@
+pub mod Doubles
 pub mod First
 pub mod Hashes
 pub mod Indexed

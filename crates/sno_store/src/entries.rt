@@ -1,12 +1,15 @@
 //! Tables.
 ghost use Rattle.std.specs.Prelude.{◌≡◌, ◌<◌, ◌≤◌, ◌↔◌, ◌*◌, [], ◌∷◌, ◌++◌, None, true, length, map, option_copied};
-ghost use Rattle.std.specs.Prelude.{slice_get, IfNone, IfOk, IfSome, OnOk, OnErr};
+ghost use Rattle.std.specs.Prelude.{slice_get, Some, ◌⊎◌, IfNone, IfOk, IfSome, OnOk, OnErr};
 ghost use Rattle.sno_store.specs.Objects.{with_value_at};
+ghost use Rattle.sno_store.specs.inner.Doubles.{key_place, Stay};
 ghost use Rattle.sno_store.specs.inner.Indexed.{IsAnswer, IsAt, IsNoDouble, keys_of};
+ghost use Rattle.sno_store.specs.inner.Paths.{IsOn, Keeps};
 ghost use Rattle.sno_store.specs.inner.Seen.{IsEntry};
 ghost use Rattle.sno_store.specs.Stored.{is_null, is_key, stored_notions};
 ghost use Rattle.sno_store.specs.Tables.{entry_place, filled, rows};
 
+use crate::doubles::KeyDoubles;
 use crate::error::StoreError;
 use crate::hash::key_hash;
 use crate::index::Index;
@@ -22,20 +25,23 @@ const MOST_ENTRIES: usize = 1_000_000;
 pub(crate) struct Entries {
     entries: Vec<(Value, Value)>,
     index: Index,
+    doubles: KeyDoubles,
 }
 
 impl Model for Entries {
     ghost use Rattle.std.specs.Prelude.{List, ◌≡◌, ◌≤◌, length, map};
     ghost use Rattle.sno_value.specs.declared.value.Value.{Value as Stored};
+    ghost use Rattle.sno_store.specs.inner.Doubles.{key_place};
     ghost use Rattle.sno_store.specs.inner.Hashes.{key_hash};
-    ghost use Rattle.sno_store.specs.inner.Indexed.{AreDistinct, keys_of};
+    ghost use Rattle.sno_store.specs.inner.Indexed.{AreDistinct, AreFound, keys_of};
 
     ghost Value = { List (Stored × Stored) };
 
     ghost view = { λ t. t.entries.items };
 
     ghost invariant = { λ t. (length t.entries.items ≤ 1_000_000) × (t.index.0 ≡ map key_hash (keys_of t.entries.items))
-        × AreDistinct (keys_of t.entries.items) };
+        × AreDistinct (keys_of t.entries.items)
+        × AreFound (key_place t.doubles) key_hash t.index.1 (keys_of t.entries.items) };
 }
 
 impl Entries {
@@ -46,6 +52,7 @@ impl Entries {
         let entries = Entries {
             entries: Vec::new(alloc),
             index: Index::new(alloc),
+            doubles: KeyDoubles::new(alloc),
         };
         let entries = Box::new(alloc, entries)?;
         Ok(entries)
@@ -59,7 +66,7 @@ impl Entries {
         self.entries.len()
     }
 
-    /// The entry with a key, in expected constant time beside the length of the key's text.
+    /// The entry with a key.
     pub(crate) fn find(&self, key: &Value) -> Option<u32>
         requires { is_key key.now ≡ true }
         ensures { result ≡ entry_place stored_notions key.now self.now }
@@ -69,11 +76,11 @@ impl Entries {
                 return Some(place);
             }
         }
-        let place = double(&self.entries, self.index.doubles(), key)?;
+        let place = double(&self.entries, &self.doubles, key)?;
         Some(place)
     }
 
-    /// A key that has no entry gets one, which is the last. It takes expected constant time.
+    /// A key that has no entry gets one, which is the last.
     pub(crate) fn push(&mut self, key: Value, value: Value) -> Result<u32, AllocError>
         requires key { is_key key ≡ true }
         requires new { entry_place stored_notions key self.old ≡ None }
@@ -84,7 +91,9 @@ impl Entries {
     {
         let place = self.entries.len() as u32;
         self.entries.reserve(1)?;
-        self.index.push(key_hash(&key))?;
+        let hash = key_hash(&key);
+        settle(&mut self.index, &mut self.doubles, &key, hash, place)?;
+        self.index.push(hash)?;
         self.entries.push((key, value))?;
         Ok(place)
     }
@@ -133,18 +142,39 @@ impl Entries {
     }
 }
 
+/// The key that joins next is found by the path of its hash, or else among the doubles.
+fn settle(
+    index: &mut Index,
+    doubles: &mut KeyDoubles,
+    key: &Value,
+    hash: u64,
+    place: u32,
+) -> Result<(), AllocError>
+    requires place { place ≡ length index.old.0 }
+    requires few { place < 1_000_000 }
+    ensures hashes { index.new.0 ≡ index.old.0 }
+    ensures keeps { Keeps index.old.0 index.old.1 index.new.1 }
+    ensures others { Stay key.now (key_place doubles.old) (key_place doubles.new) }
+    ensures leads { OnOk result (IsOn index.new.1 hash place ⊎ (key_place doubles.new key.now ≡ Some place)) }
+{
+    if !index.settle(hash)? {
+        doubles.insert(key, place)?;
+    }
+    Ok(())
+}
+
 /// The place of a key among the doubles.
-fn double(entries: &[(Value, Value)], doubles: &[u32], key: &Value) -> Option<u32>
+fn double(entries: &[(Value, Value)], doubles: &KeyDoubles, key: &Value) -> Option<u32>
     requires { is_key key.now ≡ true }
     ensures some { IfSome result (λ place. IsAt (keys_of entries.now) place key.now) }
-    ensures none { IfNone result (IsNoDouble (keys_of entries.now) doubles.now key.now) }
+    ensures none { IfNone result (IsNoDouble (key_place doubles.now) (keys_of entries.now) key.now) }
 {
-    let mut next = 0;
-    'doubles: while next < doubles.len() {
-        if is_at(entries, doubles[next], key) {
-            return Some(doubles[next]);
-        }
-        next += 1;
+    if doubles.is_empty() {
+        return None;
+    }
+    let place = doubles.find(key)?;
+    if is_at(entries, place, key) {
+        return Some(place);
     }
     None
 }

@@ -1,12 +1,12 @@
 //! Keys by their hashes.
-ghost use Rattle.std.specs.Prelude.{◌≡◌, ◌<◌, ◌≤◌, ◌++◌, [], ◌∷◌, length, take, OnErr, OnOk};
-ghost use Rattle.sno_store.specs.inner.Indexed.{IsFound};
+ghost use Rattle.std.specs.Prelude.{◌≡◌, ◌<◌, ◌++◌, [], ◌∷◌, length, take, true, IfOk, OnErr, OnOk};
+ghost use Rattle.sno_store.specs.inner.Paths.{at, end_of, IsFoundIn, IsOn, Keeps};
 
 use crate::tree::Tree;
 use std::alloc::{AllocError, Global};
 use std::marker::Model;
 
-/// The places of keys, which contracts see as the list of the keys' hashes, and the doubles among the places.
+/// The places of keys, which contracts see as the list of the keys' hashes, and the slots of the paths to them.
 #[derive(Drop)]
 pub(crate) struct Index {
     hashes: Vec<u64>,
@@ -15,13 +15,10 @@ pub(crate) struct Index {
 
 impl Model for Index {
     ghost use Rattle.std.specs.Prelude.{List, ℕ};
-    ghost use Rattle.sno_store.specs.inner.Paths.{AllLead};
 
     ghost Value = { List ℕ × List ℕ };
 
-    ghost view = { λ i. (i.hashes.items, i.tree.doubles.items) };
-
-    ghost invariant = { λ i. AllLead i.tree i.hashes.items };
+    ghost view = { λ i. (i.hashes.items, i.tree.slots.items) };
 }
 
 impl Index {
@@ -35,38 +32,41 @@ impl Index {
         }
     }
 
-    /// The place of the key with a hash, but for the doubles.
+    /// The place to which the path of a hash leads.
     #[inline(always)]
     pub(crate) fn find(&self, hash: u64) -> Option<u32>
-        requires few { length self.now.0 ≤ 1_000_000 }
-        ensures { IsFound self.now.0 self.now.1 hash result }
+        ensures { IsFoundIn result (at self.now.1 (end_of self.now.1 hash).slot) }
     {
         self.tree.find(hash)
     }
 
-    /// The places of keys that are found by no hash, since an earlier key has theirs.
-    #[inline(always)]
-    pub(crate) fn doubles(&self) -> &[u32]
-        ensures { result.now ≡ self.now.1 }
+    /// Makes a path to the place of the key that joins next, and tells whether it leads there: none does where another
+    /// key has the whole of its hash.
+    pub(crate) fn settle(&mut self, hash: u64) -> Result<bool, AllocError>
+        requires few { length self.old.0 < 1_000_000 }
+        ensures hashes { self.new.0 ≡ self.old.0 }
+        ensures keeps { Keeps self.old.0 self.old.1 self.new.1 }
+        ensures leads { IfOk result (λ done. done ≡ true → IsOn self.new.1 hash (length self.old.0)) }
     {
-        self.tree.doubles()
+        let place = self.hashes.len() as u32;
+        let done = self.tree.insert(self.hashes.as_slice(), place, hash)?;
+        Ok(done)
     }
 
     /// A key with a hash joins at the end.
     pub(crate) fn push(&mut self, hash: u64) -> Result<(), AllocError>
-        requires few { length self.old.0 < 1_000_000 }
         ensures ok { OnOk result (self.new.0 ≡ self.old.0 ++ hash ∷ []) }
         ensures err { OnErr result (self.new.0 ≡ self.old.0) }
+        ensures slots { self.new.1 ≡ self.old.1 }
     {
-        let place = self.hashes.len() as u32;
-        self.tree.insert(self.hashes.as_slice(), place, hash)?;
         self.hashes.push(hash)?;
         Ok(())
     }
 
     /// Only so many keys stay, the first ones.
     pub(crate) fn truncate(&mut self, count: usize)
-        ensures { self.new.0 ≡ take count self.old.0 }
+        ensures hashes { self.new.0 ≡ take count self.old.0 }
+        ensures slots { self.new.1 ≡ self.old.1 }
     {
         self.hashes.truncate(count);
     }

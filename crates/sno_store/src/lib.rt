@@ -12,6 +12,7 @@ mod calls;
 mod data_type;
 mod definition;
 mod dimension;
+mod doubles;
 mod elements;
 mod entries;
 mod error;

@@ -1,15 +1,18 @@
 //! The texts of the symbols, by number and by text.
 ghost use Rattle.std.specs.Prelude.{◌≡◌, ◌+◌, ◌||◌, ◌≤◌, ◌<◌, [], ◌∷◌, ◌++◌, length, take, false, slice_index_or};
-ghost use Rattle.std.specs.Prelude.{option_map, true, IfNone, IfOk, IfSome, OnOk, OnErr};
+ghost use Rattle.std.specs.Prelude.{option_map, true, Some, ◌⊎◌, IfNone, IfOk, IfSome, OnOk, OnErr};
 ghost use Rattle.std.specs.List.{list_any, position};
 ghost use Rattle.std.specs.Str.{bytes_eq};
 ghost use Rattle.sno_value.specs.Keys.{name_of};
 ghost use Rattle.sno_store.specs.Store.{is_symbol};
 ghost use Rattle.sno_store.specs.Definitions.{listed, names, with_names};
+ghost use Rattle.sno_store.specs.inner.Doubles.{text_place, Stay};
 ghost use Rattle.sno_store.specs.inner.Indexed.{IsAnswer, IsAt, IsNoDouble};
+ghost use Rattle.sno_store.specs.inner.Paths.{IsOn, Keeps};
 ghost use Rattle.sno_store.specs.inner.Seen.{prototype_seen};
 ghost use Rattle.sno_store.specs.Symbols.{found, HasKey};
 
+use crate::doubles::TextDoubles;
 use crate::function_prototype::{FunctionPrototype, count, is_among};
 use crate::hash::text_hash;
 use crate::index::Index;
@@ -35,14 +38,16 @@ pub(crate) struct Symbols {
     alloc: Global,
     texts: Vec<Text>,
     index: Index,
+    doubles: TextDoubles,
     // the keys of the first of them
     keys: Vec<u64>,
 }
 
 impl Model for Symbols {
     ghost use Rattle.std.specs.Prelude.{List, ℕ, ◌≡◌, ◌≤◌, length, map};
+    ghost use Rattle.sno_store.specs.inner.Doubles.{text_place};
     ghost use Rattle.sno_store.specs.inner.Hashes.{text_hash};
-    ghost use Rattle.sno_store.specs.inner.Indexed.{AreDistinct};
+    ghost use Rattle.sno_store.specs.inner.Indexed.{AreDistinct, AreFound};
     ghost use Rattle.sno_store.specs.inner.Symbols.{AreKeysOf};
 
     ghost Value = { List (List ℕ) };
@@ -50,7 +55,8 @@ impl Model for Symbols {
     ghost view = { λ s. s.texts.items };
 
     ghost invariant = { λ s. (length s.texts.items ≤ 1_000_000) × AreKeysOf s.texts.items s.keys.items
-        × (length s.keys.items ≤ length s.texts.items) × (s.index.0 ≡ map text_hash s.texts.items) × AreDistinct s.texts.items };
+        × (length s.keys.items ≤ length s.texts.items) × (s.index.0 ≡ map text_hash s.texts.items) × AreDistinct s.texts.items
+        × AreFound (text_place s.doubles) text_hash s.index.1 s.texts.items };
 }
 
 impl Symbols {
@@ -62,6 +68,7 @@ impl Symbols {
             alloc,
             texts: Vec::new(alloc),
             index: Index::new(alloc),
+            doubles: TextDoubles::new(alloc),
             keys: Vec::new(alloc),
         }
     }
@@ -91,7 +98,7 @@ impl Symbols {
                 return Some(place);
             }
         }
-        let place = double(&self.texts, self.index.doubles(), name)?;
+        let place = double(&self.texts, &self.doubles, name)?;
         Some(place)
     }
 
@@ -174,7 +181,9 @@ impl Symbols {
         let id = SymId(self.texts.len() as u32);
         let text = Text::from_slice(self.alloc, name)?;
         self.texts.reserve(1)?;
-        self.index.push(text_hash(name))?;
+        let hash = text_hash(name);
+        settle(&mut self.index, &mut self.doubles, name, hash, id.0)?;
+        self.index.push(hash)?;
         self.texts.push(text)?;
         self.keep_key(id, name);
         Ok(id)
@@ -236,17 +245,38 @@ fn kept_key(symbol: SymId, name: &[u8]) -> u64
     }
 }
 
-/// The place of a text among the doubles.
-fn double(texts: &[Text], doubles: &[u32], name: &[u8]) -> Option<u32>
-    ensures some { IfSome result (λ place. IsAt texts.now place name.now) }
-    ensures none { IfNone result (IsNoDouble texts.now doubles.now name.now) }
+/// The text that joins next is found by the path of its hash, or else among the doubles.
+fn settle(
+    index: &mut Index,
+    doubles: &mut TextDoubles,
+    name: &[u8],
+    hash: u64,
+    place: u32,
+) -> Result<(), AllocError>
+    requires place { place ≡ length index.old.0 }
+    requires few { place < 1_000_000 }
+    ensures hashes { index.new.0 ≡ index.old.0 }
+    ensures keeps { Keeps index.old.0 index.old.1 index.new.1 }
+    ensures others { Stay name.now (text_place doubles.old) (text_place doubles.new) }
+    ensures leads { OnOk result (IsOn index.new.1 hash place ⊎ (text_place doubles.new name.now ≡ Some place)) }
 {
-    let mut next = 0;
-    'doubles: while next < doubles.len() {
-        if is_at(texts, doubles[next], name) {
-            return Some(doubles[next]);
-        }
-        next += 1;
+    if !index.settle(hash)? {
+        doubles.insert(name, place)?;
+    }
+    Ok(())
+}
+
+/// The place of a text among the doubles.
+fn double(texts: &[Text], doubles: &TextDoubles, name: &[u8]) -> Option<u32>
+    ensures some { IfSome result (λ place. IsAt texts.now place name.now) }
+    ensures none { IfNone result (IsNoDouble (text_place doubles.now) texts.now name.now) }
+{
+    if doubles.is_empty() {
+        return None;
+    }
+    let place = doubles.find(name)?;
+    if is_at(texts, place, name) {
+        return Some(place);
     }
     None
 }

@@ -1,6 +1,6 @@
 //! Which numbers lie on the paths of hashes.
-ghost use Rattle.std.specs.Prelude.{◌≡◌, ◌<◌, ◌≤◌, [], length, true, IfOk, OnOk};
-ghost use Rattle.sno_store.specs.inner.Paths.{at, end_of, IsFoundIn, IsLive, IsLiveAnswer, Keeps, Leads};
+ghost use Rattle.std.specs.Prelude.{◌≡◌, ◌<◌, ◌≤◌, [], length, true, IfOk};
+ghost use Rattle.sno_store.specs.inner.Paths.{at, end_of, IsFoundIn, IsLive, IsLiveAnswer, IsOn, Keeps};
 
 use std::alloc::{AllocError, Global};
 use std::vec::Vec;
@@ -20,8 +20,6 @@ const LEVELS: u32 = 16;
 pub(crate) struct Tree {
     // 0 in an empty one, a number and 1, or where a node begins, and MOST
     slots: Vec<u32>,
-    // the numbers that are on no path, since another one has the whole of theirs
-    doubles: Vec<u32>,
 }
 
 /// The slot at which a path ends, what of the hash is behind it, and how many levels are.
@@ -35,12 +33,10 @@ pub(crate) struct End {
 impl Tree {
     /// No numbers. It takes no memory.
     pub(crate) fn new(alloc: Global) -> Tree
-        ensures slots { result.slots.items ≡ [] }
-        ensures doubles { result.doubles.items ≡ [] }
+        ensures { result.slots.items ≡ [] }
     {
         Tree {
             slots: Vec::new(alloc),
-            doubles: Vec::new(alloc),
         }
     }
 
@@ -74,14 +70,6 @@ impl Tree {
             left -= 1;
         }
         self.at(0)
-    }
-
-    /// The numbers that are on no path.
-    #[inline(always)]
-    pub(crate) fn doubles(&self) -> &[u32]
-        ensures { result.now ≡ self.now.doubles.items }
-    {
-        self.doubles.as_slice()
     }
 
     /// Where the path of a hash ends.
@@ -119,16 +107,16 @@ impl Tree {
         }
     }
 
-    /// A number with a hash joins those that have others.
+    /// A number joins at the end of the path of its hash, unless another number has the whole of that.
     pub(crate) fn insert(
         &mut self,
         hashes: &[u64],
         number: u32,
         hash: u64,
-    ) -> Result<(), AllocError>
+    ) -> Result<bool, AllocError>
         requires few { number < 1_000_000 }
-        ensures keeps { Keeps hashes.now self.old self.new }
-        ensures leads { OnOk result (Leads self.new.slots.items self.new.doubles.items hash number) }
+        ensures keeps { Keeps hashes.now self.old.slots.items self.new.slots.items }
+        ensures leads { IfOk result (λ done. done ≡ true → IsOn self.new.slots.items hash number) }
     {
         if self.slots.is_empty() {
             self.slots.resize(WIDTH, 0)?;
@@ -136,19 +124,18 @@ impl Tree {
         let mut tries = LEVELS;
         'tries: while tries > 0 {
             if self.settle(hashes, number, hash)? {
-                return Ok(());
+                return Ok(true);
             }
             tries -= 1;
         }
-        self.doubles.push(number)?;
-        Ok(())
+        Ok(false)
     }
 
     /// A number goes to the end of its path, if that is free, or else what is there goes one node further.
     fn settle(&mut self, hashes: &[u64], number: u32, hash: u64) -> Result<bool, AllocError>
         requires few { number < 1_000_000 }
-        ensures keeps { Keeps hashes.now self.old self.new }
-        ensures leads { IfOk result (λ done. done ≡ true → Leads self.new.slots.items self.new.doubles.items hash number) }
+        ensures keeps { Keeps hashes.now self.old.slots.items self.new.slots.items }
+        ensures leads { IfOk result (λ done. done ≡ true → IsOn self.new.slots.items hash number) }
     {
         let slot = self.end(hash).slot;
         let held = self.at(slot);
@@ -179,7 +166,7 @@ impl Tree {
         requires here { at self.old.slots.items slot ≡ held }
         requires few { held ≤ 1_000_000 }
         requires within { slot < length self.old.slots.items }
-        ensures { Keeps hashes.now self.old self.new }
+        ensures { Keeps hashes.now self.old.slots.items self.new.slots.items }
     {
         let end = self.end(hashes[held as usize - 1]);
         if end.left == 0 {

@@ -1,8 +1,7 @@
 -- Where the paths of hashes end in a tree, and which numbers are there. Private contracts alone cite it.
-use Rattle.std.specs.Prelude.{◌≡◌, ℕ, zero, suc, ◌+◌, ◌-◌, ◌/◌, ◌%◌, ◌<◌, ◌≤◌, ◌⊎◌, Bool, true, false, List, length, nat_le, slice_index_or}
+use Rattle.std.specs.Prelude.{◌≡◌, ℕ, zero, suc, ◌+◌, ◌-◌, ◌/◌, ◌%◌, ◌<◌, ◌≤◌, Bool, true, false, List, length, nat_le, slice_index_or}
 use Rattle.std.specs.Prelude.{Option, Some, if◌then◌else◌}
 use Rattle.sno_store.specs.declared.tree.End.{End}
-use Rattle.sno_store.specs.declared.tree.Tree.{Tree}
 
 -- what a slot has
 abbrev pub at : List ℕ → ℕ → ℕ
@@ -21,24 +20,13 @@ path_end slots (suc n) node rest =
 abbrev pub end_of : List ℕ → ℕ → End
 end_of slots hash = path_end slots 16 0 hash
 
--- a number is in a list
-pub record IsAmong (numbers : List ℕ) (number : ℕ) : Type 0 where
-  pub place : ℕ
-  pub within : place < length numbers
-  pub here : slice_index_or numbers place 0 ≡ number
+-- a number is at the end of the path of a hash
+abbrev pub IsOn : List ℕ → ℕ → ℕ → Type 0
+IsOn slots hash number = at slots (end_of slots hash).slot ≡ suc number
 
--- a number is at the end of the path of a hash, or is a double
-abbrev pub Leads : List ℕ → List ℕ → ℕ → ℕ → Type 0
-Leads slots doubles hash number = (at slots (end_of slots hash).slot ≡ suc number) ⊎ IsAmong doubles number
-
--- each number below so many is found by its hash
-abbrev pub AllLead : Tree → List ℕ → Type 0
-AllLead tree hashes =
-    (i : ℕ) → i < length hashes → Leads tree.slots.items tree.doubles.items (slice_index_or hashes i 0) i
-
--- what was found is found
-pub record Keeps (hashes : List ℕ) (old new : Tree) : Type 0 where
-  pub all : AllLead old hashes → AllLead new hashes
+-- each number below so many that was at the end of its path is there
+pub record Keeps (hashes old new : List ℕ) : Type 0 where
+  pub each : (i : ℕ) → i < length hashes → IsOn old (slice_index_or hashes i 0) i → IsOn new (slice_index_or hashes i 0) i
 
 -- the number that a slot has, if it has one
 pub record IsFoundIn (found : Option ℕ) (held : ℕ) : Type 0 where

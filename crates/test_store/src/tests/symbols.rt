@@ -55,6 +55,36 @@ fn names_with_near_hashes_are_told_apart(rt: HostRuntime) -> Result<(), Fail> {
     check(&rt, rt.alloc(), NEAR_NAMES)
 }
 
+// two and two of them have the same hash, in all of its 64 bits
+const EQUAL_NAMES: &[Step] = &[
+    Step::Symbol("NOJDCHOMGLGDFFDA", Ok(9)),
+    Step::Symbol("JPLDKEIDKHPIIHME", Ok(10)),
+    Step::Symbol("LEKEPCHDLCIJJINI", Ok(11)),
+    Step::Symbol("OKPILMJEIFMCLOEC", Ok(12)),
+    Step::Symbol("JHDKKJECGHEMIGHA", Ok(13)),
+    Step::Symbol("BDMHBPFGLLALDHBC", Ok(14)),
+    Step::Set(Name::Var(SymId(10)), Row::Int(2)),
+    Step::Set(Name::Var(SymId(13)), Row::Int(5)),
+    Step::Symbol("NOJDCHOMGLGDFFDA", Ok(9)),
+    Step::Symbol("JPLDKEIDKHPIIHME", Ok(10)),
+    Step::Symbol("LEKEPCHDLCIJJINI", Ok(11)),
+    Step::Symbol("OKPILMJEIFMCLOEC", Ok(12)),
+    Step::Symbol("JHDKKJECGHEMIGHA", Ok(13)),
+    Step::Symbol("BDMHBPFGLLALDHBC", Ok(14)),
+    Step::SymbolText(10, "JPLDKEIDKHPIIHME"),
+    Step::SymbolText(13, "JHDKKJECGHEMIGHA"),
+    Step::SymbolText(15, ""),
+    Step::Get(Name::Var(SymId(9)), Row::Str("")),
+    Step::Get(Name::Var(SymId(10)), Row::Int(2)),
+    Step::Get(Name::Var(SymId(12)), Row::Str("")),
+    Step::Get(Name::Var(SymId(13)), Row::Int(5)),
+];
+
+#[test]
+fn names_with_equal_hashes_are_told_apart(rt: HostRuntime) -> Result<(), Fail> {
+    check(&rt, rt.alloc(), EQUAL_NAMES)
+}
+
 const X: Name = Name::Var(SymId(9));
 
 const Y: Name = Name::Var(SymId(10));

@@ -114,3 +114,68 @@ const NEAR_KEYS: &[Step] = &[
 fn keys_with_near_hashes_are_told_apart(rt: HostRuntime) -> Result<(), Fail> {
     check(&rt, rt.alloc(), NEAR_KEYS)
 }
+
+// two and two of these texts have the same hash, in all of its 64 bits
+const EQUAL_HASHES: &[Step] = &[
+    Step::NewTable(Ok(0)),
+    Step::Entry(0, Row::Str("JPLDKEIDKHPIIHME"), Ok(0)),
+    Step::Find(0, Row::Str("NOJDCHOMGLGDFFDA"), Ok(None)),
+    Step::Entry(0, Row::Str("NOJDCHOMGLGDFFDA"), Ok(1)),
+    Step::Entry(0, Row::Str("LEKEPCHDLCIJJINI"), Ok(2)),
+    Step::Find(0, Row::Str("BDMHBPFGLLALDHBC"), Ok(None)),
+    Step::Entry(0, Row::Str("JHDKKJECGHEMIGHA"), Ok(3)),
+    Step::Entry(0, Row::Str("OKPILMJEIFMCLOEC"), Ok(4)),
+    Step::Entry(0, Row::Str("BDMHBPFGLLALDHBC"), Ok(5)),
+    Step::Entry(0, Row::Str("NGLLHOLKLPKJMOJJ"), Ok(6)),
+    Step::Find(0, Row::Str("KGGBPPMAJKOGCHNO"), Ok(None)),
+    Step::Set(Name::Entry(ObjId(0), 1), Row::Int(11)),
+    Step::Set(Name::Entry(ObjId(0), 5), Row::Int(15)),
+    Step::Find(0, Row::Str("JPLDKEIDKHPIIHME"), Ok(Some(0))),
+    Step::Find(0, Row::Str("NOJDCHOMGLGDFFDA"), Ok(Some(1))),
+    Step::Find(0, Row::Str("LEKEPCHDLCIJJINI"), Ok(Some(2))),
+    Step::Find(0, Row::Str("JHDKKJECGHEMIGHA"), Ok(Some(3))),
+    Step::Find(0, Row::Str("OKPILMJEIFMCLOEC"), Ok(Some(4))),
+    Step::Find(0, Row::Str("BDMHBPFGLLALDHBC"), Ok(Some(5))),
+    Step::Find(0, Row::Str("NGLLHOLKLPKJMOJJ"), Ok(Some(6))),
+    Step::Entry(0, Row::Str("NOJDCHOMGLGDFFDA"), Ok(1)),
+    Step::Entry(0, Row::Str("BDMHBPFGLLALDHBC"), Ok(5)),
+    Step::Get(Name::Entry(ObjId(0), 0), Row::Str("")),
+    Step::Get(Name::Entry(ObjId(0), 1), Row::Int(11)),
+    Step::Get(Name::Entry(ObjId(0), 2), Row::Str("")),
+    Step::Get(Name::Entry(ObjId(0), 5), Row::Int(15)),
+];
+
+#[test]
+fn texts_with_equal_hashes_are_told_apart(rt: HostRuntime) -> Result<(), Fail> {
+    check(&rt, rt.alloc(), EQUAL_HASHES)
+}
+
+// two and two of these numbers have the same hash, in all of its 64 bits
+const EQUAL_NUMBERS: &[Step] = &[
+    Step::NewTable(Ok(0)),
+    Step::Entry(0, Row::Int(1255372735144115403), Ok(0)),
+    Step::Find(0, Row::Int(-4443254203475492455), Ok(None)),
+    Step::Entry(0, Row::Int(-4443254203475492455), Ok(1)),
+    Step::Entry(0, Row::Int(-6982680755419654596), Ok(2)),
+    Step::Entry(0, Row::Int(-7820741339873550731), Ok(3)),
+    Step::Entry(0, Row::Str("JPLDKEIDKHPIIHME"), Ok(4)),
+    Step::Entry(0, Row::Str("NOJDCHOMGLGDFFDA"), Ok(5)),
+    Step::Set(Name::Entry(ObjId(0), 1), Row::Str("one")),
+    Step::Set(Name::Entry(ObjId(0), 3), Row::Str("three")),
+    Step::Find(0, Row::Int(1255372735144115403), Ok(Some(0))),
+    Step::Find(0, Row::Int(-4443254203475492455), Ok(Some(1))),
+    Step::Find(0, Row::Int(-6982680755419654596), Ok(Some(2))),
+    Step::Find(0, Row::Int(-7820741339873550731), Ok(Some(3))),
+    Step::Find(0, Row::Str("NOJDCHOMGLGDFFDA"), Ok(Some(5))),
+    Step::Find(0, Row::Str("-4443254203475492455"), Ok(None)),
+    Step::Find(0, Row::Name(Name::Entry(ObjId(0), 1)), Ok(None)),
+    Step::Get(Name::Entry(ObjId(0), 0), Row::Str("")),
+    Step::Get(Name::Entry(ObjId(0), 1), Row::Str("one")),
+    Step::Get(Name::Entry(ObjId(0), 2), Row::Str("")),
+    Step::Get(Name::Entry(ObjId(0), 3), Row::Str("three")),
+];
+
+#[test]
+fn numbers_with_equal_hashes_are_told_apart(rt: HostRuntime) -> Result<(), Fail> {
+    check(&rt, rt.alloc(), EQUAL_NUMBERS)
+}

@@ -6,15 +6,15 @@ use Rattle.sno_store.proofs.entries.Entries.set.Goals.{in-Str+in-Shared-1, in-St
 
 pub invariant_of-self : goal.invariant_of-self
 invariant_of-self c =
-    stands_set c.self.inside.entries.items c.self.inside.index.0 c.args.entry c.args.value c.index_mut.result.now c.index_mut.ensures.value c.self.invariant
+    stands_set c.self.inside.entries.items c.self.inside.index.0 c.self.inside.index.1 c.self.inside.doubles c.args.entry c.args.value c.index_mut.result.now c.index_mut.ensures.value c.self.invariant
 
 pub invariant_of-self-then-place-len-2 : goal.invariant_of-self-then-place-len-2
 invariant_of-self-then-place-len-2 c =
-    stands_set c.self.inside.entries.items c.self.inside.index.0 c.args.entry c.args.value c.index_mut.result.now c.index_mut.ensures.value c.self.invariant
+    stands_set c.self.inside.entries.items c.self.inside.index.0 c.self.inside.index.1 c.self.inside.doubles c.args.entry c.args.value c.index_mut.result.now c.index_mut.ensures.value c.self.invariant
 
 pub invariant_of-self-then-place-len-3 : goal.invariant_of-self-then-place-len-3
 invariant_of-self-then-place-len-3 c =
-    stands_set c.self.inside.entries.items c.self.inside.index.0 c.args.entry c.args.value c.index_mut.result.now c.index_mut.ensures.value c.self.invariant
+    stands_set c.self.inside.entries.items c.self.inside.index.0 c.self.inside.index.1 c.self.inside.doubles c.args.entry c.args.value c.index_mut.result.now c.index_mut.ensures.value c.self.invariant
 
 pub returns-then-place-len : goal.returns-then-place-len
 returns-then-place-len c =

@@ -18,4 +18,5 @@ invariant_of-self c =
       search rules,
       c.self.invariant.3,
       c.self.invariant.4,
+      c.self.invariant.5,
     )

@@ -2,7 +2,9 @@ use Rattle.std.proofs.Common.{◌≡◌, ◌∙◌, ℕ, Some, ap, rules, subst}
 use Rattle.std.specs.List.{position}
 use Rattle.std.specs.Str.{bytes_eq}
 use Rattle.sno_store.specs.inner.Hashes.{text_hash}
-use Rattle.sno_store.specs.inner.Indexed.{IsAt, IsFound, IsNoDouble}
+use Rattle.sno_store.specs.inner.Doubles.{text_place}
+use Rattle.sno_store.specs.inner.Indexed.{IsAt, IsNoDouble}
+use Rattle.sno_store.specs.inner.Paths.{at, end_of, IsFoundIn}
 use Rattle.sno_store.proofs.SymbolLaws.{name_here, no_name}
 use Rattle.sno_store.proofs.IndexLaws.{elsewhere, missed}
 use Rattle.sno_store.proofs.symbols.Symbols.place_of.Goals as goal
@@ -17,11 +19,11 @@ returns-then-is_at c =
 pub returns-in_err-place : goal.returns-in_err-place
 returns-in_err-place c =
     let texts = c.self.inside.texts.items in
-    let hashes = c.self.inside.index.0 in
-    let doubles = c.self.inside.index.1 in
-    let told : IsFound hashes doubles (text_hash c.args.name.now) c.find.result =
-    subst (λ h. IsFound hashes doubles h c.find.result) c.text_hash.ensures c.find.ensures in
-    let single : IsNoDouble texts doubles c.args.name.now = search rules in
+    let slots = c.self.inside.index.1 in
+    let given = text_place c.self.inside.doubles in
+    let told : IsFoundIn c.find.result (at slots (end_of slots (text_hash c.args.name.now)).slot) =
+    subst (λ h. IsFoundIn c.find.result (at slots (end_of slots h).slot)) c.text_hash.ensures c.find.ensures in
+    let single : IsNoDouble given texts c.args.name.now = search rules in
     let other : (i : ℕ) → c.find.result ≡ Some i → IsAt texts i c.args.name.now → ⊥ =
     elim c.match-find.branch [
       | in-Some+else-is_at w ↦ (let absent : IsAt texts w.in-Some.place c.args.name.now → ⊥ = search rules in
@@ -31,7 +33,7 @@ returns-in_err-place c =
     in
     c.from_residual.ensures
     ∙ no_name c.args.name.now texts
-    (missed text_hash texts hashes doubles c.args.name.now c.find.result c.self.invariant.3 told other single)
+    (missed given text_hash slots texts c.args.name.now c.find.result c.self.invariant.0 c.self.invariant.5 told other single)
     ∙ ap (position (bytes_eq c.args.name.now)) c.self.view_is
 
 pub returns : goal.returns

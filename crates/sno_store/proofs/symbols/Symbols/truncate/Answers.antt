@@ -1,8 +1,9 @@
 use Rattle.std.proofs.Common.{◌≡◌, ◌∙◌, ◌≤◌, ap, length, map, rules, subst, sym, take}
 use Rattle.sno_store.specs.inner.Hashes.{text_hash}
-use Rattle.sno_store.specs.inner.Indexed.{AreDistinct}
+use Rattle.sno_store.specs.inner.Doubles.{text_place}
+use Rattle.sno_store.specs.inner.Indexed.{AreDistinct, AreFound}
 use Rattle.sno_store.specs.inner.Symbols.{AreKeysOf}
-use Rattle.sno_store.proofs.IndexLaws.{distinct_cut, hashes_cut}
+use Rattle.sno_store.proofs.IndexLaws.{distinct_cut, found_cut, hashes_cut}
 use Rattle.sno_store.proofs.KeyLaws.{cut}
 use Rattle.sno_store.proofs.symbols.Symbols.truncate.Goals as goal
 
@@ -16,7 +17,10 @@ invariant_of-self c =
           (subst (AreKeysOf (take c.args.count texts)) (sym keys)
           (cut c.args.count texts c.self.inside.keys.items (c.self.invariant.1))),
       search rules,
-      hashes_cut text_hash c.args.count texts c.self.inside.index.0 _ c.self.invariant.3 c.truncate-2.ensures
+      hashes_cut text_hash c.args.count texts c.self.inside.index.0 _ c.self.invariant.3 c.truncate-2.ensures.hashes
           ∙ ap (map text_hash) (sym c.truncate.ensures.items),
       subst AreDistinct (sym c.truncate.ensures.items) (distinct_cut c.args.count texts c.self.invariant.4),
+      subst (λ slots. AreFound (text_place c.self.inside.doubles) text_hash slots c.truncate.new.self.items) (sym c.truncate-2.ensures.slots)
+          (subst (AreFound (text_place c.self.inside.doubles) text_hash c.self.inside.index.1) (sym c.truncate.ensures.items)
+          (found_cut (text_place c.self.inside.doubles) text_hash c.self.inside.index.1 c.args.count texts c.self.invariant.5)),
     )

@@ -31,8 +31,8 @@ returns c =
     let past : c.args.slot < place = omega (arith, is_node, c.requires.within) in
     let wide : c.args.slot < length mid = omega (arith, length-set ext place c.args.held, long, c.requires.within) in
     record {
-      all = divided old mid new c.args.self.now.doubles.items c.args.hashes.now c.args.slot c.args.held node place (c.end-end.result.left - 1) c.requires.live
+      each = λ i within. divided old mid new c.args.hashes.now c.args.slot c.args.held node place (c.end-end.result.left - 1) c.requires.live
           c.requires.here c.requires.few left lies past (omega (arith, c.requires.within)) (get_or_past {X = ℕ} old place 0 (omega (arith, is_node)))
           (get_or-set_same ext place c.args.held 0 inside) (λ t off. set_others ext place c.args.held t off ∙ same t)
-          (get_or-set_same mid c.args.slot c.in-Ok.link 0 wide ∙ link) (set_others mid c.args.slot c.in-Ok.link);
+          (get_or-set_same mid c.args.slot c.in-Ok.link 0 wide ∙ link) (set_others mid c.args.slot c.in-Ok.link) i;
     }
