@@ -1,5 +1,6 @@
 pub mod Begun
 pub mod Calling
 pub mod Given
+pub mod Naming
 pub mod Operands
 pub mod Targets

@@ -18,6 +18,7 @@ mod growing;
 mod instructions;
 mod made;
 mod matching;
+mod naming;
 mod operands;
 mod perform;
 mod replacement;

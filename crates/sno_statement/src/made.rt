@@ -2,6 +2,8 @@
 ghost use Rattle.std.specs.Prelude.{◌≡◌, ◌<◌, ◌-◌, None, Some, true, IfSome, map};
 ghost use Rattle.std.specs.List.{AllByRecursion};
 ghost use Rattle.sno_runtime.specs.Action.{gives};
+ghost use Rattle.sno_runtime.specs.Fields.{field_value};
+ghost use Rattle.sno_runtime.specs.Operators.{argument};
 ghost use Rattle.sno_runtime.specs.Runtime.{itself};
 ghost use Rattle.sno_runtime.specs.inner.Runtime.{Does, any};
 ghost use Rattle.sno_runtime.specs.Values.{shown, IsValueOf};
@@ -104,6 +106,17 @@ fn made_function(runtime: &Runtime, name: Name) -> Option<SymId>
     }
 }
 
+/// What the object that is the first argument holds in a field. It stands apart, so that a call does without its frame.
+#[inline(never)]
+fn field_of(runtime: &Runtime, function: SymId, arguments: &mut [Value]) -> Result<Value, Exit>
+    ensures { Does shown IsValueOf
+        (field_value function.0 (argument (map (shown runtime.now.nodes) arguments.old) 0))
+        runtime.now runtime.now result }
+{
+    let object = argument(arguments, 0);
+    field_value(runtime, function, &object)
+}
+
 /// What a call of a function gives that the program has made: a constructor makes an object, a field is what its object
 /// holds there, and a defined function is called. The arguments are moved out of their places.
 #[inline(always)]
@@ -125,8 +138,7 @@ pub(crate) fn call_made<R: Source, W: Sink, S: Calls<R, W>>(
         return construct(runtime, number, arguments);
     }
     if runtime.store().is_field(function) {
-        let object = argument(arguments, 0);
-        return field_value(runtime, function, &object);
+        return field_of(runtime, function, arguments);
     }
     scope.call(runtime, reader, writer, function, arguments)
 }

@@ -1,7 +1,5 @@
-use Rattle.std.proofs.Common.{map, sym, subst, ◌∙◌}
-use Rattle.sno_runtime.specs.Fields.{field_value}
-use Rattle.sno_runtime.specs.inner.Runtime.{Does}
-use Rattle.sno_runtime.specs.Values.{Value as Shown, shown, IsValueOf}
+use Rattle.std.proofs.Common.{map, sym, ◌∙◌}
+use Rattle.sno_runtime.specs.Values.{shown}
 use Rattle.sno_statement.proofs.MadeCalls.{constructed_runs, field_runs, defined_runs}
 use Rattle.sno_statement.proofs.made.call_made.Goals as goal
 
@@ -14,12 +12,9 @@ returns-in-Some g c =
 
 pub returns-then-is_field : goal.returns-then-is_field
 returns-then-is_field g c =
-    let nodes = c.args.runtime.now.nodes in
-    let object = c.argument-object.ensures.value nodes in
-    field_runs (g.S.Calls.caller c.args.scope.now) c.args.function.0 (map (shown nodes) c.args.arguments.now)
-    c.args.runtime.now c.args.runtime.now _ c.field_value.result c.requires.within.ready (sym (rw c.store-2.ensures at c.is_field.ensures) ∙ c.if-is_field.true)
-    (subst (λ (v : Shown). Does shown IsValueOf (field_value c.args.function.0 v) c.args.runtime.now c.args.runtime.now c.field_value.result)
-    object c.field_value.ensures)
+    field_runs (g.S.Calls.caller c.args.scope.now) c.args.function.0 (map (shown c.args.runtime.now.nodes) c.args.arguments.now)
+    c.args.runtime.now c.args.runtime.now _ c.field_of.result c.requires.within.ready (sym (rw c.store-2.ensures at c.is_field.ensures) ∙ c.if-is_field.true)
+    c.field_of.ensures
 
 pub returns : goal.returns
 returns g c =

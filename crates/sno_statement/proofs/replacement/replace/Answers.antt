@@ -1,18 +1,14 @@
-use Rattle.std.proofs.Common.{refl}
-use Rattle.sno_runtime.specs.Values.{shown, IsValueOf, Name}
-use Rattle.sno_runtime.specs.Action.{and_then}
-use Rattle.sno_runtime.specs.Variables.{reads}
-use Rattle.sno_statement.specs.Matches.{matches}
-use Rattle.sno_statement.specs.Statements.{by_text, pattern_value, replaces}
-use Rattle.sno_statement.proofs.RunningLaws.{does_runs}
-use Rattle.sno_statement.proofs.StatementLaws.{part_runs, name_runs}
+use Rattle.std.proofs.lemmas.Result.{err_from_is_err_and}
+use Rattle.sno_statement.proofs.CallingLaws.{still_in}
 use Rattle.sno_statement.proofs.replacement.replace.Goals as goal
 
-pub returns-in-Some : goal.returns-in-Some
-returns-in-Some g c =
-    let call = g.S.Calls.caller c.args.scope.now in
-    let target = c.in-Some.target in
-    let gave = does_runs shown IsValueOf _ _ _ _ _ c.requires.ready ((rw c.code.ensures at c.in-Some.ensures) call) in
-    let code = g.S.Calls.code c.args.scope.now in
-    part_runs _ gave (name_runs (λ t. and_then (reads t) (by_text (λ text. and_then (pattern_value code call c.args.pattern)
-    (λ p. and_then (matches code call p text) (replaces code call t text c.args.object))))) (Name target) target refl c.replace_in.ensures)
+pub returns-in_err-target : goal.returns-in_err-target
+returns-in_err-target g c =
+    let p = err_from_is_err_and c.from_residual.result c.from_residual.ensures.1 in
+    rw (p.1, p.2) (c.in_err-target.ensures _)
+
+pub replace_in-requires : goal.replace_in-requires
+replace_in-requires g c = still_in _ _ _ _ _ c.requires c.in_ok-target.ensures.calls c.in_ok-target.ensures.ready
+
+pub returns : goal.returns
+returns g c = c.in_ok-target.ensures.leads _ _ _ _ c.replace_in.ensures

@@ -14,35 +14,20 @@ returns-in_err-span g c =
     let p = err_from_is_err_and c.from_residual.result c.from_residual.ensures.1 in
     answered (p.1 ∙ ap Err p.2) (part_ended _ c.in_err-span.ensures.does)
 
-pub object_of-requires : goal.object_of-requires
-object_of-requires g c = still_in _ _ _ _ _ c.requires.within c.in_ok-span.ensures.does.calls c.in_ok-span.ensures.does.ready
+pub put_object-requires-clause-order : goal.put_object-requires-clause-order
+put_object-requires-clause-order g c = c.in_ok-span.ensures.does.answer.0
 
-pub returns-in_err-value : goal.returns-in_err-value
-returns-in_err-value g c =
-    let p = err_from_is_err_and c.from_residual-in_err-value.result c.from_residual-in_err-value.ensures.1 in
-    let lost = c.in_err-value.ensures in
-    answered (p.1 ∙ ap Err p.2) (part_runs _ c.in_ok-span.ensures.does (part_ended _ lost))
+pub put_object-requires-clause-inside : goal.put_object-requires-clause-inside
+put_object-requires-clause-inside g c = subst (λ (text : List ℕ). c.in_ok-span.span.1 ≤ length text) c.requires.text c.in_ok-span.ensures.does.answer.1
 
-pub put_value-requires-clause-order : goal.put_value-requires-clause-order
-put_value-requires-clause-order g c = c.in_ok-span.ensures.does.answer.0
+pub put_object-requires-clause-short : goal.put_object-requires-clause-short
+put_object-requires-clause-short g c = subst (λ (text : List ℕ). length text ≤ 1_000_000) c.requires.text c.requires.subject
 
-pub put_value-requires-clause-within : goal.put_value-requires-clause-within
-put_value-requires-clause-within g c = subst (λ (text : List ℕ). c.in_ok-span.span.1 ≤ length text) c.requires.text c.in_ok-span.ensures.does.answer.1
-
-pub put_value-requires-clause-short : goal.put_value-requires-clause-short
-put_value-requires-clause-short g c = subst (λ (text : List ℕ). length text ≤ 1_000_000) c.requires.text c.requires.subject
-
-pub put_value-requires-clause-value : goal.put_value-requires-clause-value
-put_value-requires-clause-value g c = c.in_ok-value.ensures.answer
-
-pub put_value-requires-clause-sound : goal.put_value-requires-clause-sound
-put_value-requires-clause-sound g c = c.in_ok-value.ensures.ready.writes
+pub put_object-requires-clause-within : goal.put_object-requires-clause-within
+put_object-requires-clause-within g c = still_in _ _ _ _ _ c.requires.within c.in_ok-span.ensures.does.calls c.in_ok-span.ensures.does.ready
 
 pub returns : goal.returns
-returns g c =
-    let object = c.in_ok-value.ensures in
-    let put = rw (← c.requires.text) at (c.put_value.ensures _ object.ready.reads) in
-    part_runs _ c.in_ok-span.ensures.does (part_runs _ object put)
+returns g c = part_runs _ c.in_ok-span.ensures.does (rw (← c.requires.text) at c.put_object.ensures)
 
 pub put_text-requires-clause-order : goal.put_text-requires-clause-order
 put_text-requires-clause-order g c = c.in_ok-span.ensures.does.answer.0
