@@ -60,7 +60,7 @@ begun anchored limit = new_runtime (listing_keywords anchored 1_000_000 limit)
 abbrev pub Nothing : Feed → Type 0
 Nothing f = f.left ≡ Some []
 
-nothing_given : (f g : Feed) (given : List ℕ) → Nothing f → Consumes f.left g.left given → given ≡ []
+pub nothing_given : (f g : Feed) (given : List ℕ) → Nothing f → Consumes f.left g.left given → given ≡ []
 nothing_given f g given none consumed = by f.left g.left none consumed
   where
     by : (before after : Option (List ℕ)) → before ≡ Some [] → Consumes before after given → given ≡ []
@@ -84,7 +84,7 @@ abbrev pub to_end : Program → Pattern → List ℕ → Bool → ℕ → List A
 to_end program p subject anchored limit =
     left (lists_event subject) (answers program (calls program)) (λ given. trace p subject anchored limit given) (gives tt) limit
 
-line_of_event : (program : Program) (subject : List ℕ) (given : List Answer) (event : Told) (way : List Pending)
+pub line_of_event : (program : Program) (subject : List ℕ) (given : List Answer) (event : Told) (way : List Pending)
     (next : List Answer → Action Unit) → is_value event ≡ false
     → after_one (lists_event subject) (answers program (calls program)) next given (in_trace event way)
     ≡ and_then (listed subject (in_trace event way)) (λ done. next given)

@@ -1,5 +1,7 @@
 pub mod ListingLaws
 pub mod EnumerationLaws
+pub mod LineLaws
+pub mod NextLaws
 pub mod JobLaws
 pub mod Ranges
 pub mod RunLaws

@@ -3,6 +3,7 @@ pub mod Meaning
 pub mod Running
 pub mod Machine
 pub mod Listing
+pub mod Enumeration
 pub mod Turns
 pub mod Jobs
 pub mod inner

@@ -2,3 +2,4 @@ pub mod Calling
 pub mod Endings
 pub mod Running
 pub mod Told
+pub mod Telling

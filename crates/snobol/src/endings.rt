@@ -140,6 +140,18 @@ impl<'a> Ending<'a> {
     }
 }
 
+/// Tells how a listing ended, as the program does: `errors` gets the line, if there is one, and the status is answered.
+/// That `errors` fails changes nothing. It takes no memory.
+pub fn tell_ways<E: Sink>(outcome: &WaysOutcome, errors: &mut E) -> u8
+    requires { (E.drain errors.old).broken ≡ false }
+    ensures status { result ≡ (listed outcome.now).status }
+    ensures line { Tells (E.drain errors.old).taken (E.drain errors.new).taken
+        (E.drain errors.new).broken (listed outcome.now).line }
+{
+    let ending = Ending::listed(outcome);
+    ending.tell(errors)
+}
+
 /// Writes a line.
 fn put_line<E: Sink>(errors: &mut E, line: FaultLine<'_>) -> Result<(), DeviceFault>
     requires { (E.drain errors.old).broken ≡ false }

@@ -4,13 +4,15 @@
 //! `job` does what the command line asks for, and `endings` tells how it ended. `execution` goes through the
 //! statements of a run, each of which `sno_statement` performs. `calls` performs the statements of a function that the
 //! program defines, and `scope` is what statements are performed in: the program itself, or a call. `enumeration` is
-//! the listing of a pattern, and `listing` its loop over events; `machine` evaluates and matches, call after call. `laws`
-//! has what is true of every program's meaning.
+//! the listing of a pattern, and `listing` its loop over events; `enumerator` is a listing that stays, whose next line
+//! `telling` tells; `machine` evaluates and matches, call after call. `laws` has what is true of every program's
+//! meaning.
 #![tactic(auto)]
 
 mod calls;
 mod endings;
 mod enumeration;
+mod enumerator;
 mod execution;
 mod job;
 mod laws;
@@ -18,8 +20,11 @@ mod listing;
 mod machine;
 mod no_input;
 mod scope;
+mod telling;
 
+pub use endings::tell_ways;
 pub use enumeration::{WaysOutcome, ways};
+pub use enumerator::Ways;
 pub use execution::{Outcome, run};
 pub use job::perform;
 pub use laws::{chains_end, sessions_end};

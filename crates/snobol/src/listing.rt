@@ -59,7 +59,7 @@ pub(crate) fn list_ways<R: Source, W: Sink, S: Calls<R, W>>(
 }
 
 /// Writes the line of an event, which then takes effect.
-fn list_event<W: Sink>(
+pub(crate) fn list_event<W: Sink>(
     runtime: &mut Runtime,
     subject: &[u8],
     event: Event,
