@@ -1,69 +1,20 @@
 // Opens the page in a browser without a window, and compares what it shows. usage: node browser.mjs BROWSER PAGE
-import { spawn } from 'node:child_process';
 import fs from 'node:fs';
-import os from 'node:os';
-import path from 'node:path';
 import { pathToFileURL } from 'node:url';
+import { browser_of } from './browsers.mjs';
 
 const [program, page] = process.argv.slice(2);
-
-// The browser, which is spoken to through two pipes: a text of JSON and a 0 behind it.
-class Browser {
-  constructor() {
-    this.folder = fs.mkdtempSync(path.join(os.tmpdir(), 'snobol4-browser-'));
-    const words = ['--headless', '--disable-gpu', '--no-first-run', '--disable-dev-shm-usage', '--remote-debugging-pipe', `--user-data-dir=${this.folder}`];
-    if (process.getuid?.() === 0) words.push('--no-sandbox');
-    this.process = spawn(program, words, { stdio: ['ignore', 'ignore', 'ignore', 'pipe', 'pipe'] });
-    Object.assign(this, { count: 0, waiting: new Map(), rest: '' });
-    this.process.stdio[4].on('data', data => {
-      const texts = (this.rest + data).split('\0');
-      this.rest = texts.pop();
-      for (const text of texts) this.hear(JSON.parse(text));
-    });
-  }
-
-  hear({ id, result, error }) {
-    const [resolve, reject] = this.waiting.get(id) ?? [];
-    this.waiting.delete(id);
-    if (error) reject?.(new Error(error.message));
-    else resolve?.(result);
-  }
-
-  call(method, params = {}) {
-    const id = ++this.count;
-    this.process.stdio[3].write(`${JSON.stringify({ id, method, params, sessionId: this.session })}\0`);
-    return new Promise((resolve, reject) => this.waiting.set(id, [resolve, reject]));
-  }
-
-  async open(url) {
-    const { targetId } = await this.call('Target.createTarget', { url });
-    this.session = (await this.call('Target.attachToTarget', { targetId, flatten: true })).sessionId;
-  }
-
-  async tell(expression) {
-    const { result, exceptionDetails } = await this.call('Runtime.evaluate', { expression, awaitPromise: true, returnByValue: true });
-    if (exceptionDetails) throw new Error(exceptionDetails.exception?.description ?? exceptionDetails.text);
-    return result.value;
-  }
-
-  async end() {
-    const ended = new Promise(resolve => this.process.once('exit', resolve));
-    this.session = undefined;
-    this.call('Browser.close').catch(() => {});
-    await ended;
-    fs.rmSync(this.folder, { recursive: true, force: true, maxRetries: 5 });
-  }
-}
 
 function same(name, came, wanted) {
   const [one, other] = [came, wanted].map(each => JSON.stringify(each));
   console.log(one === other ? `ok ${name}` : `not ok ${name}: ${one?.slice(0, 300)} where ${other.slice(0, 300)} is wanted`);
 }
 
-const browser = new Browser();
+const browser = browser_of(program);
 const own = pathToFileURL(page).href;
 const link = fields => `${own}#${new URLSearchParams(fields)}`;
 const text = id => browser.tell(`document.getElementById('${id}').innerText.trim()`);
+const press = (id, keys) => browser.tell(`void document.getElementById('${id}').dispatchEvent(new KeyboardEvent('keydown', ${JSON.stringify({ ...keys, bubbles: true })}))`);
 const sleep = time => new Promise(resolve => setTimeout(resolve, time));
 // Waits up to three minutes until the condition holds. What is asked while a page goes may never be answered, so it is asked again.
 async function soon(condition) {
@@ -73,32 +24,54 @@ async function soon(condition) {
 }
 // Opens the page anew with these fields, and waits until it tells something.
 async function show(fields, told = fields.tab === 'program' ? 'run-told' : 'ways-told') {
-  await browser.call('Page.navigate', { url: 'about:blank' });
-  await browser.call('Page.navigate', { url: link(fields) });
+  await browser.open('about:blank');
+  await browser.open(link(fields));
   await soon(`document.readyState === 'complete' && (document.getElementById('${told}')?.innerText ?? '').trim() !== ''`);
 }
 
-// Each listing of the table, by the page's own module in a worker of the page.
+// What the page's own module answers to the calls, one behind the other, in a worker of the page. Texts are strings of bytes.
+const answers = calls => browser.tell(`(async () => {
+  const bytes_of = text => Uint8Array.from(text, letter => letter.charCodeAt(0));
+  const text_of = bytes => Array.from(bytes, byte => String.fromCharCode(byte)).join('');
+  const packed = new Blob([bytes_of(atob(document.getElementById('module').textContent.trim()))]);
+  const module = await WebAssembly.compile(await new Response(packed.stream().pipeThrough(new DecompressionStream('gzip'))).arrayBuffer());
+  const worker = new Worker(URL.createObjectURL(new Blob([document.getElementById('worker').textContent])));
+  const told = [];
+  for (const [name, options, ...texts] of ${JSON.stringify(calls)}) {
+    told.push(await new Promise(resolve => {
+      worker.onmessage = ({ data: { status, out, line } }) => resolve([status, text_of(out), line]);
+      worker.postMessage({ id: 0, module, name, words: [...texts.map(bytes_of), options] });
+    }));
+  }
+  return told;
+})()`);
+const read = file => fs.existsSync(file) ? fs.readFileSync(file, 'latin1') : '';
+
 async function listings() {
-  const [head, ...rows] = fs.readFileSync('cases/ways.tsv', 'utf8').trimEnd().split('\n').map(line => line.split('\t'));
+  const [head, ...rows] = read('cases/ways.tsv').trimEnd().split('\n').map(line => line.split('\t'));
   const at = Object.fromEntries(head.map((name, i) => [name, i]));
-  const asked = rows.map(row => [row[at.pattern], row[at.subject], ...row[at.mode].split(' ')]);
-  const came = await browser.tell(`(async () => {
-    const packed = Uint8Array.from(atob(document.getElementById('module').textContent.trim()), letter => letter.charCodeAt(0));
-    const module = await WebAssembly.compile(await new Response(new Blob([packed]).stream().pipeThrough(new DecompressionStream('gzip'))).arrayBuffer());
-    const worker = new Worker(URL.createObjectURL(new Blob([document.getElementById('worker').textContent])));
-    const told = [], encoder = new TextEncoder(), decoder = new TextDecoder();
-    for (const [pattern, subject, mode, steps = 1e6] of ${JSON.stringify(asked)}) {
-      const words = [encoder.encode(pattern), encoder.encode(subject), { anchor: mode === 'anchor', steps: Number(steps) }];
-      told.push(await new Promise(resolve => {
-        worker.onmessage = ({ data: { out, line } }) => resolve((decoder.decode(out) + line).trimEnd().replaceAll('\\n', '|'));
-        worker.postMessage({ id: 0, module, name: 'ways', words });
-      }));
-    }
-    return told;
-  })()`);
+  const came = await answers(rows.map(row => {
+    const [mode, steps = 1e6] = row[at.mode].split(' ');
+    return ['ways', { anchor: mode === 'anchor', steps: Number(steps) }, row[at.pattern], row[at.subject]];
+  }));
+  const lines = came.map(([, out, line]) => (out + line).trimEnd().replaceAll('\n', '|'));
   same('there are 2,000 listings and more', rows.length >= 2000, true);
-  same('each is that of the table', rows.filter((row, i) => came[i] !== row[at.lines]).map(row => `${row[at.group]} ${row[at.case]}`), []);
+  same('each is that of the table', rows.filter((row, i) => lines[i] !== row[at.lines]).map(row => `${row[at.group]} ${row[at.case]}`), []);
+}
+
+// The programs of a folder, each with its input, and which of them write something else than is wanted.
+async function programs(folder) {
+  const names = fs.readdirSync(folder).filter(each => each.endsWith('.sno')).map(each => `${folder}/${each.slice(0, -4)}`);
+  const came = await answers(names.map(name => ['run', {}, read(`${name}.sno`), read(`${name}.in`)]));
+  return [names, names.filter((name, i) => came[i][1] !== read(`${name}.out`))];
+}
+
+async function all_programs() {
+  const [examples, differing_examples] = await programs('examples'), [cases, differing_cases] = await programs('cases/programs');
+  same('there are 20 examples and more', examples.length >= 20, true);
+  same('each writes what is wanted', differing_examples, []);
+  same('there are 200 programs of the cases and more', cases.length >= 200, true);
+  same('and each of them', differing_cases, []);
 }
 
 async function pages() {
@@ -112,6 +85,12 @@ async function pages() {
   same('the search is drawn', (await text('tree')).split('\n').map(row => row.trim()), ['start 0', "'A' matches 0-1", '=> way 0 1', "'AB' matches 0-2", '=> way 0 2', 'exhausted']);
   await browser.tell(`document.querySelector('[data-move=next]').click(); document.querySelector('[data-move=step]').click()`);
   same('it is gone through', [await text('row-told'), await text('count')], ["The search backs up: 'AB' matches 0-2", '4 of 6']);
+  const counts = [];
+  for (const key of ['End', 'ArrowLeft', 'Home', 'w', 'ArrowDown', 'ArrowUp']) {
+    await press('tree', { key });
+    counts.push((await text('count')).split(' ')[0]);
+  }
+  same('and by the keys', counts, ['6', '5', '1', '3', '4', '3']);
   await show({ tab: 'ways', pattern: 'SUM . X', subject: '1+1', anchor: '1', statements: " SUM = '1' ('+' *SUM | '')" });
   same('a recursive pattern', (await text('list')).replace(/\s+/g, ' '), 'way 0 3 1+1 X = 1+1 way 0 1 1+1 X = 1');
   await show({ tab: 'ways', pattern: "'A", subject: 'A' });
@@ -124,16 +103,23 @@ async function pages() {
   same('its statement is marked', (await browser.tell(`document.querySelector('.here').innerText`)).trim(), "2   OUTPUT = 'A' + 1");
   same('and explained', (await text('why')).split('\n')[0], 'Error 1: data type');
   await show({ tab: 'program', text: 'L :(L)\nEND\n', limit: '1000000000000' }, 'listing');
-  await browser.tell(`document.getElementById('stop-run').click()`);
-  same('Stop ends it', await text('run-told'), 'Stopped.');
+  await browser.tell(`document.getElementById('stop-run').focus(); document.getElementById('stop-run').click()`);
+  same('Stop ends it, and hands on its focus', [await text('run-told'), await browser.tell('document.activeElement.id')], ['Stopped.', 'run']);
   await exercises();
-  await browser.call('Emulation.setDeviceMetricsOverride', { width: 380, height: 800, deviceScaleFactor: 1, mobile: false });
+  await browser.fit(380, 800);
   for (const tab of ['ways', 'program', 'exercise']) {
     await show({ tab, exercises: '11', answer: 'A'.repeat(200), pattern: "ARB . X ',' REM . Y", subject: 'one,two,three'.repeat(9), text: `${'*'.repeat(200)}\nEND\n`, view: 'search' }, { ways: 'ways-told', program: 'run-told', exercise: 'question' }[tab]);
     same(`nothing is wider than 380 pixels: ${tab}`, await browser.tell('document.documentElement.scrollWidth <= 380'), true);
   }
+  same('each button and field has a name', await browser.tell(NAMELESS), []);
   same('nothing is loaded from elsewhere', await browser.tell(`performance.getEntriesByType('resource').filter(each => !/^(blob|data):/.test(each.name)).map(each => each.name)`), []);
 }
+
+// The buttons and fields without letters in their names, as those hear them who don't see the page.
+const NAMELESS = `[...document.querySelectorAll('button, input, select, textarea, [tabindex]')].filter(each => {
+  const labels = [...each.labels ?? []].map(label => label.innerText).join(' ');
+  return !/[a-z]/i.test(each.ariaLabel ?? (labels || (each.matches('button') ? each.textContent : '')));
+}).map(each => each.outerHTML.slice(0, 60))`;
 
 // Answers by the names of their exercises, each with what is told of it. The right ones are those of docs/TUTORIAL.md.
 const ANSWERS = [
@@ -172,7 +158,9 @@ async function exercises() {
   same('and is asked', await text('question'), "(Chapter 1.) Which ways has 'AA' on AAAA, and in which order?");
   for (const [name, answer, told, first] of ANSWERS) {
     await show({ tab: 'exercise', exercises: names.indexOf(name), answer, ...(first && { 'first-answer': first }) }, 'question');
-    await browser.tell(`document.getElementById('check').click()`);
+    // (by the key for one of them)
+    if (name === '1') await press('answer', { key: 'Enter', ctrlKey: true });
+    else await browser.tell(`document.getElementById('check').click()`);
     await soon(`document.getElementById('exercise-told').innerText.trim() !== ''`);
     same(`exercise ${name}: ${told}`, await text('exercise-told'), told);
   }
@@ -184,9 +172,11 @@ const limit = setTimeout(() => {
   process.exit(1);
 }, 900_000);
 try {
+  await browser.begin();
   await browser.open(own);
   await soon(`document.readyState === 'complete' && document.getElementById('module') !== null`);
   await listings();
+  await all_programs();
   await pages();
 } catch (fault) {
   console.log(`not ok the browser answers: ${String(fault).split('\n')[0]}`);

@@ -63,6 +63,17 @@ def programs():
     for file in sorted(glob.glob('examples/*.sno')):
         name = file[:-len('.sno')]
         same(f'the example {os.path.basename(name)}', snobol4.run(read(file), read(f'{name}.in')), read(f'{name}.out'))
+    files, differing = sorted(glob.glob('cases/programs/*.sno')), []
+    for file in files:
+        name = file[:-len('.sno')]
+        try:
+            came = snobol4.run(read(file), read(f'{name}.in') if os.path.exists(f'{name}.in') else b'')
+        except snobol4.Fault as fault:
+            came = fault.output
+        if came != read(f'{name}.out'):
+            differing.append(name)
+    tell('there are 200 programs of the cases and more', len(files) >= 200, len(files))
+    tell('each writes what is wanted', not differing, differing)
 
 
 def parts():

@@ -337,7 +337,13 @@ async function shown(where, does) {
     if (fault instanceof Stopped) return;
     tell(where, fault.message, true);
   }
-  if (id <= asked) $(`stop-${where}`).disabled = true;
+  if (id <= asked) rest(where);
+}
+
+// (a button that has the focus would lose it when it is disabled)
+function rest(where) {
+  if (document.activeElement === $(`stop-${where}`)) $({ ways: 'pattern', run: 'run', exercise: 'check' }[where]).focus();
+  $(`stop-${where}`).disabled = true;
 }
 
 const FIELDS = { ways: ['pattern', 'subject', 'statements', 'steps'], program: ['text', 'input', 'limit'], exercise: ['exercises', 'first-answer', 'answer'] };
@@ -444,7 +450,7 @@ for (const where of ['ways', 'run', 'exercise']) {
   $(`stop-${where}`).onclick = () => {
     asked++;
     halt();
-    $(`stop-${where}`).disabled = true;
+    rest(where);
     tell(where, 'Stopped.', true);
   };
 }
@@ -455,9 +461,9 @@ $('exercises').onchange = () => {
   $('answer').value = $('first-answer').value = '';
   show_exercise();
 };
-$('program').onkeydown = event => {
-  if (event.key === 'Enter' && (event.ctrlKey || event.metaKey)) show_run();
-};
+for (const [panel, does] of [['program', show_run], ['exercise', check_answer]]) {
+  $(panel).onkeydown = ({ key, ctrlKey, metaKey }) => key === 'Enter' && (ctrlKey || metaKey) && does();
+}
 for (const button of document.querySelectorAll('[data-move]')) button.onclick = moves[button.dataset.move];
 $('place').oninput = () => go($('place').value - 1);
 $('search').onkeydown = event => {
