@@ -12,6 +12,7 @@ ghost use Rattle.sno_pattern.specs.Built.{Appends, Builds};
 ghost use Rattle.sno_pattern.specs.inner.Kinds.{nodes_of, node_of, IsBegun, IsTable};
 
 mod lookups;
+mod same;
 
 use crate::argument::Arg;
 use crate::byte_set::ByteSet;
