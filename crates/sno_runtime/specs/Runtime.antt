@@ -1,5 +1,5 @@
 -- What contracts see of a runtime, and what its functions did.
-use Rattle.std.specs.Prelude.{◌≡◌, ℕ, ◌<◌, ◌≤◌, true, false, List, [], ◌++◌, length, map, slice_index_or}
+use Rattle.std.specs.Prelude.{◌≡◌, ℕ, ◌<◌, ◌≤◌, ◌+◌, true, false, List, [], ◌++◌, length, map, slice_index_or}
 use Rattle.std.specs.Prelude.{None, Result, Ok, Err}
 use Rattle.std.specs.List.{AllByRecursion}
 use Rattle.sno_value.specs.declared.ids.PatId.{PatId}
@@ -15,15 +15,21 @@ use Rattle.sno_runtime.specs.World.{World, Keywords}
 
 pub record Runtime : Type 0 where
   pub nodes : List Node
+  -- how many nodes there would be besides, had each that was taken again been made anew
+  pub counted : ℕ
   pub store : Store
   -- the input that was read and is still held
   pub reading : Input
   pub keywords : Keywords
 
+-- how many nodes the program has made
+abbrev pub made_nodes : Runtime → ℕ
+made_nodes s = length s.nodes + s.counted
+
 -- the world that a state shows, where `more` input may come behind what is held
 abbrev pub world : Runtime → List ℕ → World
 world s more = record {
-  nodes = length s.nodes;
+  nodes = made_nodes s;
   symbols = s.store.symbols;
   values = map (shown s.nodes) s.store.values;
   objects = shown_objects s.nodes s.store.objects;

@@ -1,6 +1,7 @@
 -- Words of private clauses: what functions of the runtime did.
-use Rattle.std.specs.Prelude.{◌≡◌, ℕ, ℤ, true, false, List, [], ◌++◌}
+use Rattle.std.specs.Prelude.{◌≡◌, ◌<◌, ◌≤◌, ℕ, suc, ℤ, Bool, true, false, List, [], ◌++◌}
 use Rattle.std.specs.Prelude.{Option, None, Some, Result, Ok, Err}
+use Rattle.sno_value.specs.declared.ids.PatId.{PatId}
 use Rattle.sno_pattern.specs.declared.table.BuildError.{BuildError}
 use Rattle.sno_pattern.specs.declared.table.BuildError.TheVariants as refusal
 use Rattle.sno_pattern.specs.Table.{Node}
@@ -24,11 +25,12 @@ use Rattle.sno_io.specs.Devices.{Feed}
 use Rattle.sno_io.specs.Lines.{Input}
 use Rattle.sno_runtime.specs.World.{World, Keywords}
 use Rattle.sno_runtime.specs.Action.{Error, Got, Fails, Stops, Outcome, Action}
-use Rattle.sno_runtime.specs.Runtime.{Grows, IsReady, OnAnswer, OnGoing, Runtime, world}
+use Rattle.sno_runtime.specs.Runtime.{Grows, IsReady, made_nodes, OnAnswer, OnGoing, Runtime, world}
 
 abbrev pub new_runtime : Keywords → Runtime
 new_runtime keywords = record {
   nodes = first_patterns;
+  counted = 0;
   store = new_store;
   reading = record { held = []; told_end = false; stopped = None };
   keywords = keywords;
@@ -99,6 +101,13 @@ pub record Reads {X A : Type 0} (see : List Node → X → A) (fits : List Node 
 
 abbrev pub any : {X : Type 0} → List Node → X → Type 0
 any nodes x = Unit {0}
+
+-- a node that is there is counted as one more, or one must be made, or there are as many as there may be
+abbrev pub TellsAgain : Bool → PatId → Runtime → Runtime → Result (Option PatId) Exit → Type 0
+TellsAgain same last before after (Ok (Some id)) =
+    (made_nodes before < 4000000) × (same ≡ true) × (id ≡ last) × (after ≡ record before { counted = suc before.counted })
+TellsAgain same last before after (Ok None) = (made_nodes before < 4000000) × (after ≡ before)
+TellsAgain same last before after (Err e) = (4000000 ≤ made_nodes before) × (e ≡ Halt (HasError 9)) × (after ≡ before)
 
 -- how a run ends where a builder refuses
 abbrev pub exit_of : BuildError → Exit

@@ -1,4 +1,4 @@
-use Rattle.std.proofs.Common.{◌≡◌, ◌<◌, rules, arith, refl}
+use Rattle.std.proofs.Common.{◌≡◌, ◌<◌, arith, refl}
 use Rattle.std.proofs.Math.Facts.{to_z_pos}
 use mir.Syntax.{w64}
 use Rattle.std.proofs.lemmas.Result.{err_from_is_err_and}

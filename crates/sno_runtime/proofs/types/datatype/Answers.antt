@@ -1,4 +1,3 @@
-use Rattle.std.proofs.Common.{◌≡◌, rules}
 use Rattle.sno_runtime.proofs.TypeLaws.{type_given}
 use Rattle.sno_runtime.proofs.types.datatype.Goals as goal
 

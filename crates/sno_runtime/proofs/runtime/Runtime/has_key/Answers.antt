@@ -1,4 +1,3 @@
-use Rattle.std.proofs.Common.{◌≡◌}
 use Rattle.sno_runtime.proofs.Found.{keyed}
 use Rattle.sno_runtime.proofs.runtime.Runtime.has_key.Goals as goal
 

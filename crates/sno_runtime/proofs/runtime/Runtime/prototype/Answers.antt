@@ -1,4 +1,4 @@
-use Rattle.std.proofs.Common.{◌≡◌, ℕ, List, Bor, ◌∙◌, rules}
+use Rattle.std.proofs.Common.{ℕ, List, Bor, ◌∙◌}
 use Rattle.std.proofs.lemmas.Result.{err_from_is_err_and}
 use Rattle.sno_runtime.specs.Values.{shown}
 use Rattle.sno_runtime.proofs.ObjectOperations.{prototype_of_map}

@@ -1,4 +1,3 @@
-use Rattle.std.proofs.Common.{◌≡◌}
 use Rattle.sno_runtime.proofs.Found.{keyed, read_again}
 use Rattle.sno_runtime.proofs.runtime.Runtime.value_by_key.Goals as goal
 

@@ -1,11 +1,13 @@
 use Rattle.std.proofs.Common.{refl, ◌∷◌, []}
 use Rattle.std.proofs.lemmas.Result.{err_from_is_err_and}
-use Rattle.sno_runtime.proofs.Primitives.{primitive_made, primitive_refused}
+use Rattle.sno_runtime.proofs.Primitives.{primitive_behind, primitive_refused}
 use Rattle.sno_runtime.proofs.Stores.{known_grown}
-use Rattle.sno_runtime.proofs.runtime.Runtime.prim.Goals as goal
+use Rattle.sno_runtime.proofs.runtime.Runtime.prim_anew.Goals as goal
 
 pub returns : goal.returns
-returns c = rw (← c.self.view_is) (primitive_made _ _ _ _ _ c.self.invariant refl c.in_ok-id.ensures.good c.in_ok-id.ensures.ok)
+returns c =
+    primitive_behind _ _ _ _ _ _ _ _ c.self.invariant c.requires.room c.self.view_is c.keep_made.ensures.same c.keep_made.ensures.id
+    c.in_ok-id.ensures.good c.in_ok-id.ensures.ok
 
 pub returns-in_err-id : goal.returns-in_err-id
 returns-in_err-id c =
