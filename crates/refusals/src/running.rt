@@ -69,9 +69,18 @@ const LENT: Row = (
     Outcome::Ended,
 );
 
+/// Patterns in a statement that are made at each turn, of which parts are the same.
+const IN_LINE: Row = (
+    b" I = 0\nL I = LT(I,4) I + 1 :F(END)\n 'ABCD' TAB(REMDR(I,2)) LEN(1) . C *(C | 'C') . E\n OUTPUT = C E :(L)\nEND\n",
+    b"B\nAB\nBC\nAB\n",
+    Outcome::Ended,
+);
+
 /// Whether each program writes what it must and ends as it must, also where it is run again behind a refusal.
 pub(crate) fn holds(alloc: Global) -> Result<bool, AllocError> {
-    for row in [BRACKETS, FACTORIAL, INNER, RESTORED, ELEMENT, OBJECTS, LENT] {
+    for row in [
+        BRACKETS, FACTORIAL, INNER, RESTORED, ELEMENT, OBJECTS, LENT, IN_LINE,
+    ] {
         if !runs(alloc, row)? {
             return Ok(false);
         }

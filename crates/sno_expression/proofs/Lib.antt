@@ -1,3 +1,4 @@
+pub mod BuildingLaws
 pub mod Expressions
 pub mod FlatLaws
 pub mod Instructions
@@ -5,6 +6,7 @@ pub mod NumeralLaws
 pub mod QuickLaws
 pub mod StringLaws
 pub mod GrowingLaws
+pub mod MakingLaws
 pub mod ToldLaws
 pub mod ExaminingLaws
 pub mod InPlaceLaws

@@ -1,3 +1,4 @@
+pub mod Building
 pub mod Flat
 pub mod Forms
 pub mod Growing

@@ -5,12 +5,14 @@
 //! each with the symbol that it is likely to be. `in_place` reads tokens and runs the operation behind them at once,
 //! `told` tells what instructions give of numbers alone, and `alone` what some code gives that is a token or is told
 //! so, where `joined` joins strings; `quick` does what two numbers (`numerals`), an item (`items`) or a function that
-//! examines its arguments (`examining`) need, and `apply` any form. The loop over the instructions stands in `snobol`, since a
-//! call in their midst performs statements.
+//! examines its arguments (`examining`) need, and `apply` any form. `building` runs the instructions that make a pattern
+//! (`patterns`). The loop over all instructions stands in `sno_statement`, since a call in their midst performs
+//! statements.
 #![tactic(auto)]
 
 mod alone;
 mod apply;
+mod building;
 mod compile;
 mod examining;
 mod flat;
@@ -22,6 +24,7 @@ mod items;
 mod joined;
 mod names;
 mod numerals;
+mod patterns;
 mod quick;
 mod told;
 
@@ -30,6 +33,7 @@ pub use alone::{
     only_token, token_value, told_integer,
 };
 pub use apply::apply_instruction;
+pub use building::{begin, build, joins_patterns, makes_pattern};
 pub use compile::Compiler;
 pub use flat::{Flat, Roots};
 pub use forms::{Part, Wanted, name_of, value_of};

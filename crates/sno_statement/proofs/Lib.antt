@@ -9,6 +9,7 @@ pub mod Leads
 pub mod MadeCalls
 pub mod MatchLaws
 pub mod OperandLaws
+pub mod PatternLaws
 pub mod RunningLaws
 pub mod SessionLaws
 pub mod StatementLaws
