@@ -1,5 +1,6 @@
 /* The commands `ways` and `run` by the library's calls, for tests that run a program.
-   usage: library ways [--anchor] [--steps N] -- PATTERN SUBJECT, or library run FILE <INPUT */
+   usage: library ways [--anchor] [--steps N] -- PATTERN SUBJECT, or library run FILE <INPUT
+   Where it is compiled with BY_LINES, `ways` asks for one line after another. */
 #include <snobol4.h>
 #include <stdio.h>
 #include <stdlib.h>
@@ -22,6 +23,51 @@ static struct text word(char *given) {
     return text;
 }
 
+#ifdef BY_LINES
+/* Ends the program where a matcher tells other than it must. */
+static void must(bool holds) {
+    if (!holds) exit(99);
+}
+
+/* What a matcher gives and answers that is held by no listing, or behind the end of one. */
+static struct snobol4_told nothing_more(struct snobol4_matcher *matcher) {
+    static uint8_t other[256];
+    struct snobol4_told told;
+    snobol4_matcher_next(matcher, out, MOST, other, sizeof other, &told);
+    must(told.written == 0);
+    return told;
+}
+
+/* Each line finds too little room at first. The end is told again, and a matcher may be freed twice. */
+static void list(struct text pattern, struct text subject, bool anchored, uint32_t steps, struct snobol4_told *told) {
+    struct snobol4_matcher matcher = { 0 };
+    size_t room = 0;
+    must(nothing_more(&matcher).status == 64);
+    snobol4_matcher_new(pattern.bytes, pattern.size, subject.bytes, subject.size, anchored, steps, &matcher, line, sizeof line, told);
+    must(told->written == 0 && (told->status != 0 || matcher.held));
+    while (matcher.held) {
+        snobol4_matcher_next(&matcher, out, room, line, sizeof line, told);
+        room = told->status == 7 ? 2 * room + 1 : 0;
+        must(told->status != 7 || (told->written == 0 && told->told == 0));
+        fwrite(out, 1, told->written, stdout);
+        if (told->status != 7 && (told->status != 0 || told->written == 0)) break;
+    }
+    if (matcher.held) {
+        uint32_t again = nothing_more(&matcher).status;
+        must(again == told->status || again == 6 || told->status == 6);
+    }
+    for (int times = 0; times < 2; times++) {
+        snobol4_matcher_free(&matcher);
+        must(!matcher.held && nothing_more(&matcher).status == 64);
+    }
+    told->written = 0;
+}
+#else
+static void list(struct text pattern, struct text subject, bool anchored, uint32_t steps, struct snobol4_told *told) {
+    snobol4_ways(pattern.bytes, pattern.size, subject.bytes, subject.size, anchored, steps, out, MOST, line, sizeof line, told);
+}
+#endif
+
 static void list_ways(char **words, struct snobol4_told *told) {
     bool anchored = false;
     uint32_t steps = 1000000;
@@ -30,8 +76,7 @@ static void list_ways(char **words, struct snobol4_told *told) {
         else if (strcmp(*words, "--steps") == 0) steps = (uint32_t)strtoul(*++words, NULL, 10);
         else exit(64);
     }
-    struct text pattern = word(words[1]), subject = word(words[2]);
-    snobol4_ways(pattern.bytes, pattern.size, subject.bytes, subject.size, anchored, steps, out, MOST, line, sizeof line, told);
+    list(word(words[1]), word(words[2]), anchored, steps, told);
 }
 
 static void run(const char *file, struct snobol4_told *told) {

@@ -3,6 +3,7 @@ import ctypes
 import glob
 import itertools
 import os
+import resource
 import subprocess
 import sys
 import tempfile
@@ -141,6 +142,48 @@ def rooms():
         tell(f'rooms of each size for {name}', not wrong, wrong[:1])
 
 
+def matchers():
+    """Listings that stay: their lines one after another, rooms that are too small, and the end."""
+    lib, told, line = snobol4._lib, snobol4._Told(), ctypes.create_string_buffer(99)
+
+    def begin(pattern, subject, steps=1_000_000_000):
+        matcher = snobol4._Matcher()
+        lib.snobol4_matcher_new(pattern, len(pattern), subject, len(subject), False, steps, matcher, line, 99, told)
+        return matcher
+
+    def ask(matcher, room=99):
+        out = ctypes.create_string_buffer(b'#' * 99, 99)
+        lib.snobol4_matcher_next(matcher, out, room, line, 99, told)
+        whole = out.raw[:told.written].ljust(99, b'#') == out.raw
+        return told.status, out.raw[:told.written] if whole else out.raw, ctypes.string_at(line, told.told)
+
+    many, two = begin(b'ARB ' * 20, b'A' * 200), begin(b'LEN(1)', b'AB')
+    same('a first line of a thousand million', ask(many), (0, b'way 0 0\n', b''))
+    same('a line of another listing', [ask(two), ask(many)], [(0, b'way 0 1\n', b''), (0, b'way 0 1\n', b'')])
+    lib.snobol4_matcher_free(many)
+    same('a listing that is let go', ask(many), (64, b'', b''))
+    same('a line that finds no room waits', [ask(two, room) for room in (0, 1, 7, 8)], [(7, b'', b'')] * 3 + [(0, b'way 1 2\n', b'')])
+    same('the end is told again', [ask(two) for _ in range(3)], [(0, b'exhausted\n', b''), (0, b'', b''), (0, b'', b'')])
+    lib.snobol4_matcher_free(two)
+    lib.snobol4_matcher_free(two)
+    wrong = begin(b"'A' *LEN('X')", b'A')
+    same('an error is told again', [ask(wrong) for _ in range(2)], [(1, b'', b'snobol4: error 1\n')] * 2)
+    lib.snobol4_matcher_free(wrong)
+    same('a refused pattern is not held', (begin(b'(', b'A').held, told.status), (False, 2))
+    same('nor one with too many steps', (begin(b"'A'", b'A', 1_000_000_001).held, told.status), (False, 64))
+    lines = snobol4.lines('ARB ARB', 'A' * 200, steps=1_000_000_000)
+    next(lines)
+    lines.close()
+    same('a generator that is closed has no more', list(lines), [])
+    before = resource.getrusage(resource.RUSAGE_SELF).ru_maxrss
+    for _ in range(500):
+        lines = snobol4.lines('ARB', 'A' * 1_000_000)
+        next(lines)
+        lines.close()
+    more = resource.getrusage(resource.RUSAGE_SELF).ru_maxrss - before
+    tell('listings that are let go give their memory back', more < 100_000, f'they take {more} KB more')
+
+
 def threads():
     """Calls at once in four threads."""
     wanted, came = [list(snobol4.ways('ARB ARB', 'A' * 20))] * 4, []
@@ -175,5 +218,5 @@ def commands():
             same(f'the command {" ".join(os.path.basename(word) for word in words)}', came, wanted)
 
 
-for test in (listings, programs, parts, faults, rooms, threads, commands):
+for test in (listings, programs, parts, faults, rooms, matchers, threads, commands):
     test()

@@ -16,6 +16,7 @@ where a repository has it: built, and then shipped.
 from __future__ import annotations
 
 import argparse
+import contextlib
 import ctypes
 import os
 import re
@@ -80,6 +81,10 @@ class _Told(ctypes.Structure):
     _fields_ = [('status', ctypes.c_uint32), ('written', ctypes.c_size_t), ('told', ctypes.c_size_t)]
 
 
+class _Matcher(ctypes.Structure):
+    _fields_ = [('search', ctypes.c_void_p), ('held', ctypes.c_bool)]
+
+
 def _library() -> ctypes.CDLL:
     here = os.path.dirname(os.path.abspath(__file__))
     places = ['.', '../../..', '../../../lib', '../../crates/snobol4_c/out', '../../bin']
@@ -88,14 +93,18 @@ def _library() -> ctypes.CDLL:
     file = named or next((each for each in files if os.path.exists(each)), 'libsnobol4.so')
     library = ctypes.CDLL(file)
     text, room = [ctypes.c_char_p, ctypes.c_size_t], [ctypes.c_void_p, ctypes.c_size_t]
+    matcher = ctypes.POINTER(_Matcher)
     for name, words in (
         ('snobol4_ways', [*text, *text, ctypes.c_bool, ctypes.c_uint32, *room]),
+        ('snobol4_matcher_new', [*text, *text, ctypes.c_bool, ctypes.c_uint32, matcher]),
+        ('snobol4_matcher_next', [matcher, *room]),
         ('snobol4_run', [*text, *text, ctypes.c_uint64, ctypes.c_uint32, *room]),
         ('snobol4_check', text),
         ('snobol4_list', [*text, ctypes.c_uint32, *room]),
     ):
         call = getattr(library, name)
         call.argtypes, call.restype = [*words, *room, ctypes.POINTER(_Told)], None
+    library.snobol4_matcher_free.argtypes, library.snobol4_matcher_free.restype = [matcher], None
     return library
 
 
@@ -136,21 +145,29 @@ def _raise(status: int, line: str, output: Text) -> NoReturn:
     raise Fault(status, line or 'a number is out of its range, or a text is not UTF-8', output)
 
 
+def _next(matcher: _Matcher, room: int) -> tuple[int, bytes, str, int]:
+    """What the library gives of a listing: the status, the lines, what went wrong, and the room that was needed."""
+    while True:
+        status, wrote, line = _call('snobol4_matcher_next', matcher, room=room)
+        if status != NO_ROOM:
+            return status, wrote, line, room
+        room *= 8
+
+
 def lines(pattern: Text, subject: Text, anchor: bool = False, steps: int = STEPS) -> Generator[str, None, None]:
     """The lines of `snobol4 ways` one after another, the last of which tells how the search ended.
 
-    No more is searched than is asked for, but for a few times as much: where the room for the lines is full, the search begins
-    again with eight times as much."""
-    room, told = 1 << 9, 0
-    while True:
-        status, wrote, line = _call('snobol4_ways', _bytes(pattern), _bytes(subject), anchor, steps, room=room)
-        end = wrote.rfind(b'\n') + 1
-        for each in wrote[told:end - 1].split(b'\n') if end > told else ():
-            yield each.decode(errors='surrogateescape')
-        told = max(told, end)
-        if status != NO_ROOM or len(wrote) < room:
-            break
-        room *= 8
+    No more is searched than is asked for, and nothing is searched twice."""
+    matcher, room = _Matcher(), 1 << 9
+    try:
+        status, _, line = _call('snobol4_matcher_new', _bytes(pattern), _bytes(subject), anchor, steps, matcher)
+        while not status:
+            status, wrote, line, room = _next(matcher, room)
+            yield from wrote.decode(errors='surrogateescape').split('\n')[:-1]
+            if not wrote:
+                break
+    finally:
+        _lib.snobol4_matcher_free(matcher)
     if status:
         _raise(status, line, '')
 
@@ -168,9 +185,15 @@ def ways(pattern: Text, subject: Text, anchor: bool = False, steps: int = STEPS)
     >>> list(ways("LEN(1) $ X LEN(1) . Y", 'AB'))
     [Way(start=0, end=2, pending=(Part(name='Y', start=1, end=2),), sets=(Part(name='X', start=0, end=1),))]
     """
+    with contextlib.closing(lines(pattern, subject, anchor, steps)) as told:
+        yield from _ways(told)
+
+
+def _ways(told: Iterator[str]) -> Iterator[Way]:
+    """The ways that these lines tell."""
     sets: list[Part] = []
     written = 0
-    for line in lines(pattern, subject, anchor, steps):
+    for line in told:
         # What is assigned to OUTPUT stands behind the line that tells so.
         if written:
             written -= len(line.encode(errors='surrogateescape')) + 1

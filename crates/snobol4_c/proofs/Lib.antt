@@ -1,1 +1,3 @@
+mod Searches
 mod Tellings
+pub mod Values

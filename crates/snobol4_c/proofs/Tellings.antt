@@ -1,5 +1,5 @@
 -- How reports are told.
-use Rattle.std.proofs.Common.{◌≡◌, ◌≤◌, ◌<◌, ◌++◌, ◌⊎◌, inl, inr, Option, Some, None, codes, decimal, length, [], Bool, true, false, List, ℕ, refl, subst, ◌∙◌}
+use Rattle.std.proofs.Common.{◌≡◌, ◌≤◌, ◌<◌, ◌++◌, inl, inr, Option, Some, None, codes, decimal, length, [], Bool, true, false, List, ℕ, refl, subst, ◌∙◌}
 use Rattle.snobol.specs.Jobs.{Report}
 use Rattle.std.proofs.lemmas.Bool.{cases_lt}
 use Rattle.sno_listing.specs.Report.{IsReported}

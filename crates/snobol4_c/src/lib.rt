@@ -1,25 +1,35 @@
 //! The interpreter as functions for C and for WebAssembly, whose callers have numbers and memory.
 //!
 //! A caller lends the bytes of the texts, and two rooms: for what is written, and for the line that tells what went wrong. What
-//! doesn't fit ends the call as a writer that fails does. Nothing is kept from call to call.
+//! doesn't fit ends the call as a writer that fails does. Nothing is kept from call to call but by a matcher, whose owner is the
+//! caller.
 #![tactic(auto)]
 
 ghost use Rattle.std.specs.Borrow.{Bor};
-ghost use Rattle.std.specs.Prelude.{◌≡◌, ◌≤◌, ◌<◌, [], List, ℕ};
+ghost use Rattle.std.specs.Prelude.{◌≡◌, ◌≤◌, ◌<◌, [], List, ℕ, true, false, Option, None, Some, IfSome, IsSome};
 ghost use Rattle.std.specs.Str.{IsUtf8};
 ghost use Rattle.sno_io.specs.declared.jobs.Job.TheVariants as job;
 ghost use Rattle.snobol4_c.specs.Calls.{IsDoneIn, IsListedIn, IsRefusedIn};
+ghost use Rattle.snobol4_c.specs.Searches.{GivesIn, IsBegunIn, IsNotBegunIn, IsNothingIn};
 
+mod handle;
 mod input;
 mod listing;
+mod loose;
 mod room;
+mod search;
 #[cfg(test)]
 mod tests;
 mod work;
 
+pub use handle::Handle;
 use listing::tell_listing;
+use loose::Loose;
+pub use search::Search;
+use search::begin;
 use snobol::{Job, Limits};
 use std::alloc::Global;
+use std::mem::replace;
 use work::{obey, refuse};
 
 /// The most statements of a run.
@@ -41,6 +51,114 @@ pub struct Told {
     pub written: usize,
     /// How many bytes were written of the line that tells what went wrong.
     pub told: usize,
+}
+
+/// A listing that stays from call to call, or none: before the first call it is all zeros. It isn't `Drop`, so no call can
+/// let go of a listing but by taking it out.
+#[repr(C)]
+pub struct Matcher {
+    /// The listing's address.
+    handle: Handle,
+    /// Whether there is one.
+    held: bool,
+    ghost live: { held ≡ true → IsSome handle.value },
+    ghost free: { held ≡ false → handle.value ≡ None },
+}
+
+impl Matcher {
+    /// Takes the listing out, which leaves none.
+    fn take(&mut self, alloc: Global) -> Option<Box<Search>>
+        ensures none { result ≡ None → self.old.held ≡ false }
+        ensures some { IfSome result (λ search. (self.old.held ≡ true) × (self.old.handle.value ≡ Some search.value)) }
+        ensures left { self.new.held ≡ false }
+    {
+        let none = Matcher {
+            handle: Handle::none(),
+            held: false,
+        };
+        let Matcher { handle, held } = replace(self, none);
+        if !held {
+            handle.gone();
+            return None;
+        }
+        Some(handle.into_loose(alloc).into_box())
+    }
+
+    /// Puts a listing in the place of none.
+    fn put(&mut self, search: Box<Search>)
+        requires { self.old.held ≡ false }
+        ensures held { self.new.held ≡ true }
+        ensures value { self.new.handle.value ≡ Some search.value }
+    {
+        let some = Matcher {
+            handle: Handle::of(Loose::of(search)),
+            held: true,
+        };
+        let Matcher { handle, held: _ } = replace(self, some);
+        handle.gone();
+    }
+}
+
+/// Begins a listing that stays, of what `snobol4_ways` lists. Status 0 where there is one, which `snobol4_matcher_next` tells
+/// and `snobol4_matcher_free` lets go; else the matcher holds none. What it held before is let go.
+#[unsafe(no_mangle)]
+pub extern "C" fn snobol4_matcher_new(
+    alloc: Global,
+    pattern: &[u8],
+    subject: &[u8],
+    anchored: bool,
+    steps: u32,
+    matcher: &mut Matcher,
+    line: &mut [u8],
+    told: &mut Told,
+)
+    ensures done { steps ≤ 1_000_000_000 → IsUtf8 pattern.now → IsUtf8 subject.now
+        → IsBegunIn pattern.now subject.now anchored steps matcher.new.held matcher.new.handle.value line.old line.new told.new }
+    ensures steps { 1_000_000_000 < steps → IsNotBegunIn line.old line.new matcher.new.held told.new }
+    ensures pattern { ¬ (IsUtf8 pattern.now) → IsNotBegunIn line.old line.new matcher.new.held told.new }
+    ensures subject { ¬ (IsUtf8 subject.now) → IsNotBegunIn line.old line.new matcher.new.held told.new }
+{
+    let _before = matcher.take(alloc);
+    if steps > MOST_STEPS {
+        return refuse(told);
+    }
+    let (Ok(_), Ok(_)) = (str::from_utf8(pattern), str::from_utf8(subject)) else {
+        return refuse(told);
+    };
+    if let Some(search) = begin(alloc, pattern, subject, anchored, steps, line, told) {
+        matcher.put(search);
+    }
+}
+
+/// Gives the next line of a listing with what its event writes, all of it or nothing: at status 7 it finds no room and is given
+/// by the next call. Nothing is written behind the listing's end, which each call then tells.
+#[unsafe(no_mangle)]
+pub extern "C" fn snobol4_matcher_next(
+    alloc: Global,
+    matcher: &mut Matcher,
+    out: &mut [u8],
+    line: &mut [u8],
+    told: &mut Told,
+)
+    ensures gives { matcher.old.held ≡ true → GivesIn matcher.old.handle.value matcher.new.handle.value matcher.new.held
+        out.old out.new line.old line.new told.new }
+    ensures none { matcher.old.held ≡ false → IsNothingIn out.old out.new line.old line.new told.new }
+    ensures held { matcher.new.held ≡ matcher.old.held }
+{
+    let Some(mut search) = matcher.take(alloc) else {
+        return refuse(told);
+    };
+    search.give(alloc, out, line, told);
+    matcher.put(search);
+}
+
+/// Lets a listing go, at its end or before, and gives its memory back. Where none is held nothing is done.
+#[unsafe(no_mangle)]
+pub extern "C" fn snobol4_matcher_free(alloc: Global, matcher: &mut Matcher)
+    ensures held { matcher.new.held ≡ false }
+    ensures value { matcher.new.handle.value ≡ None }
+{
+    let _search = matcher.take(alloc);
 }
 
 /// Lists the ways in which a pattern matches a subject, as the command `ways`: at most 1,000,000,000 steps, and both texts

@@ -38,6 +38,13 @@ impl Held {
         }
     }
 
+    /// What was written.
+    pub fn into_bytes(self) -> Vec<u8>
+        ensures { result ≡ self.bytes }
+    {
+        self.bytes
+    }
+
     /// What was written, copied into the room that was lent; the count of bytes that found room.
     pub fn hand_over(&self, room: &mut [u8]) -> usize
         ensures { Holds room.old room.new result self.now.bytes.items }

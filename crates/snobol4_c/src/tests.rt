@@ -1,4 +1,6 @@
 //! Calls with ample room, with little and with none.
+mod matchers;
+
 use crate::{Told, snobol4_check, snobol4_list, snobol4_run, snobol4_ways};
 use std::process::Abort;
 

@@ -16,7 +16,7 @@ const NO_MEMORY: u32 = 6;
 const USAGE: u32 = 64;
 
 /// How long a line may be that tells what went wrong.
-const LONGEST_LINE: usize = 64;
+pub(crate) const LONGEST_LINE: usize = 64;
 
 /// Does a job over texts in memory.
 pub(crate) fn obey(
@@ -47,11 +47,12 @@ pub(crate) fn obey(
 }
 
 /// Tells a status and the line that was written, or that there was no memory to hold it.
-fn tell(errors: &Held, status: u8, line: &mut [u8], told: &mut Told)
+pub(crate) fn tell(errors: &Held, status: u8, line: &mut [u8], told: &mut Told)
     ensures told { errors.now.failed ≡ false
         → (told.new.status ≡ status) × Holds line.old line.new told.new.told errors.now.bytes.items }
     ensures untold { errors.now.failed ≡ true
         → (told.new.status ≡ 6) × (told.new.told ≡ 0) × (line.new ≡ line.old) }
+    ensures written { told.new.written ≡ told.old.written }
 {
     if errors.failed() {
         told.status = NO_MEMORY;
