@@ -8,7 +8,9 @@ pub mod StringLaws
 pub mod GrowingLaws
 pub mod MakingLaws
 pub mod ToldLaws
+pub mod WholeLaws
 pub mod ExaminingLaws
+pub mod FieldLaws
 pub mod InPlaceLaws
 pub mod FormLaws
 pub mod Ordered

@@ -4,3 +4,4 @@ pub mod Forms
 pub mod Growing
 pub mod InPlace
 pub mod Told
+pub mod Tokens

@@ -3,18 +3,21 @@
 //! `forms` says which operands each form of expression has. `compile` makes the code of one expression, instruction by
 //! instruction (`instruction`), and `flat` that of all expressions of a program; `names` are those that stand in it,
 //! each with the symbol that it is likely to be. `in_place` reads tokens and runs the operation behind them at once,
-//! `told` tells what instructions give of numbers alone, and `alone` what some code gives that is a token or is told
-//! so, where `joined` joins strings; `quick` does what two numbers (`numerals`), an item (`items`) or a function that
-//! examines its arguments (`examining`) need, and `apply` any form. `building` runs the instructions that make a pattern
-//! (`patterns`). The loop over all instructions stands in `sno_statement`, since a call in their midst performs
-//! statements.
+//! `told` tells what instructions give of numbers alone, and `alone` what some code gives that is a token or is told so;
+//! `joined` joins strings, `places` are items and fields, as values and as names, and `entries` those that are made.
+//! `quick` does what two numbers (`numerals`), an item (`items`), a field (`fields`) or a function that examines its
+//! arguments (`examining`) need, `tokens` what a function of the language gives of tokens, and `apply` any form.
+//! `building` runs the instructions that make a pattern (`patterns`). The loop over all instructions stands in
+//! `sno_statement`, since a call in their midst performs statements.
 #![tactic(auto)]
 
 mod alone;
 mod apply;
 mod building;
 mod compile;
+mod entries;
 mod examining;
+mod fields;
 mod flat;
 mod forms;
 mod growing;
@@ -25,16 +28,19 @@ mod joined;
 mod names;
 mod numerals;
 mod patterns;
+mod places;
 mod quick;
+mod tokens;
 mod told;
 
 pub use alone::{
-    calculated, first_operand, is_call, is_null_literal, last_form, only_item, only_name,
-    only_token, token_value, told_integer,
+    asks_field, calculated, first_operand, is_call, is_null_literal, last_form, only_token,
+    only_told, token_value, told_integer,
 };
 pub use apply::apply_instruction;
 pub use building::{begin, build, joins_patterns, makes_pattern};
 pub use compile::Compiler;
+pub use entries::{named_entry, names_item};
 pub use flat::{Flat, Roots};
 pub use forms::{Part, Wanted, name_of, value_of};
 pub use growing::{begins_with, joined_behind};
@@ -42,5 +48,7 @@ pub use in_place::{instruction_at, run_in_place};
 pub use instruction::{Failing, Instruction};
 pub use joined::only_joined;
 pub use names::Known;
+pub use places::{only_item, only_name};
 pub use quick::{Calculated, Form, Quick, attempt};
+pub use tokens::over_tokens;
 pub use told::calculate_alone;

@@ -71,6 +71,8 @@ fn calls_nothing(form: &Form) -> bool
         Form::Binary(_) => true,
         Form::Item => true,
         Form::ItemName => true,
+        Form::Plane => true,
+        Form::PlaneName => true,
         _ => false,
     }
 }

@@ -16,3 +16,11 @@ returns-in-Item c = λ is program part known.
 pub returns-in-ItemName : goal.returns-in-ItemName
 returns-in-ItemName c = λ is program part known.
     let of = rw c.in-ItemName.is at known in rw of.2.1 refl
+
+pub returns-in-Plane : goal.returns-in-Plane
+returns-in-Plane c = λ is program part known.
+    let of = rw c.in-Plane.is at known in rw of.2.1 refl
+
+pub returns-in-PlaneName : goal.returns-in-PlaneName
+returns-in-PlaneName c = λ is program part known.
+    let of = rw c.in-PlaneName.is at known in rw of.2.1 refl
