@@ -5,10 +5,11 @@
 //! each with the symbol that it is likely to be. `in_place` reads tokens and runs the operation behind them at once,
 //! `told` tells what instructions give of numbers alone, and `alone` what some code gives that is a token or is told so;
 //! `joined` joins strings, `places` are items and fields, as values and as names, and `entries` those that are made.
-//! `quick` does what two numbers (`numerals`), an item (`items`), a field (`fields`) or a function that examines its
-//! arguments (`examining`) need, `tokens` what a function of the language gives of tokens, and `apply` any form.
-//! `building` runs the instructions that make a pattern (`patterns`). The loop over all instructions stands in
-//! `sno_statement`, since a call in their midst performs statements.
+//! `quick` does what two numbers (`numerals`), an item (`items`), a field (`fields`), two values that are joined
+//! (`joining`) or a function that examines its arguments (`examining`) need, `tokens` what a function of the language
+//! gives of tokens, and `apply` any form. `building` runs the instructions that make a pattern (`patterns`), and
+//! `standing` finds out, with `waiting` and `leaves`, whether the table has it already. The loop over all instructions
+//! stands in `sno_statement`, since a call in their midst performs statements.
 #![tactic(auto)]
 
 mod alone;
@@ -25,13 +26,17 @@ mod in_place;
 mod instruction;
 mod items;
 mod joined;
+mod joining;
+mod leaves;
 mod names;
 mod numerals;
 mod patterns;
 mod places;
 mod quick;
+mod standing;
 mod tokens;
 mod told;
+mod waiting;
 
 pub use alone::{
     asks_field, calculated, first_operand, is_call, is_null_literal, last_form, only_token,
@@ -48,7 +53,8 @@ pub use in_place::{instruction_at, run_in_place};
 pub use instruction::{Failing, Instruction};
 pub use joined::only_joined;
 pub use names::Known;
-pub use places::{only_item, only_name};
+pub use places::{only_field, only_in_plane, only_item, only_name};
 pub use quick::{Calculated, Form, Quick, attempt};
+pub use standing::nodes_of;
 pub use tokens::over_tokens;
 pub use told::calculate_alone;

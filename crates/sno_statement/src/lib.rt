@@ -2,12 +2,12 @@
 //!
 //! A program's `code` is what is known of it before its first statement begins: what its statements do and where they
 //! go on (`steps`, `targets`), and the instructions of each expression, which `sno_expression` makes. `perform` does
-//! one statement and finds the next one (`gotos`); `statements` does the parts of one. `evaluation` gives the value of
-//! an expression, by a loop over `instructions` and a list of values where `operands` can't do without, `patterns` that of
-//! one which mostly makes a pattern, and `made` calls the functions that the program has made. `matching` runs a match up
-//! to its first way, `answers` gives it what its deferred parts stand for, and `replacement` puts a text in the place of
-//! what matched. How a call of a function that the program defines is done comes from above (`calls`), since it performs
-//! statements in its turn.
+//! one statement and finds the next one (`gotos`); `statements` does the parts of one, and `naming` finds what its subject
+//! names. `evaluation` gives the value of an expression, by a loop over `instructions` and a list of values where `unlisted`
+//! and `operands` can't do without, `patterns` that of one which mostly makes a pattern, and `made` calls the functions
+//! that the program has made. `matching` runs a match up to its first way, `answers` gives it what its deferred parts stand
+//! for, and `replacement` puts a text in the place of what matched. How a call of a function that the program defines is
+//! done comes from above (`calls`), since it performs statements in its turn.
 #![tactic(auto)]
 
 mod answers;
@@ -27,6 +27,7 @@ mod replacement;
 mod statements;
 mod steps;
 mod targets;
+mod unlisted;
 
 pub use answers::answer_of;
 pub use calls::Calls;

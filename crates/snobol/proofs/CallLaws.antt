@@ -204,6 +204,16 @@ module _ (program : Program) (f n : ℕ) (d : Definition) (xs : List Value) (bef
       rw (deeper level inside) (left_runs late after value p.grows (leave before.store.calls (stored_call f d before) (innermost late p.calls))
       (200 - level) success old new p)
 
+  -- one whose statements went to FRETURN, where what it would have given is let go
+  pub call_failed : (level : ℕ) (late after : Runtime) (old new : Devices) → level ≡ length mid.store.calls
+      → Runs {X = Bool} itself any (chain program (call_at program (200 - level)) (mid.keywords.cap + 1) n) mid late old new (Ok false)
+      → ((calls : List (List (ℕ × Stored))) (call : List (ℕ × Stored)) → late.store.calls ≡ calls ++ call ∷ []
+      → (value : Stored) × Leaves calls call before.keywords.statement late after value)
+      → Runs {X = Stored} shown IsValueOf (call_at program (200 - length before.store.calls) f xs) before after old new (Err Failure)
+  call_failed level late after old new inside p leave =
+      let left = leave before.store.calls (stored_call f d before) (innermost late p.calls) in
+      rw (deeper level inside) (left_runs late after left.0 p.grows left.1 (200 - level) false old new p)
+
   -- a chain of statements never fails
   pub call_ended : (level : ℕ) (late : Runtime) (old new : Devices) (x : Exit) → level ≡ length mid.store.calls
       → (◌≡◌ {A = Result Bool Exit} (Err x) (Err Failure) → ⊥)

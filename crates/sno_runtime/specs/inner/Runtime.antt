@@ -1,5 +1,5 @@
 -- Words of private clauses: what functions of the runtime did.
-use Rattle.std.specs.Prelude.{◌≡◌, ◌<◌, ◌≤◌, ℕ, suc, ℤ, Bool, true, false, List, [], ◌++◌}
+use Rattle.std.specs.Prelude.{◌≡◌, ◌<◌, ◌≤◌, ◌+◌, ℕ, suc, ℤ, Bool, true, false, List, [], ◌++◌}
 use Rattle.std.specs.Prelude.{Option, None, Some, Result, Ok, Err}
 use Rattle.sno_value.specs.declared.ids.PatId.{PatId}
 use Rattle.sno_pattern.specs.declared.table.BuildError.{BuildError}
@@ -108,6 +108,10 @@ TellsAgain same last before after (Ok (Some id)) =
     (made_nodes before < 4000000) × (same ≡ true) × (id ≡ last) × (after ≡ record before { counted = suc before.counted })
 TellsAgain same last before after (Ok None) = (made_nodes before < 4000000) × (after ≡ before)
 TellsAgain same last before after (Err e) = (4000000 ≤ made_nodes before) × (e ≡ Halt (HasError 9)) × (after ≡ before)
+
+-- a runtime that has counted so many nodes more
+abbrev pub counting : Runtime → ℕ → Runtime
+counting s n = record s { counted = s.counted + n }
 
 -- how a run ends where a builder refuses
 abbrev pub exit_of : BuildError → Exit

@@ -3,11 +3,12 @@
 //! An expression that makes a pattern is mostly evaluated often, and mostly makes the same nodes. So the numbers of those
 //! that it made last are kept, from a place on that its own number gives. A node that is wanted is compared with the one
 //! that is kept at the next place; where it is the same it is counted and not made.
-ghost use Rattle.std.specs.Prelude.{◌≡◌, ◌<◌, IsTrue, length};
+ghost use Rattle.std.specs.Prelude.{◌≡◌, ◌≤◌, ◌<◌, ◌+◌, false, IsTrue, length};
 ghost use Rattle.sno_pattern.specs.Pattern.{Leaf, Text};
 ghost use Rattle.sno_pattern.specs.Shape.{HasShape};
 ghost use Rattle.sno_pattern.specs.Table.{StandsFor};
-ghost use Rattle.sno_runtime.specs.inner.Runtime.{TellsAgain};
+ghost use Rattle.sno_runtime.specs.Runtime.{made_nodes};
+ghost use Rattle.sno_runtime.specs.inner.Runtime.{TellsAgain, counting};
 
 use crate::errors::STORE_FULL;
 use crate::runtime::Runtime;
@@ -25,6 +26,13 @@ const PLACES: usize = 4096;
 /// The first place for the nodes of deferred expressions, which are evaluated amid others.
 const DEFERRED: usize = 2048;
 
+/// How many places there are for the patterns that expressions made as their wholes.
+const WHOLES: usize = 512;
+
+/// How often an expression is evaluated behind one that made another pattern before it, until its pattern is kept again:
+/// what makes a new one each time would be compared in vain.
+const APART: u32 = 64;
+
 /// The longest text that is compared with the one that was made before.
 const COMPARED: usize = 256;
 
@@ -37,15 +45,19 @@ pub(crate) struct Made {
     nodes: Vec<PatId>,
     /// The place of the next node; from `PLACES` on it has none.
     place: usize,
+    /// The patterns that expressions made. What is no number of one counts, up to `NO_NODE`, how often none is kept.
+    wholes: Vec<PatId>,
 }
 
 impl Made {
     /// No node.
     pub(crate) fn new(alloc: Global) -> Result<Made, AllocError> {
         let nodes = vec![in alloc; NO_NODE; PLACES]?;
+        let wholes = vec![in alloc; NO_NODE; WHOLES]?;
         Ok(Made {
             nodes,
             place: PLACES,
+            wholes,
         })
     }
 
@@ -74,6 +86,30 @@ impl Made {
             self.place = self.place.wrapping_sub(1);
         }
     }
+
+    /// Keeps the pattern that an expression made, where it is time for that again.
+    #[inline(always)]
+    fn keep_whole(&mut self, expression: ExprId, id: PatId) {
+        let place = expression.0 as usize % WHOLES;
+        if place >= self.wholes.len() {
+            return;
+        }
+        let last = self.wholes[place].0;
+        if last < NO_NODE.0 && last >= NO_NODE.0 - APART {
+            self.wholes[place] = PatId(last + 1);
+        } else {
+            self.wholes[place] = id;
+        }
+    }
+
+    /// Keeps none for an expression that made another one.
+    #[inline(always)]
+    fn forget_whole(&mut self, expression: ExprId) {
+        let place = expression.0 as usize % WHOLES;
+        if place < self.wholes.len() {
+            self.wholes[place] = PatId(NO_NODE.0 - APART);
+        }
+    }
 }
 
 impl Runtime {
@@ -99,6 +135,47 @@ impl Runtime {
         ensures { self.new ≡ self.old }
     {
         self.made.place = PLACES;
+    }
+
+    /// The pattern that was kept for this expression, or for another one; any number where none is.
+    #[inline(always)]
+    pub fn whole(&self, expression: ExprId) -> PatId {
+        match self.made.wholes.get(expression.0 as usize % WHOLES) {
+            Some(id) => *id,
+            None => NO_NODE,
+        }
+    }
+
+    /// Keeps the pattern that an expression made.
+    #[inline]
+    pub fn keep_whole(&mut self, expression: ExprId, id: PatId)
+        ensures { self.new ≡ self.old }
+    {
+        self.made.keep_whole(expression, id);
+    }
+
+    /// Keeps none for an expression that makes another one than was kept.
+    #[inline]
+    pub fn forget_whole(&mut self, expression: ExprId)
+        ensures { self.new ≡ self.old }
+    {
+        self.made.forget_whole(expression);
+    }
+
+    /// Counts so many nodes, which are there, as made. It is false where there would be more than 4,000,000, and then
+    /// counts none.
+    #[inline(always)]
+    pub fn count_nodes(&mut self, count: u32) -> bool
+        ensures room { IsTrue result → made_nodes self.old + count ≤ 4000000 }
+        ensures counted { IsTrue result → self.new ≡ counting self.old count }
+        ensures refused { result ≡ false → self.new ≡ self.old }
+    {
+        let made = self.patterns.len() as usize + self.counted as usize;
+        if made > MOST_NODES || count as usize > MOST_NODES - made {
+            return false;
+        }
+        self.counted += count;
+        true
     }
 
     /// The node that was made last at the next place; any number where none was.

@@ -1,4 +1,4 @@
-use Rattle.std.proofs.Common.{ap, ◌∙◌, ◌≡◌, ◌≤◌, ℕ, List, [], length, refl, subst, None, Err, arith, rules}
+use Rattle.std.proofs.Common.{ap, ◌∙◌, ◌≤◌, ℕ, List, [], length, refl, subst, Err, arith}
 use Rattle.std.proofs.lemmas.Result.{err_from_is_err_and}
 use Rattle.sno_value.specs.declared.value.Value.TheVariants as stored
 use Rattle.sno_runtime.specs.Values.{Str, shown, IsValueOf}
@@ -26,23 +26,23 @@ put_object-requires-clause-short g c = subst (λ (text : List ℕ). length text 
 pub put_object-requires-clause-within : goal.put_object-requires-clause-within
 put_object-requires-clause-within g c = still_in _ _ _ _ _ c.requires.within c.in_ok-span.ensures.does.calls c.in_ok-span.ensures.does.ready
 
-pub returns : goal.returns
-returns g c = part_runs _ c.in_ok-span.ensures.does (rw (← c.requires.text) at c.put_object.ensures)
+pub returns-in-Some : goal.returns-in-Some
+returns-in-Some g c = rw c.in-Some.is (part_runs _ c.in_ok-span.ensures.does (rw (← c.requires.text) at c.put_object.ensures))
 
-pub put_text-requires-clause-order : goal.put_text-requires-clause-order
-put_text-requires-clause-order g c = c.in_ok-span.ensures.does.answer.0
+pub put_nothing-requires-clause-order : goal.put_nothing-requires-clause-order
+put_nothing-requires-clause-order g c = c.in_ok-span.ensures.does.answer.0
 
-pub put_text-requires-clause-within : goal.put_text-requires-clause-within
-put_text-requires-clause-within g c = subst (λ (text : List ℕ). c.in_ok-span.span.1 ≤ length text) c.requires.text c.in_ok-span.ensures.does.answer.1
+pub put_nothing-requires-clause-within : goal.put_nothing-requires-clause-within
+put_nothing-requires-clause-within g c =
+    subst (λ (text : List ℕ). c.in_ok-span.span.1 ≤ length text) c.requires.text c.in_ok-span.ensures.does.answer.1
 
-pub put_text-requires-clause-sound : goal.put_text-requires-clause-sound
-put_text-requires-clause-sound g c = c.in_ok-span.ensures.does.ready.writes
+pub put_nothing-requires-clause-sound : goal.put_nothing-requires-clause-sound
+put_nothing-requires-clause-sound g c = c.in_ok-span.ensures.does.ready.writes
 
-pub returns-then-is_none : goal.returns-then-is_none
-returns-then-is_none g c =
+pub returns-in-None : goal.returns-in-None
+returns-in-None g c =
     let found = c.in_ok-span.ensures.does in
     let given = gives_does shown IsValueOf c.find_first.new.runtime (stored.Str []) (Str []) refl (omega arith) in
-    let put = rw (← c.requires.text) at (c.put_text.ensures _ found.ready.reads) in
+    let put = rw (← c.requires.text) at (c.put_nothing.ensures _ found.ready.reads) in
     let next = λ (new : List ℕ). assigns_text c.args.target (with_part c.args.matcher.now.subject c.in_ok-span.span new) in
-    let absent : c.args.object ≡ None = search rules in
-    rw absent (part_runs _ found (part_runs _ (does_runs shown IsValueOf _ _ _ _ _ found.ready given) (text_runs next (Str []) [] refl put)))
+    rw c.in-None.is (part_runs _ found (part_runs _ (does_runs shown IsValueOf _ _ _ _ _ found.ready given) (text_runs next (Str []) [] refl put)))

@@ -1,4 +1,4 @@
-use Rattle.std.proofs.Common.{◌≡◌, ℕ, List, Result, Ok, Err, Some, true, false, map, subst}
+use Rattle.std.proofs.Common.{◌≡◌, ℕ, List, Result, Ok, Err, Some, true, map, subst}
 use Rattle.sno_value.specs.declared.value.Value.{Value as Stored}
 use Rattle.sno_store.specs.Definitions.{Definition}
 use Rattle.sno_store.specs.Functions.{definition_at}
@@ -8,7 +8,7 @@ use Rattle.sno_runtime.specs.inner.Calls.{Enters}
 use Rattle.std.proofs.lemmas.Result.{err_from_is_err_and}
 use Rattle.sno_runtime.specs.Values.{shown}
 use Rattle.sno_statement.specs.Running.{devices}
-use Rattle.snobol.proofs.CallLaws.{call_runs, call_ended, not_begun, call_refused}
+use Rattle.snobol.proofs.CallLaws.{call_runs, call_failed, call_ended, not_begun, call_refused}
 use Rattle.snobol.proofs.calls.+call+fn-call-closure.Goals as goal
 
 -- what is kept of the entry changes nothing that a call sees
@@ -51,30 +51,29 @@ returns-in_err-success g t c =
     (devices (g.R.Source.feed c.chain.new.reader) (g.W.Sink.drain c.chain.new.writer))
     c.in_err-success.field-0.0 (rw c.store.ensures at c.level-level.ensures.value) c.in_err-success.ensures.halts c.in_err-success.ensures.does)
 
-pub returns-then-success : goal.returns-then-success
-returns-then-success g t c =
+pub returns-then-not-success : goal.returns-then-not-success
+returns-then-not-success g t c =
     let e = c.in_ok-entry.ensures.entry in
     let begun = begun_behind c.args.function.0 e.0 c.args.arguments.now c.args.runtime.now c.entry_of.new.runtime c.enter.new.self
     (Ok tt) c.in_ok-entry.ensures.same e.1 (c.in_ok-enter.ensures e.0) in
-    call_runs c.args.code.now c.args.function.0 c.in_ok-entry.entry e.0 (map (shown c.args.runtime.now.nodes) c.args.arguments.now)
+    call_failed c.args.code.now c.args.function.0 c.in_ok-entry.entry e.0 (map (shown c.args.runtime.now.nodes) c.args.arguments.now)
     c.args.runtime.now c.enter.new.self
-    begun e.1 e.2 c.level-level.result c.chain.new.runtime c.leave.new.self
-    c.leave.result true
+    begun e.1 e.2 c.level-level.result c.chain.new.runtime c.leave_failed.new.runtime
     (devices (g.R.Source.feed c.args.reader.now) (g.W.Sink.drain c.args.writer.now))
     (devices (g.R.Source.feed c.chain.new.reader) (g.W.Sink.drain c.chain.new.writer))
-    (rw c.store.ensures at c.level-level.ensures.value) (rw c.if-success.true at c.in_ok-success.ensures.does)
-    (rw c.statement-statement.ensures at c.leave.ensures)
+    (rw c.store.ensures at c.level-level.ensures.value) (rw c.if-not-success.true at c.in_ok-success.ensures.does)
+    (rw c.statement-statement.ensures at c.leave_failed.ensures)
 
-pub returns-else-success : goal.returns-else-success
-returns-else-success g t c =
+pub returns : goal.returns
+returns g t c =
     let e = c.in_ok-entry.ensures.entry in
     let begun = begun_behind c.args.function.0 e.0 c.args.arguments.now c.args.runtime.now c.entry_of.new.runtime c.enter.new.self
     (Ok tt) c.in_ok-entry.ensures.same e.1 (c.in_ok-enter.ensures e.0) in
     call_runs c.args.code.now c.args.function.0 c.in_ok-entry.entry e.0 (map (shown c.args.runtime.now.nodes) c.args.arguments.now)
     c.args.runtime.now c.enter.new.self
-    begun e.1 e.2 c.level-level.result c.chain.new.runtime c.leave-else-success.new.self
-    c.leave-else-success.result false
+    begun e.1 e.2 c.level-level.result c.chain.new.runtime c.leave-value.new.self
+    c.leave-value.result true
     (devices (g.R.Source.feed c.args.reader.now) (g.W.Sink.drain c.args.writer.now))
     (devices (g.R.Source.feed c.chain.new.reader) (g.W.Sink.drain c.chain.new.writer))
-    (rw c.store.ensures at c.level-level.ensures.value) (rw c.if-success.false at c.in_ok-success.ensures.does)
-    (rw c.statement-statement.ensures at c.leave-else-success.ensures)
+    (rw c.store.ensures at c.level-level.ensures.value) (rw c.if-not-success.false at c.in_ok-success.ensures.does)
+    (rw c.statement-statement.ensures at c.leave-value.ensures)
