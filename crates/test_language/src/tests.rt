@@ -26,6 +26,7 @@ mod rows;
 mod runtime;
 mod session;
 mod sizes;
+mod standing;
 mod statements;
 mod types;
 mod writers;

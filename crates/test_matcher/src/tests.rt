@@ -1,10 +1,12 @@
 mod again;
+mod asking;
 mod choices;
 mod drawing;
 mod driver;
 mod ends;
 mod forms;
 mod generated;
+mod long_patterns;
 mod long_subjects;
 mod looks;
 mod matches;
@@ -14,3 +16,5 @@ mod reference;
 mod refusals;
 mod rows;
 mod runs;
+mod searches;
+mod tables;

@@ -4,6 +4,7 @@ mod commands;
 mod devices;
 mod drawing;
 mod expressions;
+mod help_texts;
 mod input;
 mod integers;
 mod limits;

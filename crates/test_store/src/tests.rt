@@ -316,12 +316,32 @@ fn reads_types(store: &Store, step: Step) -> bool {
     }
 }
 
-/// Makes the calls of a new store in turn, and checks their answers.
-fn check(rt: &impl Abort, alloc: Global, steps: &[Step]) -> Result<(), Fail> {
+/// Makes the calls of a store in turn, and checks their answers.
+fn check_steps(
+    rt: &impl Abort,
+    alloc: Global,
+    store: &mut Store,
+    name: &str,
+    steps: &[Step],
+) -> Result<(), AllocError> {
+    for (i, step) in steps.iter().enumerate() {
+        assert!(rt; changes(store, alloc, *step)?, "{name}: step {i}");
+    }
+    Ok(())
+}
+
+/// The same of a new store.
+fn check_new(rt: &impl Abort, alloc: Global, name: &str, steps: &[Step]) -> Result<(), AllocError> {
     let mut patterns = Patterns::new(alloc);
     let mut store = Store::new(alloc, &mut patterns)?;
-    for (i, step) in steps.iter().enumerate() {
-        assert!(rt; changes(&mut store, alloc, *step)?, "step {i}");
+    check_steps(rt, alloc, &mut store, name, steps)?;
+    Ok(())
+}
+
+/// The same of several lists of calls, each with its name.
+fn check(rt: &impl Abort, alloc: Global, stores: &[(&str, &[Step])]) -> Result<(), Fail> {
+    for (name, steps) in stores {
+        check_new(rt, alloc, name, steps)?;
     }
     Ok(())
 }

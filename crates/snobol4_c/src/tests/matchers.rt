@@ -37,7 +37,7 @@ fn check_new<R: Abort>(
     snobol4_matcher_new(
         alloc, pattern, subject, false, steps, matcher, &mut line, &mut told,
     );
-    check(rt, &told, status, (b"", &line), b"", said);
+    check(rt, "new", &told, status, (b"", &line), b"", said);
     assert_eq!(rt; matcher.held, status == 0);
 }
 
@@ -56,7 +56,7 @@ fn check_next<R: Abort>(
     let (mut out, mut line, mut told) = ([UNTOUCHED; AMPLE], [UNTOUCHED; AMPLE], unasked());
     let room = &mut out[..size];
     snobol4_matcher_next(alloc, matcher, room, &mut line, &mut told);
-    check(rt, &told, status, (room, &line), lines, said);
+    check(rt, "next", &told, status, (room, &line), lines, said);
 }
 
 #[test]

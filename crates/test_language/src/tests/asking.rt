@@ -20,8 +20,7 @@ pub struct Commands;
 
 impl Question for Commands {
     fn answer(alloc: Global, text: &[u8]) -> Result<String, Fail> {
-        let mut words = Vec::new(alloc);
-        push_words(&mut words, from_utf8(text)?)?;
+        let words = words_of(alloc, from_utf8(text)?, "", &[])?;
         told(alloc, &words, None, b"")
     }
 }
@@ -34,11 +33,7 @@ pub struct Ways;
 impl Question for Ways {
     fn answer(alloc: Global, text: &[u8]) -> Result<String, Fail> {
         let (options, pattern, subject) = pattern_and_subject(from_utf8(text)?);
-        let mut words = Vec::new(alloc);
-        push_words(&mut words, "snobol4 ways")?;
-        push_words(&mut words, options)?;
-        words.push(pattern)?;
-        words.push(subject)?;
+        let words = words_of(alloc, "snobol4 ways", options, &[pattern, subject])?;
         told(alloc, &words, None, b"")
     }
 }
@@ -52,10 +47,7 @@ impl Question for Programs {
         let text = from_utf8(text)?;
         let (options, text) = text.split_once(" ; ").unwrap_or(("", text));
         let (program, input) = text.split_once(" <- ").unwrap_or((text, ""));
-        let mut words = Vec::new(alloc);
-        push_words(&mut words, "snobol4 run")?;
-        push_words(&mut words, options)?;
-        words.push("f.sno")?;
+        let words = words_of(alloc, "snobol4 run", options, &["f.sno"])?;
         told(alloc, &words, Some(program.as_bytes()), input.as_bytes())
     }
 }
@@ -77,15 +69,27 @@ pub struct Values;
 
 impl Question for Values {
     fn answer(alloc: Global, text: &[u8]) -> Result<String, Fail> {
-        let mut program = Vec::new(alloc);
-        program.extend_from_slice(b" OUTPUT = '<' (")?;
-        program.extend_from_slice(text)?;
-        program.extend_from_slice(b") '>' :S(END)\n OUTPUT = 'fails'\nEND\n")?;
+        let program = program_of(alloc, text)?;
         let program = read_program(alloc, &program)?;
-        let (outcome, written) = ran(alloc, &program);
-        let answer = value_text(alloc, outcome, from_utf8(&written)?)?;
+        let answer = value_of(alloc, &program)?;
         Ok(answer)
     }
+}
+
+/// A program that writes the value of an expression.
+fn program_of(alloc: Global, text: &[u8]) -> Result<Vec<u8>, AllocError> {
+    let mut program = Vec::new(alloc);
+    program.extend_from_slice(b" OUTPUT = '<' (")?;
+    program.extend_from_slice(text)?;
+    program.extend_from_slice(b") '>' :S(END)\n OUTPUT = 'fails'\nEND\n")?;
+    Ok(program)
+}
+
+/// What such a program tells of the value.
+fn value_of(alloc: Global, program: &Program) -> Result<String, Fail> {
+    let (outcome, written) = ran(alloc, program);
+    let answer = value_text(alloc, outcome, from_utf8(&written)?)?;
+    Ok(answer)
 }
 
 /// How a run without input ends, and what it writes.
@@ -102,6 +106,20 @@ fn value_text(alloc: Global, outcome: Outcome, written: &str) -> Result<String, 
         Outcome::Error { code, .. } => format!(in alloc; "error {code}"),
         other => format!(in alloc; "{other:?}"),
     }
+}
+
+/// The words of two texts, and further ones behind them.
+fn words_of<'a>(
+    alloc: Global,
+    first: &'a str,
+    second: &'a str,
+    others: &[&'a str],
+) -> Result<Vec<&'a str>, AllocError> {
+    let mut words = Vec::new(alloc);
+    push_words(&mut words, first)?;
+    push_words(&mut words, second)?;
+    words.extend_from_slice(others)?;
+    Ok(words)
 }
 
 fn push_words<'a>(words: &mut Vec<&'a str>, text: &'a str) -> Result<(), AllocError> {

@@ -1,6 +1,6 @@
 //! Assignments to variables, to the cursor's place and to OUTPUT, and the lines that tell them.
 use super::asking::Ways;
-use super::rows::check_rows;
+use super::rows::check_blocks;
 use std::test::Fail;
 
 const IMMEDIATE_ASSIGNMENTS: &str = r"
@@ -16,11 +16,6 @@ LEN(1) $ X ; AB => set X 0 1\nway 0 1\nset X 1 2\nway 1 2\nexhausted\n
 --anchor ; 12 $ X ; 12 => set X 0 2\nway 0 2\nexhausted\n
 ";
 
-#[test]
-fn immediate_assignments(rt: HostRuntime) -> Result<(), Fail> {
-    check_rows::<Ways, _>(&rt, IMMEDIATE_ASSIGNMENTS)
-}
-
 const PENDING_ASSIGNMENTS: &str = r"
 (LEN(1) . A LEN(1)) . B ; XY => way 0 2 A=0-1 B=0-2\nexhausted\n
 --anchor ; LEN(1) $ X . Y ; AB => set X 0 1\nway 0 1 Y=0-1\nexhausted\n
@@ -33,11 +28,6 @@ const PENDING_ASSIGNMENTS: &str = r"
 --anchor ; Y . X ; A => way 0 0 X=0-0\nexhausted\n
 ";
 
-#[test]
-fn pending_assignments(rt: HostRuntime) -> Result<(), Fail> {
-    check_rows::<Ways, _>(&rt, PENDING_ASSIGNMENTS)
-}
-
 /// What an abandoned choice left pending is gone.
 const PENDING_ASSIGNMENTS_OF_ABANDONED_CHOICES: &str = r"
 --anchor ; ('A' . X 'C' | 'A' . Y) 'B' ; AB => way 0 2 Y=0-1\nexhausted\n
@@ -47,11 +37,6 @@ const PENDING_ASSIGNMENTS_OF_ABANDONED_CHOICES: &str = r"
 --anchor ; LEN(1) . X FAIL | 'A' ; A => way 0 1\nexhausted\n
 ";
 
-#[test]
-fn pending_assignments_of_abandoned_choices(rt: HostRuntime) -> Result<(), Fail> {
-    check_rows::<Ways, _>(&rt, PENDING_ASSIGNMENTS_OF_ABANDONED_CHOICES)
-}
-
 const PLACES_OF_THE_CURSOR: &str = r"
 @N 'B' ; AB => cursor N 0\ncursor N 1\nway 1 2\ncursor N 2\nexhausted\n
 @N ;  => cursor N 0\nway 0 0\nexhausted\n
@@ -59,11 +44,6 @@ const PLACES_OF_THE_CURSOR: &str = r"
 --anchor ; @N . X ; A => cursor N 0\nway 0 0 X=0-0\nexhausted\n
 --anchor ; LEN(1) @N $ X ; A => cursor N 1\nset X 1 1\nway 0 1\nexhausted\n
 ";
-
-#[test]
-fn places_of_the_cursor(rt: HostRuntime) -> Result<(), Fail> {
-    check_rows::<Ways, _>(&rt, PLACES_OF_THE_CURSOR)
-}
 
 /// A value that OUTPUT is given is a line behind that of the event.
 const LINES_OF_OUTPUT: &str = r"
@@ -79,11 +59,6 @@ LEN(1) $ OUTPUT FAIL ; AB => set OUTPUT 0 1\nA\nset OUTPUT 1 2\nB\nexhausted\n
 --anchor ; @INPUT ; A => cursor INPUT 0\nway 0 0\nexhausted\n
 ";
 
-#[test]
-fn lines_of_output(rt: HostRuntime) -> Result<(), Fail> {
-    check_rows::<Ways, _>(&rt, LINES_OF_OUTPUT)
-}
-
 /// The pattern is evaluated before a variable is set.
 const VARIABLES_READ_BEFORE_THEY_ARE_SET: &str = r"
 --anchor ; LEN(1) $ X X ; AA => set X 0 1\nway 0 1\nexhausted\n
@@ -92,11 +67,6 @@ const VARIABLES_READ_BEFORE_THEY_ARE_SET: &str = r"
 --anchor ; LEN(1) $ INPUT INPUT ; AA => exhausted\n
 LEN(1) $ ARB ARB ; AB => set ARB 0 1\nway 0 1\nway 0 2\nset ARB 1 2\nway 1 2\nexhausted\n
 ";
-
-#[test]
-fn variables_read_before_they_are_set(rt: HostRuntime) -> Result<(), Fail> {
-    check_rows::<Ways, _>(&rt, VARIABLES_READ_BEFORE_THEY_ARE_SET)
-}
 
 const STEPS_OF_ASSIGNMENTS: &str = r"
 --anchor --steps 5 ; LEN(1) $ X . Y ; AB => set X 0 1\nway 0 1 Y=0-1\nexhausted\n
@@ -112,6 +82,17 @@ const STEPS_OF_ASSIGNMENTS: &str = r"
 ";
 
 #[test]
-fn steps_of_assignments(rt: HostRuntime) -> Result<(), Fail> {
-    check_rows::<Ways, _>(&rt, STEPS_OF_ASSIGNMENTS)
+fn rows(rt: HostRuntime) -> Result<(), Fail> {
+    check_blocks::<Ways, _>(
+        &rt,
+        &[
+            IMMEDIATE_ASSIGNMENTS,
+            PENDING_ASSIGNMENTS,
+            PENDING_ASSIGNMENTS_OF_ABANDONED_CHOICES,
+            PLACES_OF_THE_CURSOR,
+            LINES_OF_OUTPUT,
+            VARIABLES_READ_BEFORE_THEY_ARE_SET,
+            STEPS_OF_ASSIGNMENTS,
+        ],
+    )
 }

@@ -1,6 +1,6 @@
 //! Functions that a program defines, and their calls, worked out by hand.
 use super::asking::{Programs, Values, Ways};
-use super::rows::check_rows;
+use super::rows::{check_blocks, check_rows};
 use std::test::Fail;
 
 /// What a call gives, what it saves, and what comes back.
@@ -21,11 +21,6 @@ const CALLS: &str = r"
  DEFINE('F()') :(M)\nF OUTPUT = 'in' :(END)\nM X = F()\n OUTPUT = 'out'\nEND\n => in\n
  DEFINE('F()') :(M)\nF F = .X :(RETURN)\nM $F() = 'by name'\n OUTPUT = X\nEND\n => by name\n
 ";
-
-#[test]
-fn calls(rt: HostRuntime) -> Result<(), Fail> {
-    check_rows::<Programs, _>(&rt, CALLS)
-}
 
 /// Which function a call is of, and where it begins. The arguments come first.
 const DEFINITIONS: &str = r"
@@ -48,11 +43,6 @@ const DEFINITIONS: &str = r"
  DEFINE('F()',LEN(1))\nEND\n => status 1: snobol4: error 1 in statement 1\n
 ";
 
-#[test]
-fn definitions(rt: HostRuntime) -> Result<(), Fail> {
-    check_rows::<Programs, _>(&rt, DEFINITIONS)
-}
-
 /// 200 calls may be open. The statement of a call goes on with its own number.
 const LEVELS: &str = r"
  DEFINE('F(N)') :(M)\nF F = EQ(N,1) &FNCLEVEL :S(RETURN)\n F = F(N - 1) :(RETURN)\nM OUTPUT = F(200)\n OUTPUT = F(201)\nEND\n => 200\nstatus 1: snobol4: error 10 in statement 3\n
@@ -69,11 +59,6 @@ const LEVELS: &str = r"
  DEFINE('F()') :(M)\nF F = 1\n X = 'RETURN' :($X)\nM OUTPUT = F()\n OUTPUT = 'out' :(RETURN)\nEND\n => 1\nout\nstatus 1: snobol4: error 13 in statement 5\n
 ";
 
-#[test]
-fn levels(rt: HostRuntime) -> Result<(), Fail> {
-    check_rows::<Programs, _>(&rt, LEVELS)
-}
-
 /// A call inside a match may match, and the outer match goes on behind it.
 const CALLS_IN_MATCHES: &str = r"
  DEFINE('F()') :(M)\nF 'XY' LEN(1) . C\n OUTPUT = C\n F = 'B' :(RETURN)\nM 'AAB' *F() . D :F(END)\n OUTPUT = D\nEND\n => X\nX\nX\nB\n
@@ -83,11 +68,6 @@ const CALLS_IN_MATCHES: &str = r"
  DEFINE('F(S)') :(M)\nF S LEN(1) . F = :(RETURN)\nM S = 'kept'\n 'xyz' 'y' *F('zz') . W\n OUTPUT = S W\nEND\n => keptz\n
  DEFINE('F()') :(M)\nF F = LEN(N) :(RETURN)\nM N = 2\n 'abc' *F() . X\n OUTPUT = X\nEND\n => ab\n
 ";
-
-#[test]
-fn calls_in_matches(rt: HostRuntime) -> Result<(), Fail> {
-    check_rows::<Programs, _>(&rt, CALLS_IN_MATCHES)
-}
 
 /// Calls as operands, whose arguments are told or aren't.
 const OPERANDS: &str = r"
@@ -112,22 +92,12 @@ const OPERANDS: &str = r"
  DEFINE('F(X)') :(M)\nF F = LT(X,199) F(X + 1) + 1 :S(RETURN)\n F = &FNCLEVEL :(RETURN)\nM OUTPUT = F(1)\n OUTPUT = F(0)\n OUTPUT = 1 + F(-1)\nEND\n => 397\n399\nstatus 1: snobol4: error 10 in statement 2\n
 ";
 
-#[test]
-fn calls_as_operands(rt: HostRuntime) -> Result<(), Fail> {
-    check_rows::<Programs, _>(&rt, OPERANDS)
-}
-
 /// A listing has no statements, so that a function that it defines has no label to begin at.
 const CALLS_IN_LISTINGS: &str = r"
 DEFINE('F()') F() ; A => status 1: snobol4: error 5\n
 DEFINE('F()') *F() ; A => status 1: snobol4: error 5\n
 --anchor ; DEFINE('F()') 'A' ; A => way 0 1\nexhausted\n
 ";
-
-#[test]
-fn calls_in_listings(rt: HostRuntime) -> Result<(), Fail> {
-    check_rows::<Ways, _>(&rt, CALLS_IN_LISTINGS)
-}
 
 const DEFINING: &str = r"
 DEFINE('F()') => <>
@@ -136,6 +106,11 @@ DATATYPE(DEFINE('F(A,B)C,D','L')) => <STRING>
 ";
 
 #[test]
-fn defining(rt: HostRuntime) -> Result<(), Fail> {
+fn rows(rt: HostRuntime) -> Result<(), Fail> {
+    check_blocks::<Programs, _>(
+        &rt,
+        &[CALLS, DEFINITIONS, LEVELS, CALLS_IN_MATCHES, OPERANDS],
+    )?;
+    check_rows::<Ways, _>(&rt, CALLS_IN_LISTINGS)?;
     check_rows::<Values, _>(&rt, DEFINING)
 }

@@ -1,6 +1,6 @@
 //! Choices in the order in which they are tried, and the steps that they take.
 use super::asking::Ways;
-use super::rows::check_rows;
+use super::rows::check_blocks;
 use std::test::Fail;
 
 const CHOICES_IN_ORDER: &str = r"
@@ -12,11 +12,6 @@ LEN(1) 'B' ; ABB => way 0 2\nway 1 3\nexhausted\n
 FAIL ;  => exhausted\n
 -- ; '-' ; - => way 0 1\nexhausted\n
 ";
-
-#[test]
-fn choices_in_order(rt: HostRuntime) -> Result<(), Fail> {
-    check_rows::<Ways, _>(&rt, CHOICES_IN_ORDER)
-}
 
 const STEPS_AND_THE_LIMIT: &str = r"
 --anchor --steps 3 ; 'A' | 'AB' ; AB => way 0 1\nlimit\n
@@ -31,11 +26,6 @@ const STEPS_AND_THE_LIMIT: &str = r"
 --steps 13 ; LEN(1) 'B' ; ABB => way 0 2\nway 1 3\nlimit\n
 ";
 
-#[test]
-fn steps_and_the_limit(rt: HostRuntime) -> Result<(), Fail> {
-    check_rows::<Ways, _>(&rt, STEPS_AND_THE_LIMIT)
-}
-
 /// Two strings join to one text, which is one goal; a null operand leaves the other unchanged.
 const GOALS_OF_A_CONCATENATION: &str = r"
 --anchor --steps 1 ; 'A' 'B' ; AB => way 0 2\nexhausted\n
@@ -44,11 +34,6 @@ const GOALS_OF_A_CONCATENATION: &str = r"
 --anchor --steps 3 ; LEN(1) 'B' ; AB => way 0 2\nexhausted\n
 --anchor --steps 2 ; LEN(1) 'B' ; AB => limit\n
 ";
-
-#[test]
-fn goals_of_a_concatenation(rt: HostRuntime) -> Result<(), Fail> {
-    check_rows::<Ways, _>(&rt, GOALS_OF_A_CONCATENATION)
-}
 
 const REPETITIONS_AND_STOPS: &str = r"
 --anchor --steps 48 ; ARBNO('A' | 'AA') ; AAA => way 0 0\nway 0 1\nway 0 2\nway 0 3\nway 0 3\nway 0 2\nway 0 3\nexhausted\n
@@ -63,6 +48,14 @@ const REPETITIONS_AND_STOPS: &str = r"
 ";
 
 #[test]
-fn repetitions_and_stops(rt: HostRuntime) -> Result<(), Fail> {
-    check_rows::<Ways, _>(&rt, REPETITIONS_AND_STOPS)
+fn rows(rt: HostRuntime) -> Result<(), Fail> {
+    check_blocks::<Ways, _>(
+        &rt,
+        &[
+            CHOICES_IN_ORDER,
+            STEPS_AND_THE_LIMIT,
+            GOALS_OF_A_CONCATENATION,
+            REPETITIONS_AND_STOPS,
+        ],
+    )
 }

@@ -1,6 +1,6 @@
 //! Arrays and tables, worked out by hand.
 use super::asking::{Programs, Values};
-use super::rows::check_rows;
+use super::rows::check_blocks;
 use std::test::Fail;
 
 const ARRAYS: &str = r"
@@ -32,11 +32,6 @@ const ARRAYS: &str = r"
  A = ARRAY('2')\n X = A + 1\nEND\n => status 1: snobol4: error 1 in statement 2\n
  A = ARRAY('2')\n 'x' A\nEND\n => status 1: snobol4: error 1 in statement 2\n
 ";
-
-#[test]
-fn arrays(rt: HostRuntime) -> Result<(), Fail> {
-    check_rows::<Programs, _>(&rt, ARRAYS)
-}
 
 /// What makes a prototype, by what it gives: its own text, or an error.
 const PROTOTYPES: &str = r"
@@ -77,11 +72,6 @@ PROTOTYPE() => error 1
 PROTOTYPE(TABLE()) => error 1
 ";
 
-#[test]
-fn prototypes(rt: HostRuntime) -> Result<(), Fail> {
-    check_rows::<Values, _>(&rt, PROTOTYPES)
-}
-
 const TABLES: &str = r"
  T = TABLE()\n T<1> = 'a'\n T<'1'> = 'b'\n OUTPUT = T<1> T<'1'> T<'x'>\nEND\n => ab\n
  T = TABLE()\n T<1> = 'a'\n T<'1'> = 'b'\n A = CONVERT(T,'ARRAY')\n OUTPUT = PROTOTYPE(A) A<2,2>\n A<3,1> :S(END)\n OUTPUT = 'fails'\nEND\n => 2,2b\nfails\n
@@ -104,11 +94,6 @@ const TABLES: &str = r"
  T = TABLE()\n T<'n'> = T<'n'> + 1\n T<'n'> = T<'n'> + 1\n OUTPUT = T<'n'>\nEND\n => 2\n
  OUTPUT = 'a'\n OUTPUT<1> = 'b'\nEND\n => a\nstatus 1: snobol4: error 1 in statement 2\n
 ";
-
-#[test]
-fn tables(rt: HostRuntime) -> Result<(), Fail> {
-    check_rows::<Programs, _>(&rt, TABLES)
-}
 
 const CONVERSIONS: &str = r"
 CONVERT(12,'STRING') => <12>
@@ -138,6 +123,7 @@ CONVERT(LEN(1),TABLE()) => error 1
 ";
 
 #[test]
-fn conversions(rt: HostRuntime) -> Result<(), Fail> {
-    check_rows::<Values, _>(&rt, CONVERSIONS)
+fn rows(rt: HostRuntime) -> Result<(), Fail> {
+    check_blocks::<Programs, _>(&rt, &[ARRAYS, TABLES])?;
+    check_blocks::<Values, _>(&rt, &[PROTOTYPES, CONVERSIONS])
 }

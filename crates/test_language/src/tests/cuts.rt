@@ -1,8 +1,9 @@
 //! FENCE(P) and BREAKX, worked out by hand.
 use super::asking::{Programs, Values, Ways};
-use super::rows::check_rows;
+use super::rows::{check_blocks, check_rows};
 use std::test::Fail;
 
+/// Each byte of a set is a stop.
 const STOPS_AT_EACH: &str = r"
 --anchor --steps 5 ; BREAKX('B') 'B' ; ABAB => way 0 2\nway 0 4\nexhausted\n
 --anchor --steps 4 ; BREAKX('B') 'B' ; ABAB => way 0 2\nlimit\n
@@ -14,11 +15,7 @@ const STOPS_AT_EACH: &str = r"
 --anchor ; BREAKX(*X) ; A => status 1: snobol4: error 6\n
 ";
 
-#[test]
-fn each_byte_of_a_set_is_a_stop(rt: HostRuntime) -> Result<(), Fail> {
-    check_rows::<Ways, _>(&rt, STOPS_AT_EACH)
-}
-
+/// A cut has one way.
 const CUTS: &str = r"
 --anchor --steps 6 ; FENCE('AB' | 'A') 'C' ; ABC => way 0 3\nexhausted\n
 --anchor --steps 5 ; FENCE('AB' | 'A') 'C' ; ABC => limit\n
@@ -38,11 +35,6 @@ const CUTS: &str = r"
 --anchor ; FENCE(1,2) ; 12 => way 0 1\nexhausted\n
 ";
 
-#[test]
-fn a_cut_has_one_way(rt: HostRuntime) -> Result<(), Fail> {
-    check_rows::<Ways, _>(&rt, CUTS)
-}
-
 /// A bare FENCE inside a cut aborts the match until the cut has ended, and then it is cut off as well.
 const BARE_FENCES_IN_CUTS: &str = r"
 --anchor --steps 5 ; FENCE('A' FENCE) ; AB => way 0 1\nexhausted\n
@@ -51,11 +43,6 @@ FENCE(FENCE 'C') 'D' ; AB => aborted\n
 --anchor ; FENCE(FENCE 'A') 'D' | 'AB' ; AB => way 0 2\nexhausted\n
 --anchor ; FENCE FENCE('A' | 'AB') 'C' ; ABC => aborted\n
 ";
-
-#[test]
-fn bare_fences_in_cuts(rt: HostRuntime) -> Result<(), Fail> {
-    check_rows::<Ways, _>(&rt, BARE_FENCES_IN_CUTS)
-}
 
 /// What was told inside a cut stands, and what waits is that of the way on which the cut ended.
 const ASSIGNMENTS_IN_CUTS: &str = r"
@@ -68,11 +55,6 @@ const ASSIGNMENTS_IN_CUTS: &str = r"
 --anchor ; FENCE(*TABLE()) ; A => status 1: snobol4: error 1\n
 ";
 
-#[test]
-fn assignments_in_cuts(rt: HostRuntime) -> Result<(), Fail> {
-    check_rows::<Ways, _>(&rt, ASSIGNMENTS_IN_CUTS)
-}
-
 const PROGRAMS_WITH_CUTS: &str = r"
  &ANCHOR = 1\n P = FENCE('(' *P ')' | 'X')\n '((X))' P . W :F(END)\n OUTPUT = W\nEND\n => ((X))\n
  Q = FENCE('A' | 'AB')\n P = FENCE(*Q 'C')\n 'ABC' P :S(END)\n OUTPUT = 'none'\nEND\n => none\n
@@ -82,22 +64,12 @@ const PROGRAMS_WITH_CUTS: &str = r"
  'name=text' BREAKX('=') . K '=' REM . V\n OUTPUT = V ' ' K\nEND\n => text name\n
 ";
 
-#[test]
-fn programs_with_cuts(rt: HostRuntime) -> Result<(), Fail> {
-    check_rows::<Programs, _>(&rt, PROGRAMS_WITH_CUTS)
-}
-
 /// The variable FENCE and the function don't touch, and what a program defines hides the functions.
 const NAMES_OF_CUTS: &str = r"
  FENCE = 'A'\n 'AB' FENCE('A' | 'B') . X\n OUTPUT = FENCE X\nEND\n => AA\n
  DEFINE('FENCE(S)')\n OUTPUT = FENCE('A') :(END)\nFENCE FENCE = 'mine ' S :(RETURN)\nEND\n => mine A\n
  DEFINE('BREAKX(S)')\n OUTPUT = BREAKX('A') :(END)\nBREAKX BREAKX = 'mine ' S :(RETURN)\nEND\n => mine A\n
 ";
-
-#[test]
-fn names_of_cuts(rt: HostRuntime) -> Result<(), Fail> {
-    check_rows::<Programs, _>(&rt, NAMES_OF_CUTS)
-}
 
 const TYPES_OF_CUTS: &str = r"
 DATATYPE(FENCE('A')) => <PATTERN>
@@ -112,6 +84,16 @@ BREAKX(ARB) => error 1
 ";
 
 #[test]
-fn types_of_cuts(rt: HostRuntime) -> Result<(), Fail> {
+fn rows(rt: HostRuntime) -> Result<(), Fail> {
+    check_blocks::<Ways, _>(
+        &rt,
+        &[
+            STOPS_AT_EACH,
+            CUTS,
+            BARE_FENCES_IN_CUTS,
+            ASSIGNMENTS_IN_CUTS,
+        ],
+    )?;
+    check_blocks::<Programs, _>(&rt, &[PROGRAMS_WITH_CUTS, NAMES_OF_CUTS])?;
     check_rows::<Values, _>(&rt, TYPES_OF_CUTS)
 }

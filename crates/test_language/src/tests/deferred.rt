@@ -1,6 +1,6 @@
 //! Expressions that aren't evaluated until a match reaches them, worked out by hand.
 use super::asking::{Programs, Values, Ways};
-use super::rows::check_rows;
+use super::rows::{check_blocks, check_rows};
 use std::test::Fail;
 
 /// An expression is evaluated each time that it is reached, and each time its value takes its place.
@@ -26,11 +26,6 @@ LEN(1) $ X *X ; ABB => set X 0 1\nset X 1 2\nway 1 3\nset X 2 3\nexhausted\n
 --anchor ; ?*(1 / 0) ; A => way 0 0\nexhausted\n
 ";
 
-#[test]
-fn expressions_in_matches(rt: HostRuntime) -> Result<(), Fail> {
-    check_rows::<Ways, _>(&rt, EXPRESSIONS_IN_MATCHES)
-}
-
 /// The argument of a primitive may be such an expression. The second row's steps are the concatenation, `$`, LEN(1),
 /// the close of `$`, the deferred LEN, and the LEN that takes its place.
 const ARGUMENTS_IN_MATCHES: &str = r"
@@ -49,11 +44,6 @@ LEN(1) $ N POS(*N) ; 1A => set N 0 1\nway 0 1\nset N 1 2\nstatus 1: snobol4: err
 --anchor ; NOTANY(*INPUT) | REM ; A => way 0 1\nexhausted\n
 ";
 
-#[test]
-fn arguments_in_matches(rt: HostRuntime) -> Result<(), Fail> {
-    check_rows::<Ways, _>(&rt, ARGUMENTS_IN_MATCHES)
-}
-
 const EXPRESSIONS_AS_VALUES: &str = r"
 DATATYPE(*X) => <EXPRESSION>
 DATATYPE(*X 'A') => <PATTERN>
@@ -71,11 +61,6 @@ DIFFER(*X,1) => <>
 ?*X => <>
 ~*X => fails
 ";
-
-#[test]
-fn expressions_as_values(rt: HostRuntime) -> Result<(), Fail> {
-    check_rows::<Values, _>(&rt, EXPRESSIONS_AS_VALUES)
-}
 
 /// A pattern may name itself, since its name is read only when a match comes to it.
 const PROGRAMS_WITH_EXPRESSIONS: &str = r"
@@ -121,11 +106,8 @@ const VARIABLES_IN_MATCHES: &str = r"
 ";
 
 #[test]
-fn variables_in_matches(rt: HostRuntime) -> Result<(), Fail> {
-    check_rows::<Programs, _>(&rt, VARIABLES_IN_MATCHES)
-}
-
-#[test]
-fn programs_with_expressions(rt: HostRuntime) -> Result<(), Fail> {
-    check_rows::<Programs, _>(&rt, PROGRAMS_WITH_EXPRESSIONS)
+fn rows(rt: HostRuntime) -> Result<(), Fail> {
+    check_blocks::<Ways, _>(&rt, &[EXPRESSIONS_IN_MATCHES, ARGUMENTS_IN_MATCHES])?;
+    check_rows::<Values, _>(&rt, EXPRESSIONS_AS_VALUES)?;
+    check_blocks::<Programs, _>(&rt, &[VARIABLES_IN_MATCHES, PROGRAMS_WITH_EXPRESSIONS])
 }

@@ -1,6 +1,6 @@
 //! Texts and words that are refused, and errors.
 use super::asking::{Commands, Ways};
-use super::rows::check_rows;
+use super::rows::{check_blocks, check_rows};
 use std::test::Fail;
 
 const TEXTS_THAT_ARE_REFUSED: &str = r"
@@ -13,11 +13,6 @@ LEN(1)'B' => status 2: snobol4: syntax 3 at line 1\n
 9223372036854775808 => status 2: snobol4: syntax 2 at line 1\n
 9223372036854775808 ) => status 2: snobol4: syntax 3 at line 1\n
 ";
-
-#[test]
-fn texts_that_are_refused(rt: HostRuntime) -> Result<(), Fail> {
-    check_rows::<Ways, _>(&rt, TEXTS_THAT_ARE_REFUSED)
-}
 
 const ERRORS_OF_PATTERNS: &str = r"
 LEN(-1) => status 1: snobol4: error 7\n
@@ -33,11 +28,6 @@ NOSUCH(1 / 0) => status 1: snobol4: error 3\n
 NOSUCH(1) => status 1: snobol4: error 4\n
 CONVERT(1 / 0) => status 1: snobol4: error 3\n
 ";
-
-#[test]
-fn errors_of_patterns(rt: HostRuntime) -> Result<(), Fail> {
-    check_rows::<Ways, _>(&rt, ERRORS_OF_PATTERNS)
-}
 
 /// A begins with the null string, which is neither an array nor a table; an object is no pattern.
 const ITEMS_AND_OBJECTS: &str = r"
@@ -56,11 +46,6 @@ $PROTOTYPE(1 / 0) => status 1: snobol4: error 3\n
 $TABLE() => status 1: snobol4: error 1\n
 ";
 
-#[test]
-fn items_and_objects(rt: HostRuntime) -> Result<(), Fail> {
-    check_rows::<Ways, _>(&rt, ITEMS_AND_OBJECTS)
-}
-
 /// A call for help is status 0, and the others are faults of usage.
 const WORDS_THAT_ARE_REFUSED: &str = r"
 snobol4 ways --steps 1000000001 'A' A => status 64
@@ -74,6 +59,14 @@ snobol4 --help => status 0
 ";
 
 #[test]
-fn words_that_are_refused(rt: HostRuntime) -> Result<(), Fail> {
+fn rows(rt: HostRuntime) -> Result<(), Fail> {
+    check_blocks::<Ways, _>(
+        &rt,
+        &[
+            TEXTS_THAT_ARE_REFUSED,
+            ERRORS_OF_PATTERNS,
+            ITEMS_AND_OBJECTS,
+        ],
+    )?;
     check_rows::<Commands, _>(&rt, WORDS_THAT_ARE_REFUSED)
 }

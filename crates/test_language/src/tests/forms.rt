@@ -1,7 +1,7 @@
 //! Forms and what they give of their operands, worked out by hand.
 use super::asking::Values;
 use super::machine::PatternNumbers;
-use super::rows::check_rows;
+use super::rows::{check_blocks, check_rows};
 use std::test::Fail;
 
 const ARITHMETIC: &str = r"
@@ -18,11 +18,6 @@ const ARITHMETIC: &str = r"
 +5 => <5>
 12 => <12>
 ";
-
-#[test]
-fn arithmetic(rt: HostRuntime) -> Result<(), Fail> {
-    check_rows::<Values, _>(&rt, ARITHMETIC)
-}
 
 /// What arithmetic gives is an integer, and a text is a string.
 const TYPES: &str = r"
@@ -45,11 +40,6 @@ DATATYPE('' 5) => <INTEGER>
 DATATYPE(.FENCE) => <STRING>
 ";
 
-#[test]
-fn types(rt: HostRuntime) -> Result<(), Fail> {
-    check_rows::<Values, _>(&rt, TYPES)
-}
-
 const STRINGS: &str = r"
 'AB' => <AB>
 'A' 'BC' => <ABC>
@@ -71,11 +61,6 @@ SIZE(DUPL('A',500000) DUPL('A',500001)) => error 8
 '' 5 => <5>
 .FENCE => <FENCE>
 ";
-
-#[test]
-fn strings(rt: HostRuntime) -> Result<(), Fail> {
-    check_rows::<Values, _>(&rt, STRINGS)
-}
 
 /// Seven patterns are there from the start; each new one takes the next number.
 const PATTERNS: &str = r"
@@ -108,6 +93,7 @@ $.INPUT => fails
 ";
 
 #[test]
-fn patterns(rt: HostRuntime) -> Result<(), Fail> {
+fn rows(rt: HostRuntime) -> Result<(), Fail> {
+    check_blocks::<Values, _>(&rt, &[ARITHMETIC, TYPES, STRINGS])?;
     check_rows::<PatternNumbers, _>(&rt, PATTERNS)
 }

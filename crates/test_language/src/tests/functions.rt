@@ -1,6 +1,6 @@
 //! The functions of numbers, texts and types, worked out by hand.
 use super::asking::Values;
-use super::rows::check_rows;
+use super::rows::check_blocks;
 use std::test::Fail;
 
 const COMPARISONS_THAT_HOLD: &str = r"
@@ -19,11 +19,6 @@ GE(0,0) => <>
 GE(10,9) => <>
 ";
 
-#[test]
-fn comparisons_that_hold(rt: HostRuntime) -> Result<(), Fail> {
-    check_rows::<Values, _>(&rt, COMPARISONS_THAT_HOLD)
-}
-
 const COMPARISONS_THAT_FAIL: &str = r"
 EQ(1,2) => fails
 EQ(1) => fails
@@ -36,11 +31,6 @@ GT(0,1) => fails
 GE(-1,0) => fails
 GE(9,10) => fails
 ";
-
-#[test]
-fn comparisons_that_fail(rt: HostRuntime) -> Result<(), Fail> {
-    check_rows::<Values, _>(&rt, COMPARISONS_THAT_FAIL)
-}
 
 const COMPARISONS_OF_OTHER_VALUES: &str = r"
 EQ('a',1) => error 1
@@ -71,11 +61,6 @@ EQ('a',LEN(1)) => error 1
 EQ(1,'9223372036854775808') => error 1
 ";
 
-#[test]
-fn comparisons_of_other_values(rt: HostRuntime) -> Result<(), Fail> {
-    check_rows::<Values, _>(&rt, COMPARISONS_OF_OTHER_VALUES)
-}
-
 const REMAINDERS: &str = r"
 REMDR(-7,2) => <-1>
 REMDR(7,-2) => <1>
@@ -88,11 +73,6 @@ REMDR(0,'a') => error 1
 REMDR(LEN(1),2) => error 1
 REMDR(2,LEN(1)) => error 1
 ";
-
-#[test]
-fn remainders(rt: HostRuntime) -> Result<(), Fail> {
-    check_rows::<Values, _>(&rt, REMAINDERS)
-}
 
 const EQUAL_AND_OTHER_VALUES: &str = r"
 IDENT(1,1) => <>
@@ -121,11 +101,6 @@ DIFFER(LEN(1),LEN(1)) => error 1
 DIFFER(ARB,REM) => error 1
 ";
 
-#[test]
-fn equal_and_other_values(rt: HostRuntime) -> Result<(), Fail> {
-    check_rows::<Values, _>(&rt, EQUAL_AND_OTHER_VALUES)
-}
-
 const BYTE_ORDER: &str = r"
 LGT('B','A') => <>
 LGT('A','A') => fails
@@ -141,11 +116,6 @@ LGT(LEN(1),'A') => error 1
 LGT('A',LEN(1)) => error 1
 ";
 
-#[test]
-fn byte_order(rt: HostRuntime) -> Result<(), Fail> {
-    check_rows::<Values, _>(&rt, BYTE_ORDER)
-}
-
 const INTEGERS: &str = r"
 INTEGER('') => <>
 INTEGER() => <>
@@ -160,11 +130,6 @@ INTEGER('1A') => fails
 INTEGER(LEN(1)) => fails
 ";
 
-#[test]
-fn integers(rt: HostRuntime) -> Result<(), Fail> {
-    check_rows::<Values, _>(&rt, INTEGERS)
-}
-
 const SIZES: &str = r"
 SIZE(-10) => <3>
 SIZE('') => <0>
@@ -176,11 +141,6 @@ DATATYPE(SIZE('A')) => <INTEGER>
 SIZE(LEN(1)) => error 1
 ";
 
-#[test]
-fn sizes(rt: HostRuntime) -> Result<(), Fail> {
-    check_rows::<Values, _>(&rt, SIZES)
-}
-
 const TRAILING_SPACES: &str = r"
 TRIM(' A B  ') => < A B>
 TRIM('   ') => <>
@@ -191,11 +151,6 @@ TRIM(10) => <10>
 DATATYPE(TRIM(10)) => <STRING>
 TRIM(LEN(1)) => error 1
 ";
-
-#[test]
-fn trailing_spaces(rt: HostRuntime) -> Result<(), Fail> {
-    check_rows::<Values, _>(&rt, TRAILING_SPACES)
-}
 
 const COPIES: &str = r"
 DUPL('AB',3) => <ABABAB>
@@ -215,11 +170,6 @@ DUPL(LEN(1),'x') => error 1
 DUPL(LEN(1),-1) => error 1
 ";
 
-#[test]
-fn copies(rt: HostRuntime) -> Result<(), Fail> {
-    check_rows::<Values, _>(&rt, COPIES)
-}
-
 const MANY_COPIES: &str = r"
 IDENT(DUPL('AB',1000),DUPL('ABAB',500)) => <>
 IDENT(DUPL('ABC',1001),'ABC' DUPL('ABC',1000)) => <>
@@ -227,11 +177,6 @@ IDENT(DUPL('ABC',1001),DUPL('ABC',1000) 'ABC') => <>
 SIZE(DUPL('ABC',333333)) => <999999>
 DUPL('ABC',333334) => error 8
 ";
-
-#[test]
-fn many_copies(rt: HostRuntime) -> Result<(), Fail> {
-    check_rows::<Values, _>(&rt, MANY_COPIES)
-}
 
 const REPLACEMENTS: &str = r"
 REPLACE('ABA','AB','XY') => <XYX>
@@ -251,11 +196,6 @@ REPLACE('A',LEN(1),'X') => error 1
 REPLACE('A','',LEN(1)) => error 1
 ";
 
-#[test]
-fn replacements(rt: HostRuntime) -> Result<(), Fail> {
-    check_rows::<Values, _>(&rt, REPLACEMENTS)
-}
-
 const NAMES_OF_TYPES: &str = r"
 DATATYPE('' 5) => <INTEGER>
 DATATYPE(1 2) => <STRING>
@@ -267,11 +207,6 @@ DATATYPE('A' | 'B') => <PATTERN>
 DATATYPE(.X) => <STRING>
 DATATYPE(DATATYPE(1)) => <STRING>
 ";
-
-#[test]
-fn names_of_types(rt: HostRuntime) -> Result<(), Fail> {
-    check_rows::<Values, _>(&rt, NAMES_OF_TYPES)
-}
 
 /// All are evaluated first; missing ones are null, and further ones are dropped.
 const ARGUMENTS: &str = r"
@@ -288,11 +223,6 @@ EQ(N,0) 1 => <1>
 'A' EQ(1,1) => <A>
 ";
 
-#[test]
-fn arguments(rt: HostRuntime) -> Result<(), Fail> {
-    check_rows::<Values, _>(&rt, ARGUMENTS)
-}
-
 const FUNCTIONS_BY_THEIR_NAMES: &str = r"
 CONVERT(1 / 0) => error 3
 ARRAY(1 / 0) => error 3
@@ -305,6 +235,25 @@ SIZES('A') => error 4
 ";
 
 #[test]
-fn functions_by_their_names(rt: HostRuntime) -> Result<(), Fail> {
-    check_rows::<Values, _>(&rt, FUNCTIONS_BY_THEIR_NAMES)
+fn rows(rt: HostRuntime) -> Result<(), Fail> {
+    check_blocks::<Values, _>(
+        &rt,
+        &[
+            COMPARISONS_THAT_HOLD,
+            COMPARISONS_THAT_FAIL,
+            COMPARISONS_OF_OTHER_VALUES,
+            REMAINDERS,
+            EQUAL_AND_OTHER_VALUES,
+            BYTE_ORDER,
+            INTEGERS,
+            SIZES,
+            TRAILING_SPACES,
+            COPIES,
+            MANY_COPIES,
+            REPLACEMENTS,
+            NAMES_OF_TYPES,
+            ARGUMENTS,
+            FUNCTIONS_BY_THEIR_NAMES,
+        ],
+    )
 }

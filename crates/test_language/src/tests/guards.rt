@@ -29,11 +29,6 @@ LT(1,2) ~LT(2,1) 'Y' => <Y>
 ~INPUT<INPUT> => <>
 ";
 
-#[test]
-fn guards(rt: HostRuntime) -> Result<(), Fail> {
-    check_rows::<Values, _>(&rt, GUARDS)
-}
-
 /// The values of an expression wait while its calls evaluate others, and those of a call that failed are gone.
 const NESTED: &str = r"
  DEFINE('F(X)') :(M)\nF F = 'f' X 'f' :(RETURN)\nM OUTPUT = 'a' F('b' F('c') 'd') 'e'\nEND\n => afbfcfdfe\n
@@ -44,6 +39,7 @@ const NESTED: &str = r"
 ";
 
 #[test]
-fn nested(rt: HostRuntime) -> Result<(), Fail> {
+fn rows(rt: HostRuntime) -> Result<(), Fail> {
+    check_rows::<Values, _>(&rt, GUARDS)?;
     check_rows::<Programs, _>(&rt, NESTED)
 }

@@ -142,11 +142,6 @@ const PROGRAMS: &str = r"
  OUTPUT = INPUT '.'\nEND\n <- a\r\n => a\r.\n
 ";
 
-#[test]
-fn programs_at_their_limits(rt: HostRuntime) -> Result<(), Fail> {
-    check_rows::<Programs, _>(&rt, PROGRAMS)
-}
-
 /// A statement of 8,000 bytes, and of one more.
 const STATEMENTS: &str = r"
  X = '\<7993:A\>'\nEND\n => status 0
@@ -154,6 +149,7 @@ const STATEMENTS: &str = r"
 ";
 
 #[test]
-fn statements_at_their_limit(rt: HostRuntime) -> Result<(), Fail> {
+fn rows(rt: HostRuntime) -> Result<(), Fail> {
+    check_rows::<Programs, _>(&rt, PROGRAMS)?;
     check_rows::<Checks, _>(&rt, STATEMENTS)
 }

@@ -1,6 +1,6 @@
 //! Lines of input as values.
 use super::asking::Programs;
-use super::rows::check_rows;
+use super::rows::check_blocks;
 use std::test::Fail;
 
 const LINES_ARE_VALUES: &str = r"
@@ -12,19 +12,9 @@ const LINES_ARE_VALUES: &str = r"
  &TRIM = -1\n OUTPUT = '<' INPUT '>'\nEND\n <- a \t \n => <a \t>\n
 ";
 
-#[test]
-fn lines_are_values(rt: HostRuntime) -> Result<(), Fail> {
-    check_rows::<Programs, _>(&rt, LINES_ARE_VALUES)
-}
-
 const INPUT_ENDS_IN_FAILURE: &str = r"
  X = INPUT :S(END)\n OUTPUT = 'fails'\nEND\n => fails\n
 ";
-
-#[test]
-fn input_ends_in_failure(rt: HostRuntime) -> Result<(), Fail> {
-    check_rows::<Programs, _>(&rt, INPUT_ENDS_IN_FAILURE)
-}
 
 const LONG_LINES: &str = r"
  OUTPUT = SIZE(INPUT)\nEND\n <- \<1000000:A\> => 1000000\n
@@ -32,6 +22,6 @@ const LONG_LINES: &str = r"
 ";
 
 #[test]
-fn long_lines(rt: HostRuntime) -> Result<(), Fail> {
-    check_rows::<Programs, _>(&rt, LONG_LINES)
+fn rows(rt: HostRuntime) -> Result<(), Fail> {
+    check_blocks::<Programs, _>(&rt, &[LINES_ARE_VALUES, INPUT_ENDS_IN_FAILURE, LONG_LINES])
 }

@@ -1,7 +1,7 @@
 //! Arithmetic and comparisons of two integers beside the operands that have to be converted first, those that give an
 //! error, and functions that a program defines under the same names, worked out by hand.
 use super::asking::{Programs, Values};
-use super::rows::check_rows;
+use super::rows::check_blocks;
 use std::test::Fail;
 
 const ARITHMETIC: &str = r"
@@ -31,11 +31,6 @@ DATATYPE('' '') => <STRING>
 2 + 3 * 4 - 5 => <9>
 ";
 
-#[test]
-fn arithmetic(rt: HostRuntime) -> Result<(), Fail> {
-    check_rows::<Values, _>(&rt, ARITHMETIC)
-}
-
 const COMPARISONS: &str = r"
 LT(1,2) => <>
 LT(2,2) => fails
@@ -62,11 +57,7 @@ LT(1,2,0) 'Y' => <Y>
 LT(2,1,5) => fails
 ";
 
-#[test]
-fn comparisons(rt: HostRuntime) -> Result<(), Fail> {
-    check_rows::<Values, _>(&rt, COMPARISONS)
-}
-
+/// Strings of digits.
 const DIGITS: &str = r"
 '007' + 1 => <8>
 1 + '007' => <8>
@@ -119,11 +110,7 @@ DATATYPE('12' '') => <STRING>
 DATATYPE('12' + '') => <INTEGER>
 ";
 
-#[test]
-fn strings_of_digits(rt: HostRuntime) -> Result<(), Fail> {
-    check_rows::<Values, _>(&rt, DIGITS)
-}
-
+/// Compared strings of digits.
 const COMPARED_DIGITS: &str = r"
 LT('007',8) => <>
 GE(8,'007') => <>
@@ -173,11 +160,7 @@ GT('10','9') => <>
 LE('10','9') => fails
 ";
 
-#[test]
-fn compared_strings_of_digits(rt: HostRuntime) -> Result<(), Fail> {
-    check_rows::<Values, _>(&rt, COMPARED_DIGITS)
-}
-
+/// Operations that stand alone.
 const ALONE: &str = r"
  OUTPUT = 3 + 4\n OUTPUT = 3 - 4\n OUTPUT = 3 * 4\n OUTPUT = '7' - 3\n OUTPUT = 7 - '3'\nEND\n => 7\n-1\n12\n4\n4\n
  OUTPUT = 9223372036854775807 + 1\nEND\n => status 1: snobol4: error 2 in statement 1\n
@@ -199,11 +182,7 @@ const ALONE: &str = r"
  DEFINE('F()')\n DEFINE('G()')\n X = ~F() :F(END)\n X = ~G() :S(END)\n OUTPUT = 'end' :(END)\nF :(FRETURN)\nG :(RETURN)\nEND\n => end\n
 ";
 
-#[test]
-fn operations_that_stand_alone(rt: HostRuntime) -> Result<(), Fail> {
-    check_rows::<Programs, _>(&rt, ALONE)
-}
-
+/// Operands of operations.
 const OPERANDS: &str = r"
  OUTPUT = 1 + (2 + (3 + (4 + (5 + (6 + (7 + 8))))))\n OUTPUT = 1 + (2 + (3 + (4 + (5 + (6 + (7 + (8 + 9)))))))\nEND\n => 36\n45\n
  S = '2'\n OUTPUT = S + (S + (S + (S + (S + (S + (S + (S + (S + (S + S)))))))))\nEND\n => 22\n
@@ -217,11 +196,7 @@ const OPERANDS: &str = r"
  T = TABLE()\n T<1> = 5\n T<5> = 7\n OUTPUT = T<1> + 5\n OUTPUT = T<T<1>> - T<1>\n OUTPUT = SIZE(T<T<1>>)\nEND\n => 10\n2\n1\n
 ";
 
-#[test]
-fn operands_of_operations(rt: HostRuntime) -> Result<(), Fail> {
-    check_rows::<Programs, _>(&rt, OPERANDS)
-}
-
+/// Elements and entries.
 const ELEMENTS: &str = r"
  A = ARRAY(3,4)\n I = 2\n OUTPUT = EQ(A<I> + A<I + 1> - A<I - 1>,4) 'four'\n OUTPUT = LT(A<I> * A<I>,16) 'less' :S(END)\n OUTPUT = A<I + 1> * 2 - 1\nEND\n => four\n7\n
  A = ARRAY(3,0)\n I = 3\n EQ(A<I + 1>,0) :S(END)\n EQ(A<I> + A<I + 1>,0) :S(END)\n OUTPUT = 'out'\nEND\n => out\n
@@ -242,11 +217,6 @@ const ELEMENTS: &str = r"
  I = 1\n OUTPUT = EQ(I<1>,0) 'item'\nEND\n => status 1: snobol4: error 1 in statement 2\n
 ";
 
-#[test]
-fn elements_and_entries(rt: HostRuntime) -> Result<(), Fail> {
-    check_rows::<Programs, _>(&rt, ELEMENTS)
-}
-
 const CONDITIONS: &str = r"
  I = 3\n OUTPUT = LT(I,4) I\n OUTPUT = LT(I,3) I :S(END)\n OUTPUT = LE(I,3) I * I\n OUTPUT = GE(I,4) I - 1 :S(END)\n OUTPUT = NE(I,0) EQ(I,3)\n OUTPUT = '<' NE(I,0) EQ(I,4) '>' :S(END)\n OUTPUT = 'end'\nEND\n => 3\n9\n\nend\n
  S = 'text'\n N = '07'\n OUTPUT = GT(2,1) S\n OUTPUT = GT(2,1) 'literal'\n OUTPUT = GT(N,1) N\n OUTPUT = GT(N,1) N + 1\n OUTPUT = GT(N,1) S + 1\nEND\n => text\nliteral\n07\n8\nstatus 1: snobol4: error 1 in statement 7\n
@@ -260,11 +230,6 @@ const CONDITIONS: &str = r"
  N = 3\n X = ~LT(N,2) N :F(END)\n OUTPUT = X\n X = ~(LT(N,9) N) :S(END)\n X = ~(LT(N,2) N) 'none'\n OUTPUT = X\nEND\n => 3\nnone\n
  OUTPUT = LT(INPUT,5) INPUT + 1\n OUTPUT = LT(INPUT,5) INPUT + 1 :S(END)\n OUTPUT = INPUT\nEND\n <- 3\n4\n9\n2\n => 5\n2\n
 ";
-
-#[test]
-fn conditions(rt: HostRuntime) -> Result<(), Fail> {
-    check_rows::<Programs, _>(&rt, CONDITIONS)
-}
 
 const PROGRAMS: &str = r"
  I = 0\nL I = LT(I,3) I + 1 :S(L)\n OUTPUT = I\nEND\n => 3\n
@@ -293,6 +258,7 @@ L N = N + INPUT :S(L)\n OUTPUT = N\nEND\n <- 3\n4\n => 7\n
 ";
 
 #[test]
-fn programs(rt: HostRuntime) -> Result<(), Fail> {
-    check_rows::<Programs, _>(&rt, PROGRAMS)
+fn rows(rt: HostRuntime) -> Result<(), Fail> {
+    check_blocks::<Values, _>(&rt, &[ARITHMETIC, COMPARISONS, DIGITS, COMPARED_DIGITS])?;
+    check_blocks::<Programs, _>(&rt, &[ALONE, OPERANDS, ELEMENTS, CONDITIONS, PROGRAMS])
 }

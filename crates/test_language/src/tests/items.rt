@@ -1,6 +1,6 @@
 //! What an item is of is evaluated first, then the subscripts from left to right, and then both are judged.
 use super::asking::{Programs, Ways};
-use super::rows::check_rows;
+use super::rows::check_blocks;
 use std::test::Fail;
 
 const ITEMS_THAT_FAIL: &str = r"
@@ -16,11 +16,6 @@ LEN(1) . INPUT<1 / 0> => exhausted\n
 LEN(1) $ A<INPUT,1 / 0> => exhausted\n
 ";
 
-#[test]
-fn items_that_fail(rt: HostRuntime) -> Result<(), Fail> {
-    check_rows::<Ways, _>(&rt, ITEMS_THAT_FAIL)
-}
-
 const ERRORS_OF_SUBSCRIPTS: &str = r"
 A<1 / 0> => status 1: snobol4: error 3\n
 A[1 / 0,INPUT] => status 1: snobol4: error 3\n
@@ -33,11 +28,6 @@ LEN(1) . A<1,1 / 0> => status 1: snobol4: error 3\n
 LEN(1) $ A<1 / 0> => status 1: snobol4: error 3\n
 A<LEN('A'),1 / 0> => status 1: snobol4: error 1\n
 ";
-
-#[test]
-fn errors_of_subscripts(rt: HostRuntime) -> Result<(), Fail> {
-    check_rows::<Ways, _>(&rt, ERRORS_OF_SUBSCRIPTS)
-}
 
 /// Elements of two subscripts, entries and fields, as values and as names.
 const PLACES: &str = r"
@@ -54,11 +44,6 @@ const PLACES: &str = r"
  DATA('NODE(VAL,NEXT)')\n P = NODE(2,NODE(3))\n GT(VAL(NEXT(P)),VAL(P)) :F(END)\n IDENT(NEXT(NEXT(P))) :F(END)\n DIFFER(VAL(P),'2') :F(END)\n OUTPUT = VAL(P) * VAL(NEXT(P))\n OUTPUT = VAL(5)\nEND\n => 6\nstatus 1: snobol4: error 1 in statement 7\n
 ";
 
-#[test]
-fn places(rt: HostRuntime) -> Result<(), Fail> {
-    check_rows::<Programs, _>(&rt, PLACES)
-}
-
 /// Strings, integers and null, compared with literals.
 const COMPARED: &str = r"
  S = 'abc'\n DIFFER(S,'abc') :S(END)\n IDENT(S,'abc') :F(END)\n N = 5\n DIFFER(N,'5') :F(END)\n LGT(S,'abb') :F(END)\n LGT(S,'abc') :S(END)\n LGT(N,'4') :F(END)\n IDENT(M,'') :F(END)\n DIFFER(S,'') :F(END)\n OUTPUT = 'all'\nEND\n => all\n
@@ -67,6 +52,7 @@ const COMPARED: &str = r"
 ";
 
 #[test]
-fn compared(rt: HostRuntime) -> Result<(), Fail> {
-    check_rows::<Programs, _>(&rt, COMPARED)
+fn rows(rt: HostRuntime) -> Result<(), Fail> {
+    check_blocks::<Ways, _>(&rt, &[ITEMS_THAT_FAIL, ERRORS_OF_SUBSCRIPTS])?;
+    check_blocks::<Programs, _>(&rt, &[PLACES, COMPARED])
 }

@@ -1,6 +1,6 @@
 //! Strings that are joined, worked out by hand.
 use super::asking::Programs;
-use super::rows::check_rows;
+use super::rows::check_blocks;
 use std::test::Fail;
 
 /// Literals and variables that hold strings, and what else may stand among them.
@@ -79,31 +79,9 @@ const ARGUMENTS: &str = r"
 ";
 
 #[test]
-fn integers_are_joined(rt: HostRuntime) -> Result<(), Fail> {
-    check_rows::<Programs, _>(&rt, INTEGERS)
-}
-
-#[test]
-fn operands_are_joined(rt: HostRuntime) -> Result<(), Fail> {
-    check_rows::<Programs, _>(&rt, OPERANDS)
-}
-
-#[test]
-fn long_strings_are_joined(rt: HostRuntime) -> Result<(), Fail> {
-    check_rows::<Programs, _>(&rt, LENGTHS)
-}
-
-#[test]
-fn long_strings_grow(rt: HostRuntime) -> Result<(), Fail> {
-    check_rows::<Programs, _>(&rt, GROWING)
-}
-
-#[test]
-fn other_strings_are_joined(rt: HostRuntime) -> Result<(), Fail> {
-    check_rows::<Programs, _>(&rt, NOT_GROWING)
-}
-
-#[test]
-fn arguments_are_absent(rt: HostRuntime) -> Result<(), Fail> {
-    check_rows::<Programs, _>(&rt, ARGUMENTS)
+fn rows(rt: HostRuntime) -> Result<(), Fail> {
+    check_blocks::<Programs, _>(
+        &rt,
+        &[INTEGERS, OPERANDS, LENGTHS, GROWING, NOT_GROWING, ARGUMENTS],
+    )
 }

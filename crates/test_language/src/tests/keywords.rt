@@ -1,6 +1,6 @@
 //! Keywords.
 use super::asking::Ways;
-use super::rows::check_rows;
+use super::rows::check_blocks;
 use std::test::Fail;
 
 const VALUES_OF_KEYWORDS: &str = r"
@@ -18,11 +18,6 @@ const VALUES_OF_KEYWORDS: &str = r"
 &ANCHOR 'A' ; 0A => way 0 2\nexhausted\n
 ";
 
-#[test]
-fn values_of_keywords(rt: HostRuntime) -> Result<(), Fail> {
-    check_rows::<Ways, _>(&rt, VALUES_OF_KEYWORDS)
-}
-
 /// Other names are no keywords, and a keyword has no name.
 const ERRORS_OF_KEYWORDS: &str = r"
 &FOO => status 1: snobol4: error 14\n
@@ -37,6 +32,6 @@ LEN(1) $ &FOO => status 1: snobol4: error 15\n
 ";
 
 #[test]
-fn errors_of_keywords(rt: HostRuntime) -> Result<(), Fail> {
-    check_rows::<Ways, _>(&rt, ERRORS_OF_KEYWORDS)
+fn rows(rt: HostRuntime) -> Result<(), Fail> {
+    check_blocks::<Ways, _>(&rt, &[VALUES_OF_KEYWORDS, ERRORS_OF_KEYWORDS])
 }

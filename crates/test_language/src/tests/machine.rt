@@ -2,7 +2,7 @@
 ghost use Rattle.std.specs.Prelude.{◌≡◌, ◌≤◌, ◌<◌, None, length, IfOk, IfSome};
 ghost use Rattle.sno_statement.specs.Running.{CanRun, devices};
 
-use super::rows::{Question, check_rows};
+use super::rows::{Question, check_blocks};
 use sno_text::{Program, read_expression};
 use sno_value::{ExprId, PatId};
 use snobol::{Device, Limits, Machine, Outcome, Sink, Source};
@@ -200,21 +200,11 @@ LEN(1) $ OUTPUT ; AB ; C => A\nC\n0-1, 0-1
 LEN(1) . OUTPUT RPOS(0) ; A ; AB => A\nB\n0-1, 1-2
 ";
 
-#[test]
-fn first_ways(rt: HostRuntime) -> Result<(), Fail> {
-    check_rows::<Finds, _>(&rt, FIRST_WAYS)
-}
-
 /// Patterns are read from the input, line after line, up to its end.
 const PATTERNS_OF_INPUT: &str = r"
 INPUT ; AB ; AB => 0-1, 1-2
 INPUT INPUT INPUT ; AB ; AB => none, none
 ";
-
-#[test]
-fn patterns_of_input(rt: HostRuntime) -> Result<(), Fail> {
-    check_rows::<Finds, _>(&rt, PATTERNS_OF_INPUT)
-}
 
 /// What stops a machine is answered again, and it writes nothing more.
 const STOPS: &str = r"
@@ -222,11 +212,6 @@ ARBNO(ARBNO('A')) 'B' ; AAAAAAAAAAAA ; B => error 21 in statement 0, error 21 in
 ARBNO(ARBNO('A')) 'B' ; B ; AAAAAAAAAAAA => 0-1, error 21 in statement 0
 LEN(-1) ; A ; A => error 7 in statement 0, error 7 in statement 0
 ";
-
-#[test]
-fn stops(rt: HostRuntime) -> Result<(), Fail> {
-    check_rows::<Finds, _>(&rt, STOPS)
-}
 
 /// What a machine answers behind an error: for the expression whose pattern is the error, and for a match.
 type Refused = (Result<Option<PatId>, Outcome>, Found);
@@ -279,4 +264,9 @@ fn errors_stay(rt: HostRuntime) -> Result<(), Fail> {
     assert_eq!(rt; refused, Some((Err(error(7)), Err(error(7)))));
     assert!(rt; written.is_empty());
     Ok(())
+}
+
+#[test]
+fn rows(rt: HostRuntime) -> Result<(), Fail> {
+    check_blocks::<Finds, _>(&rt, &[FIRST_WAYS, PATTERNS_OF_INPUT, STOPS])
 }

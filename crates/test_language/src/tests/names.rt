@@ -1,6 +1,6 @@
 //! Variables, how they are named, and the operators that turn failure round.
 use super::asking::Ways;
-use super::rows::check_rows;
+use super::rows::check_blocks;
 use std::test::Fail;
 
 /// Every other variable begins with null.
@@ -20,11 +20,6 @@ LEN(INPUT) => exhausted\n
 ANY(X) => status 1: snobol4: error 6\n
 ";
 
-#[test]
-fn new_variables(rt: HostRuntime) -> Result<(), Fail> {
-    check_rows::<Ways, _>(&rt, NEW_VARIABLES)
-}
-
 const QUERIES_AND_NEGATIONS: &str = r"
 ?'A' => way 0 0\nway 1 1\nexhausted\n
 ?INPUT => exhausted\n
@@ -41,11 +36,6 @@ const QUERIES_AND_NEGATIONS: &str = r"
 ~(1 / 0) => status 1: snobol4: error 3\n
 ?(1 / 0) => status 1: snobol4: error 3\n
 ";
-
-#[test]
-fn queries_and_negations(rt: HostRuntime) -> Result<(), Fail> {
-    check_rows::<Ways, _>(&rt, QUERIES_AND_NEGATIONS)
-}
 
 /// $X is the variable that the text of X names.
 const VARIABLES_BY_THEIR_NAMES: &str = r"
@@ -70,11 +60,6 @@ LEN(1) . $INPUT => exhausted\n
 --anchor ; LEN(1) . (X) ; A => way 0 1 X=0-1\nexhausted\n
 ";
 
-#[test]
-fn variables_by_their_names(rt: HostRuntime) -> Result<(), Fail> {
-    check_rows::<Ways, _>(&rt, VARIABLES_BY_THEIR_NAMES)
-}
-
 /// .X is the name of X as a string.
 const NAMES_AS_VALUES: &str = r"
 --anchor ; .X ; X => way 0 1\nexhausted\n
@@ -90,11 +75,6 @@ const NAMES_AS_VALUES: &str = r"
 --anchor ; .$.X ; X => way 0 1\nexhausted\n
 --anchor ; LEN(1) . $.X ; A => way 0 1 X=0-1\nexhausted\n
 ";
-
-#[test]
-fn names_as_values(rt: HostRuntime) -> Result<(), Fail> {
-    check_rows::<Ways, _>(&rt, NAMES_AS_VALUES)
-}
 
 const FORMS_WITHOUT_A_NAME: &str = r"
 LEN(1) . 'Z' => status 1: snobol4: error 15\n
@@ -119,11 +99,6 @@ LEN(1) . ~INPUT => status 1: snobol4: error 15\n
 $.'Z' => status 1: snobol4: error 15\n
 ";
 
-#[test]
-fn forms_without_a_name(rt: HostRuntime) -> Result<(), Fail> {
-    check_rows::<Ways, _>(&rt, FORMS_WITHOUT_A_NAME)
-}
-
 const NULL_NAMES_AND_WRONG_TYPES: &str = r"
 $'' => status 1: snobol4: error 6\n
 $X => status 1: snobol4: error 6\n
@@ -144,11 +119,6 @@ ANY(@X) => status 1: snobol4: error 1\n
 1 + @X => status 1: snobol4: error 1\n
 ";
 
-#[test]
-fn null_names_and_wrong_types(rt: HostRuntime) -> Result<(), Fail> {
-    check_rows::<Ways, _>(&rt, NULL_NAMES_AND_WRONG_TYPES)
-}
-
 /// Operands are evaluated, or taken as names, from left to right; the first that fails or is an error decides.
 const FAILURES_AND_ERRORS_IN_THEIR_ORDER: &str = r"
 INPUT . 'Z' => exhausted\n
@@ -167,6 +137,17 @@ LEN(1) . 'Z' (1 / 0) => status 1: snobol4: error 15\n
 ";
 
 #[test]
-fn failures_and_errors_in_their_order(rt: HostRuntime) -> Result<(), Fail> {
-    check_rows::<Ways, _>(&rt, FAILURES_AND_ERRORS_IN_THEIR_ORDER)
+fn rows(rt: HostRuntime) -> Result<(), Fail> {
+    check_blocks::<Ways, _>(
+        &rt,
+        &[
+            NEW_VARIABLES,
+            QUERIES_AND_NEGATIONS,
+            VARIABLES_BY_THEIR_NAMES,
+            NAMES_AS_VALUES,
+            FORMS_WITHOUT_A_NAME,
+            NULL_NAMES_AND_WRONG_TYPES,
+            FAILURES_AND_ERRORS_IN_THEIR_ORDER,
+        ],
+    )
 }

@@ -1,6 +1,6 @@
 //! Operations and items inside others, worked out by hand.
 use super::asking::Programs;
-use super::rows::check_rows;
+use super::rows::check_blocks;
 use std::test::Fail;
 
 /// As many operands wait as are told, and more.
@@ -43,16 +43,6 @@ const CONDITIONS: &str = r"
 ";
 
 #[test]
-fn operands_wait(rt: HostRuntime) -> Result<(), Fail> {
-    check_rows::<Programs, _>(&rt, WAITING)
-}
-
-#[test]
-fn operations_inside_others(rt: HostRuntime) -> Result<(), Fail> {
-    check_rows::<Programs, _>(&rt, OPERATIONS)
-}
-
-#[test]
-fn conditions_inside_operations(rt: HostRuntime) -> Result<(), Fail> {
-    check_rows::<Programs, _>(&rt, CONDITIONS)
+fn rows(rt: HostRuntime) -> Result<(), Fail> {
+    check_blocks::<Programs, _>(&rt, &[WAITING, OPERATIONS, CONDITIONS])
 }

@@ -1,6 +1,6 @@
 //! Each primitive, and numbers as patterns.
 use super::asking::Ways;
-use super::rows::check_rows;
+use super::rows::check_blocks;
 use std::test::Fail;
 
 const NUMBERS_AS_PATTERNS: &str = r"
@@ -13,11 +13,6 @@ const NUMBERS_AS_PATTERNS: &str = r"
 --anchor ; +'007' ; 7 => way 0 1\nexhausted\n
 --anchor ; LEN(1 + 1) ; AB => way 0 2\nexhausted\n
 ";
-
-#[test]
-fn numbers_as_patterns(rt: HostRuntime) -> Result<(), Fail> {
-    check_rows::<Ways, _>(&rt, NUMBERS_AS_PATTERNS)
-}
 
 const EVERY_PRIMITIVE: &str = r"
 ARB ; AB => way 0 0\nway 0 1\nway 0 2\nway 1 1\nway 1 2\nway 2 2\nexhausted\n
@@ -37,6 +32,6 @@ POS(1) REM ; ABC => way 1 3\nexhausted\n
 ";
 
 #[test]
-fn every_primitive(rt: HostRuntime) -> Result<(), Fail> {
-    check_rows::<Ways, _>(&rt, EVERY_PRIMITIVE)
+fn rows(rt: HostRuntime) -> Result<(), Fail> {
+    check_blocks::<Ways, _>(&rt, &[NUMBERS_AS_PATTERNS, EVERY_PRIMITIVE])
 }

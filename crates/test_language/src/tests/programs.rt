@@ -1,6 +1,6 @@
 //! Programs that are checked: the line on standard error, and the status.
 use super::asking::{Checks, Commands};
-use super::rows::{Question, check_rows};
+use super::rows::{Question, check_blocks, check_rows};
 use std::test::Fail;
 
 const PROGRAMS_THAT_ARE_CHECKED: &str = r"
@@ -14,29 +14,14 @@ L OUTPUT = INPUT :S(L)F(END)\nEND\n => status 0
  X = F (N)\nEND\n => status 0
 ";
 
-#[test]
-fn programs_that_are_checked(rt: HostRuntime) -> Result<(), Fail> {
-    check_rows::<Checks, _>(&rt, PROGRAMS_THAT_ARE_CHECKED)
-}
-
 const FILES_THAT_ARE_NOT_READ: &str = r"
 snobol4 check f.sno => status 3: snobol4: cannot read f.sno\n
 snobol4 run f.sno => status 3: snobol4: cannot read f.sno\n
 ";
 
-#[test]
-fn files_that_are_not_read(rt: HostRuntime) -> Result<(), Fail> {
-    check_rows::<Commands, _>(&rt, FILES_THAT_ARE_NOT_READ)
-}
-
 const DEEP_PROGRAMS: &str = r"
 * deep\n Y = \<41:(\>\nEND\n => status 2: snobol4: too large at line 2\n
 ";
-
-#[test]
-fn deep_programs(rt: HostRuntime) -> Result<(), Fail> {
-    check_rows::<Checks, _>(&rt, DEEP_PROGRAMS)
-}
 
 #[test]
 fn longest_program(rt: HostRuntime) -> Result<(), Fail> {
@@ -52,4 +37,10 @@ fn too_long_a_program(rt: HostRuntime) -> Result<(), Fail> {
     let answer = Checks::answer(rt.alloc(), &too_long)?;
     assert_eq!(rt; answer.as_str(), "status 2: snobol4: too large at line 0\n");
     Ok(())
+}
+
+#[test]
+fn rows(rt: HostRuntime) -> Result<(), Fail> {
+    check_blocks::<Checks, _>(&rt, &[PROGRAMS_THAT_ARE_CHECKED, DEEP_PROGRAMS])?;
+    check_rows::<Commands, _>(&rt, FILES_THAT_ARE_NOT_READ)
 }

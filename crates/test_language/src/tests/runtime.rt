@@ -3,7 +3,7 @@ ghost use Rattle.std.specs.Prelude.{List};
 ghost use Rattle.sno_pattern.specs.Table.{Node};
 ghost use Rattle.sno_runtime.specs.Values.{IsValueOf};
 
-use super::rows::{Question, check_rows};
+use super::rows::{Question, check_blocks, check_rows};
 use sno_runtime::{
     Exit, Keywords, Runtime, Stop, assign, called, function_named, operation, unary_name,
 };
@@ -112,11 +112,6 @@ $ BAL OUTPUT => error 1, 7 patterns
 . *X OUTPUT => Pat(PatId(8)), 9 patterns
 ";
 
-#[test]
-fn operators(rt: HostRuntime) -> Result<(), Fail> {
-    check_rows::<Forms, _>(&rt, OPERATORS)
-}
-
 /// Nine symbols are there from the start, and a new one takes the next number.
 const NAMES_BY_VALUES: &str = r"
 name A<1> => Name(Elem(ObjId(0), 1)), 7 patterns
@@ -124,11 +119,6 @@ name 1 => Name(Var(SymId(9))), 7 patterns
 name T => error 1, 7 patterns
 name null => error 6, 7 patterns
 ";
-
-#[test]
-fn names_by_values(rt: HostRuntime) -> Result<(), Fail> {
-    check_rows::<Forms, _>(&rt, NAMES_BY_VALUES)
-}
 
 const TYPES: &str = r"
 DATATYPE ARB => 'NAME', 7 patterns
@@ -156,11 +146,6 @@ LT 0 A => error 1, 7 patterns
 LT 0 T => error 1, 7 patterns
 LT 0 *X => error 1, 7 patterns
 ";
-
-#[test]
-fn types(rt: HostRuntime) -> Result<(), Fail> {
-    check_rows::<Forms, _>(&rt, TYPES)
-}
 
 /// Values of the types that no other test has.
 const OTHERS: [&str; 12] = [
@@ -239,6 +224,7 @@ OUTPUT => Err(Error(1))
 ";
 
 #[test]
-fn values_of_output(rt: HostRuntime) -> Result<(), Fail> {
+fn rows(rt: HostRuntime) -> Result<(), Fail> {
+    check_blocks::<Forms, _>(&rt, &[OPERATORS, NAMES_BY_VALUES, TYPES])?;
     check_rows::<Outputs, _>(&rt, VALUES_OF_OUTPUT)
 }

@@ -1,6 +1,6 @@
 //! Variables that are set, and what OUTPUT writes of the values that it is given.
 use super::asking::Programs;
-use super::rows::check_rows;
+use super::rows::check_blocks;
 use std::test::Fail;
 
 /// OUTPUT writes a text as a line, and keeps the value.
@@ -10,11 +10,6 @@ const VALUES_GIVEN_TO_OUTPUT: &str = r"
  OUTPUT = -5\n OUTPUT = OUTPUT DATATYPE(OUTPUT)\nEND\n => -5\n-5INTEGER\n
 ";
 
-#[test]
-fn values_given_to_output(rt: HostRuntime) -> Result<(), Fail> {
-    check_rows::<Programs, _>(&rt, VALUES_GIVEN_TO_OUTPUT)
-}
-
 /// Other variables write nothing, and INPUT has no lines whatever it was given.
 const VALUES_GIVEN_TO_VARIABLES: &str = r"
  OUTPUT = '<' X '>'\n X = 1\n OUTPUT = X DATATYPE(X)\nEND\n => <>\n1INTEGER\n
@@ -23,6 +18,6 @@ const VALUES_GIVEN_TO_VARIABLES: &str = r"
 ";
 
 #[test]
-fn values_given_to_variables(rt: HostRuntime) -> Result<(), Fail> {
-    check_rows::<Programs, _>(&rt, VALUES_GIVEN_TO_VARIABLES)
+fn rows(rt: HostRuntime) -> Result<(), Fail> {
+    check_blocks::<Programs, _>(&rt, &[VALUES_GIVEN_TO_OUTPUT, VALUES_GIVEN_TO_VARIABLES])
 }

@@ -1,6 +1,6 @@
 //! Programs, what they write, and how they end.
 use super::asking::Programs;
-use super::rows::check_rows;
+use super::rows::check_blocks;
 use std::test::Fail;
 
 const INPUT_AND_OUTPUT: &str = r"
@@ -19,11 +19,6 @@ L OUTPUT = INPUT :S(L)F(END)\nEND\n => status 0
  OUTPUT = 'a'\n OUTPUT = ARB\nEND\n => a\nstatus 1: snobol4: error 1 in statement 2\n
  $'OUTPUT' = 'a'\nEND\n => a\n
 ";
-
-#[test]
-fn input_and_output(rt: HostRuntime) -> Result<(), Fail> {
-    check_rows::<Programs, _>(&rt, INPUT_AND_OUTPUT)
-}
 
 const GOTOS: &str = r"
  :($INPUT)\nEND\n => status 1: snobol4: error 11 in statement 1\n
@@ -47,11 +42,6 @@ const GOTOS: &str = r"
  OUTPUT = 'a'\nEND END\n => status 0
 ";
 
-#[test]
-fn gotos(rt: HostRuntime) -> Result<(), Fail> {
-    check_rows::<Programs, _>(&rt, GOTOS)
-}
-
 const ASSIGNMENTS: &str = r"
  X = 1\n Y = X + 1\n OUTPUT = Y\nEND\n => 2\n
  X = 'Y'\n $X = 5\n OUTPUT = Y\nEND\n => 5\n
@@ -65,11 +55,6 @@ const ASSIGNMENTS: &str = r"
  OUTPUT = -7 / 2\n OUTPUT = 2 ** 3 ** 2\n OUTPUT = 1 - 2 - 3\nEND\n => -3\n512\n-4\n
  OUTPUT = 1 / 0\nEND\n => status 1: snobol4: error 3 in statement 1\n
 ";
-
-#[test]
-fn assignments(rt: HostRuntime) -> Result<(), Fail> {
-    check_rows::<Programs, _>(&rt, ASSIGNMENTS)
-}
 
 const KEYWORDS: &str = r"
  OUTPUT = &STCOUNT ' ' &STNO\nEND\n => 1 1\n
@@ -94,11 +79,6 @@ L OUTPUT = &STCOUNT ' ' &STNO\n X = X + 1\n LT(X,2) :S(L)\nEND\n => 1 1\n4 1\n
  &ANCHOR = INPUT\n OUTPUT = 'a' &ANCHOR\nEND\n => a0\n
 ";
 
-#[test]
-fn keywords(rt: HostRuntime) -> Result<(), Fail> {
-    check_rows::<Programs, _>(&rt, KEYWORDS)
-}
-
 const MATCHES: &str = r"
  'AB' LEN(1) $ X FAIL :F(F)\n OUTPUT = 'succeeded' :(END)\nF OUTPUT = 'failed'\n OUTPUT = X\nEND\n => failed\nB\n
  &ANCHOR = 1\n 'AB' LEN(1) . X :F(B)\n OUTPUT = X\n '' LEN(1) . X :F(END)\nB OUTPUT = 'bad'\nEND\n => A\n
@@ -116,11 +96,6 @@ const MATCHES: &str = r"
  &ANCHOR = 1\n 'AB' 'B' :S(END)\n OUTPUT = 'a'\nEND\n => a\n
 ";
 
-#[test]
-fn matches(rt: HostRuntime) -> Result<(), Fail> {
-    check_rows::<Programs, _>(&rt, MATCHES)
-}
-
 const REPLACEMENTS: &str = r"
  S = 'ABCABC'\n S 'B' = '--'\n OUTPUT = S\nEND\n => A--CABC\n
  S = 'AB'\n S LEN(1) . X = X X\n OUTPUT = S\nEND\n => AAB\n
@@ -137,11 +112,6 @@ const REPLACEMENTS: &str = r"
  S = 'A'\n S 'A' 1 / 0 = 'B'\nEND\n => status 1: snobol4: error 3 in statement 2\n
 ";
 
-#[test]
-fn replacements(rt: HostRuntime) -> Result<(), Fail> {
-    check_rows::<Programs, _>(&rt, REPLACEMENTS)
-}
-
 /// A match searches the bytes that its subject had when it began, whatever is assigned meanwhile. From 23 bytes on a
 /// string lies in a block that others share.
 const SUBJECTS_THAT_CHANGE: &str = r"
@@ -157,11 +127,6 @@ const SUBJECTS_THAT_CHANGE: &str = r"
  S = 'ABCDEFGHIJKLMNOPQRSTUVWXYZ'\nL S LEN(1) = :S(L)\n OUTPUT = SIZE(S)\nEND\n => 0\n
 ";
 
-#[test]
-fn subjects_that_change(rt: HostRuntime) -> Result<(), Fail> {
-    check_rows::<Programs, _>(&rt, SUBJECTS_THAT_CHANGE)
-}
-
 const LIMITS_OF_A_RUN: &str = r"
 --statements 3 ; L :(L)\nEND\n => status 4: snobol4: error 20 in statement 1\n
 --statements 1 ;  X = 1\nEND\n => status 0
@@ -173,6 +138,18 @@ const LIMITS_OF_A_RUN: &str = r"
 ";
 
 #[test]
-fn limits_of_a_run(rt: HostRuntime) -> Result<(), Fail> {
-    check_rows::<Programs, _>(&rt, LIMITS_OF_A_RUN)
+fn rows(rt: HostRuntime) -> Result<(), Fail> {
+    check_blocks::<Programs, _>(
+        &rt,
+        &[
+            INPUT_AND_OUTPUT,
+            GOTOS,
+            ASSIGNMENTS,
+            KEYWORDS,
+            MATCHES,
+            REPLACEMENTS,
+            SUBJECTS_THAT_CHANGE,
+            LIMITS_OF_A_RUN,
+        ],
+    )
 }

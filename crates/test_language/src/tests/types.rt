@@ -1,6 +1,6 @@
 //! Types that a program makes, worked out by hand.
 use super::asking::{Programs, Ways};
-use super::rows::{check_rows, check_texts};
+use super::rows::{check_blocks, check_rows, check_texts};
 use std::test::Fail;
 
 /// Objects and their fields, as values and as names.
@@ -16,11 +16,6 @@ const OBJECTS: &str = r"
  DATA('INPUT(OUTPUT)')\n X = INPUT(7)\n OUTPUT = OUTPUT(X)\n OUTPUT(X) = 8\n OUTPUT = OUTPUT(X)\nEND\n => 7\n8\n
 ";
 
-#[test]
-fn objects(rt: HostRuntime) -> Result<(), Fail> {
-    check_rows::<Programs, _>(&rt, OBJECTS)
-}
-
 /// What a function's name is, which the latest DEFINE or DATA tells.
 const FUNCTIONS: &str = r"
  DATA('T(A)')\n DEFINE('T(X)') :(M)\nT T = X X :(RETURN)\nM OUTPUT = T('y')\n DATA('T(A)')\n OUTPUT = DATATYPE(T('y'))\n DEFINE('A(X)','T')\n OUTPUT = '[' A('y') ']'\nEND\n => yy\nT\n[]\n
@@ -28,11 +23,6 @@ const FUNCTIONS: &str = r"
  DATA('T(VAL)')\n P = T('p')\n DEFINE('F()') :(M)\nF DEFINE('VAL(X)')\n F = 'q' :(RETURN)\nVAL VAL = 'called ' X :(RETURN)\nM OUTPUT = VAL(F())\nEND\n => called q\n
  OUTPUT = T(1)\nEND\n => status 1: snobol4: error 4 in statement 1\n
 ";
-
-#[test]
-fn functions(rt: HostRuntime) -> Result<(), Fail> {
-    check_rows::<Programs, _>(&rt, FUNCTIONS)
-}
 
 /// The name of a call: its function is looked up first, and then the arguments are evaluated.
 const NAMES: &str = r"
@@ -45,22 +35,12 @@ const NAMES: &str = r"
  DATA('T(A)')\n P = T('old')\n DEFINE('G()')\n DEFINE('F(S)') :(M)\nF S *G() . A(P) :(RETURN)\nG G = LEN(2) :(RETURN)\nM F('xyz')\n OUTPUT = A(P)\nEND\n => xy\n
 ";
 
-#[test]
-fn names(rt: HostRuntime) -> Result<(), Fail> {
-    check_rows::<Programs, _>(&rt, NAMES)
-}
-
 /// Objects where values are compared, where they are keys, and where they are converted.
 const VALUES: &str = r"
  DATA('T(A)')\n X = T(1)\n Y = T(1)\n B = TABLE()\n B<X> = 'x'\n B<Y> = 'y'\n OUTPUT = B<X> B<Y> '[' B<T(1)> ']'\nEND\n => xy[]\n
  DATA('T(A)')\n X = T(1)\n Y = T(1)\n OUTPUT = IDENT(X,X) 'same'\n OUTPUT = IDENT(X,Y) 'never'\n OUTPUT = DIFFER(X,Y) 'differ'\n OUTPUT = DIFFER(X,'T') 'type'\n Z = X\n A(Z) = 5\n OUTPUT = A(X) A(Y)\nEND\n => same\ndiffer\ntype\n51\n
  DATA('T(A)')\n X = T(1)\n OUTPUT = CONVERT(X,'STRING') 'no'\n OUTPUT = CONVERT(X,'INTEGER') 'no'\n OUTPUT = CONVERT(X,'PATTERN') 'no'\n OUTPUT = CONVERT(X,'ARRAY') 'no'\n OUTPUT = INTEGER(X) 'no'\n OUTPUT = CONVERT(X,'T')\nEND\n => status 1: snobol4: error 1 in statement 8\n
 ";
-
-#[test]
-fn values(rt: HostRuntime) -> Result<(), Fail> {
-    check_rows::<Programs, _>(&rt, VALUES)
-}
 
 /// Texts that are no prototypes of types.
 const NO_PROTOTYPES: &str = r"
@@ -97,11 +77,6 @@ const MANY_FIELDS: &str = r"
  P = 'T(F'\nL N = N + 1\n P = P ',G' N\n LT(N,99) :S(L)\n DATA(P ')')\nEND\n => status 1: snobol4: error 12 in statement 5\n
 ";
 
-#[test]
-fn many_fields(rt: HostRuntime) -> Result<(), Fail> {
-    check_rows::<Programs, _>(&rt, MANY_FIELDS)
-}
-
 /// DATA is no function of a listing, behind its arguments.
 const LISTINGS: &str = r"
 DATA('N(A)') => status 1: snobol4: error 4\n
@@ -111,6 +86,7 @@ LEN(1) . VAL(1 / 0) => status 1: snobol4: error 15\n
 ";
 
 #[test]
-fn listings(rt: HostRuntime) -> Result<(), Fail> {
+fn rows(rt: HostRuntime) -> Result<(), Fail> {
+    check_blocks::<Programs, _>(&rt, &[OBJECTS, FUNCTIONS, NAMES, VALUES, MANY_FIELDS])?;
     check_rows::<Ways, _>(&rt, LISTINGS)
 }

@@ -2,13 +2,12 @@
 ghost use Rattle.std.specs.Prelude.{◌≡◌, ◌<◌, false, length, OnOk};
 
 use super::drawing::drawn_events;
-use super::driver::{begin, begin_again, begin_on, events_of};
-use super::forms::table_of;
-use super::generated::{Chance, SUBJECTS, check_same};
-use super::matches::{Search, search_of};
-use super::notation::forms_of;
+use super::driver::{Told, begin, begin_again, begin_on, events_of};
+use super::forms::{Form, table_of};
+use super::generated::{Chance, SUBJECTS};
 use super::reference::search_events;
 use super::rows::{Question, check_rows, parts};
+use super::searches::{Search, check_same, search_of, table_of_words};
 use sno_match::{CopiedGoals, Engine, Points, SharedGoals};
 use sno_pattern::Patterns;
 use sno_value::{PatId, Text};
@@ -54,30 +53,93 @@ fn told_once<P: Points>(
     after: &'static str,
     lent: bool,
 ) -> Result<String, Fail> {
-    let answers = [Some(PatId(0))];
-    let mut m = left_match::<P>(alloc, before, &answers)?;
-    let s = search_of(after)?;
-    let forms = forms_of(alloc, s.words)?;
-    let (table, pattern) = table_of(alloc, &forms)?;
-    begin_search(alloc, &mut m, &table, pattern, s, lent)?;
-    let told = events_of(alloc, &mut m, &table, &answers, 100)?;
+    let mut m = left_match::<P>(alloc, before)?;
+    let text = told_next(alloc, &mut m, after, lent)?;
+    Ok(text)
+}
+
+/// The events of a search by a match that begins again.
+fn told_next<P: Points>(
+    alloc: Global,
+    m: &mut Engine<P>,
+    after: &'static str,
+    lent: bool,
+) -> Result<String, Fail> {
+    let (s, words) = search_of(after)?;
+    let (table, pattern) = table_of_words(alloc, words)?;
+    let text = drawn_again(alloc, m, &table, pattern, s, lent)?;
+    Ok(text)
+}
+
+fn drawn_again<P: Points>(
+    alloc: Global,
+    m: &mut Engine<P>,
+    table: &Patterns,
+    pattern: PatId,
+    s: Search<'_>,
+    lent: bool,
+) -> Result<String, AllocError>
+    requires { pattern.0 < length table.now }
+{
+    let told = events_again(alloc, m, table, pattern, s, lent, 100)?;
     let text = drawn_events(alloc, &told)?;
     Ok(text)
 }
 
-/// A match that has told some events, as `COUNT of SEARCH` has it.
-fn left_match<P: Points>(
+/// At most so many events of a search by a match that begins again.
+fn events_again<P: Points>(
     alloc: Global,
-    text: &'static str,
-    answers: &[Option<PatId>],
-) -> Result<Engine<P>, Fail> {
+    m: &mut Engine<P>,
+    table: &Patterns,
+    pattern: PatId,
+    s: Search<'_>,
+    lent: bool,
+    most: usize,
+) -> Result<Vec<Told>, AllocError>
+    requires { pattern.0 < length table.now }
+{
+    begin_search(alloc, m, table, pattern, s, lent)?;
+    let told = events_of(alloc, m, table, s.answers, most)?;
+    Ok(told)
+}
+
+/// A match that has told some events, as `COUNT of SEARCH` has it.
+fn left_match<P: Points>(alloc: Global, text: &'static str) -> Result<Engine<P>, Fail> {
     let (count, search) = parts(text, " of ")?;
-    let s = search_of(search)?;
-    let forms = forms_of(alloc, s.words)?;
-    let (table, pattern) = table_of(alloc, &forms)?;
-    let mut m = begin::<P>(alloc, &table, pattern, s.subject, s.anchored, s.limit)?;
-    let _told = events_of(alloc, &mut m, &table, answers, count.parse()?)?;
+    let count: usize = count.parse()?;
+    let (s, words) = search_of(search)?;
+    let (table, pattern) = table_of_words(alloc, words)?;
+    let m = left_over::<P>(alloc, &table, pattern, s, count)?;
     Ok(m)
+}
+
+fn left_over<P: Points>(
+    alloc: Global,
+    table: &Patterns,
+    pattern: PatId,
+    s: Search<'_>,
+    count: usize,
+) -> Result<Engine<P>, AllocError>
+    requires { pattern.0 < length table.now }
+{
+    let mut m = begin::<P>(alloc, table, pattern, s.subject, s.anchored, s.limit)?;
+    tell_some(alloc, &mut m, table, s, count)?;
+    Ok(m)
+}
+
+/// Has so many events told, which are let go.
+fn tell_some<P: Points>(
+    alloc: Global,
+    m: &mut Engine<P>,
+    table: &Patterns,
+    s: Search<'_>,
+    count: usize,
+) -> Result<(), AllocError>
+    requires table { m.old.nodes ≡ table.now }
+    requires asked { m.old.waits ≡ false }
+{
+    let _told = events_of(alloc, m, table, s.answers, count)?;
+    Ok(())
 }
 
 /// Begins a search. Its subject is copied, or lent: the match is the only one that holds it then.
@@ -86,7 +148,7 @@ fn begin_search<P: Points>(
     m: &mut Engine<P>,
     table: &Patterns,
     pattern: PatId,
-    s: Search,
+    s: Search<'_>,
     lent: bool,
 ) -> Result<(), AllocError>
     requires { pattern.0 < length table.now }
@@ -137,35 +199,100 @@ fn compare<P: Points>(
     m: &mut Engine<P>,
 ) -> Result<usize, Fail> {
     let forms = chance.forms(alloc)?;
+    let events = compare_forms(rt, alloc, chance, m, &forms)?;
+    Ok(events)
+}
+
+fn compare_forms<P: Points>(
+    rt: &impl Abort,
+    alloc: Global,
+    chance: &mut Chance,
+    m: &mut Engine<P>,
+    forms: &[Form],
+) -> Result<usize, Fail> {
+    let (table, pattern) = table_of(alloc, forms)?;
+    let events = compare_answered(rt, alloc, chance, m, forms, &table, pattern)?;
+    Ok(events)
+}
+
+fn compare_answered<P: Points>(
+    rt: &impl Abort,
+    alloc: Global,
+    chance: &mut Chance,
+    m: &mut Engine<P>,
+    forms: &[Form],
+    table: &Patterns,
+    pattern: PatId,
+) -> Result<usize, AllocError>
+    requires { pattern.0 < length table.now }
+{
     let answers = chance.answers(alloc, forms.len())?;
-    let (table, pattern) = table_of(alloc, &forms)?;
     let s = Search {
-        words: "",
         subject: chance.among(&SUBJECTS),
         anchored: chance.below(2) == 0,
         limit: chance.below(90) as u32,
+        answers: &answers,
     };
+    let events = compare_twice(rt, alloc, m, forms, table, pattern, s)?;
+    begin_search(alloc, m, table, pattern, s, events % 2 == 0)?;
+    tell_some(alloc, m, table, s, chance.below(8))?;
+    Ok(events)
+}
+
+/// Compares the events of a subject that is copied, and of one that is lent, and gives their number.
+fn compare_twice<P: Points>(
+    rt: &impl Abort,
+    alloc: Global,
+    m: &mut Engine<P>,
+    forms: &[Form],
+    table: &Patterns,
+    pattern: PatId,
+    s: Search<'_>,
+) -> Result<usize, AllocError>
+    requires { pattern.0 < length table.now }
+{
     let want = search_events(
-        alloc, &forms, pattern, s.subject, s.anchored, s.limit, &answers,
+        alloc, forms, pattern, s.subject, s.anchored, s.limit, s.answers,
     )?;
-    begin_search(alloc, m, &table, pattern, s, false)?;
-    let told = events_of(alloc, m, &table, &answers, 100_000)?;
-    check_same(rt, &told, &want);
-    begin_search(alloc, m, &table, pattern, s, true)?;
-    let told = events_of(alloc, m, &table, &answers, 100_000)?;
-    check_same(rt, &told, &want);
-    begin_search(alloc, m, &table, pattern, s, want.len() % 2 == 0)?;
-    let _told = events_of(alloc, m, &table, &answers, chance.below(8))?;
+    check_again(rt, alloc, m, table, pattern, s, false, &want)?;
+    check_again(rt, alloc, m, table, pattern, s, true, &want)?;
     Ok(want.len())
+}
+
+fn check_again<P: Points>(
+    rt: &impl Abort,
+    alloc: Global,
+    m: &mut Engine<P>,
+    table: &Patterns,
+    pattern: PatId,
+    s: Search<'_>,
+    lent: bool,
+    want: &[Told],
+) -> Result<(), AllocError>
+    requires { pattern.0 < length table.now }
+{
+    let told = events_again(alloc, m, table, pattern, s, lent, 100_000)?;
+    check_same(rt, &told, want);
+    Ok(())
 }
 
 /// Begins one match over a stack of this type again and again, and gives the number of events.
 fn compare_all<P: Points>(rt: &impl Abort, alloc: Global, seed: u64) -> Result<usize, Fail> {
+    let mut m = left_match::<P>(alloc, "0 of floating 9 A: TEXT:A")?;
+    let events = compare_with(rt, alloc, &mut m, seed)?;
+    Ok(events)
+}
+
+fn compare_with<P: Points>(
+    rt: &impl Abort,
+    alloc: Global,
+    m: &mut Engine<P>,
+    seed: u64,
+) -> Result<usize, Fail> {
     let mut chance = Chance(seed);
     let mut events = 0usize;
-    let mut m = left_match::<P>(alloc, "0 of floating 9 A: TEXT:A", &[])?;
     for _ in 0..PATTERNS {
-        let more = compare(rt, alloc, &mut chance, &mut m)?;
+        let more = compare(rt, alloc, &mut chance, m)?;
         events = events.saturating_add(more);
     }
     Ok(events)

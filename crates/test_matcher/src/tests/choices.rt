@@ -1,14 +1,15 @@
 //! Choices whose first bytes are known: starts and cursors at which each of their sides fails are passed, with their
 //! steps.
-use super::driver::all_events;
-use super::forms::table_of;
-use super::generated::check_same;
+use super::driver::Told;
+use super::forms::{Form, table_of};
 use super::matches::Matches;
 use super::notation::forms_of;
 use super::reference::search_events;
-use super::rows::check_rows;
-use sno_match::{CopiedGoals, SharedGoals};
-use std::alloc::Global;
+use super::rows::check_blocks;
+use super::searches::{Search, all_events, check_same, check_stacks, table_of_words};
+use sno_match::SharedGoals;
+use sno_value::PatId;
+use std::alloc::{AllocError, Global};
 use std::process::Abort;
 use std::test::Fail;
 
@@ -55,8 +56,7 @@ floating 1000 B: TEXT:A TEXT: |:0,1 => way 0 0 at 4; way 1 1 at 9; exhausted at 
 
 #[test]
 fn starts_of_choices_that_fail(rt: HostRuntime) -> Result<(), Fail> {
-    check_rows::<Matches, _>(&rt, TWO_LETTERS)?;
-    check_rows::<Matches, _>(&rt, CHOICES)
+    check_blocks::<Matches, _>(&rt, &[TWO_LETTERS, CHOICES])
 }
 
 /// Choices whose first bytes are known, each with one in which an ANY has become a NOTANY, whose first bytes aren't. In
@@ -99,26 +99,71 @@ const SUBJECTS: [&str; 8] = [
 /// More steps than each search takes.
 const MOST_STEPS: u32 = 160;
 
-/// Compares what the matcher over either stack tells of two patterns that take the same steps, and the plain search.
+/// Compares what a match over either stack tells of two patterns that take the same steps, and the plain search of the
+/// first.
 fn compare(
     rt: &impl Abort,
     alloc: Global,
     words: (&'static str, &'static str),
-    subject: &'static [u8],
-    anchored: bool,
-    limit: u32,
+    s: Search<'_>,
 ) -> Result<(), Fail> {
+    let others = told_of(alloc, words.1, s)?;
     let forms = forms_of(alloc, words.0)?;
-    let (table, pattern) = table_of(alloc, &forms)?;
-    let told = all_events::<SharedGoals>(alloc, &table, pattern, subject, anchored, limit, &[])?;
-    let copied = all_events::<CopiedGoals>(alloc, &table, pattern, subject, anchored, limit, &[])?;
-    let want = search_events(alloc, &forms, pattern, subject, anchored, limit, &[])?;
-    check_same(rt, &told, &want);
-    check_same(rt, &copied, &want);
-    let forms = forms_of(alloc, words.1)?;
-    let (table, pattern) = table_of(alloc, &forms)?;
-    let others = all_events::<SharedGoals>(alloc, &table, pattern, subject, anchored, limit, &[])?;
-    check_same(rt, &told, &others);
+    compare_with(rt, alloc, &forms, s, &others)
+}
+
+/// The events of the last form for which words stand.
+fn told_of(alloc: Global, words: &'static str, s: Search<'_>) -> Result<Vec<Told>, Fail> {
+    let (table, pattern) = table_of_words(alloc, words)?;
+    let told = all_events::<SharedGoals>(alloc, &table, pattern, s)?;
+    Ok(told)
+}
+
+fn compare_with(
+    rt: &impl Abort,
+    alloc: Global,
+    forms: &[Form],
+    s: Search<'_>,
+    want: &[Told],
+) -> Result<(), Fail> {
+    let (table, pattern) = table_of(alloc, forms)?;
+    check_stacks(rt, alloc, &table, pattern, s, want)?;
+    check_plain(rt, alloc, forms, pattern, s, want)?;
+    Ok(())
+}
+
+/// Compares what the plain search tells with the events that are wanted.
+fn check_plain(
+    rt: &impl Abort,
+    alloc: Global,
+    forms: &[Form],
+    pattern: PatId,
+    s: Search<'_>,
+    want: &[Told],
+) -> Result<(), AllocError> {
+    let told = search_events(
+        alloc, forms, pattern, s.subject, s.anchored, s.limit, s.answers,
+    )?;
+    check_same(rt, &told, want);
+    Ok(())
+}
+
+fn compare_limits(
+    rt: &impl Abort,
+    alloc: Global,
+    words: (&'static str, &'static str),
+    subject: &[u8],
+    anchored: bool,
+) -> Result<(), Fail> {
+    for limit in 0..=MOST_STEPS {
+        let s = Search {
+            subject,
+            anchored,
+            limit,
+            answers: &[],
+        };
+        compare(rt, alloc, words, s)?;
+    }
     Ok(())
 }
 
@@ -126,10 +171,8 @@ fn compare(
 fn each_limit_of_a_choice(rt: HostRuntime) -> Result<(), Fail> {
     for words in PAIRS {
         for subject in SUBJECTS {
-            for limit in 0..=MOST_STEPS {
-                compare(&rt, rt.alloc(), words, subject.as_bytes(), false, limit)?;
-                compare(&rt, rt.alloc(), words, subject.as_bytes(), true, limit)?;
-            }
+            compare_limits(&rt, rt.alloc(), words, subject.as_bytes(), false)?;
+            compare_limits(&rt, rt.alloc(), words, subject.as_bytes(), true)?;
         }
     }
     Ok(())

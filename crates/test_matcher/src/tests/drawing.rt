@@ -31,10 +31,13 @@ pub fn drawn_events(alloc: Global, told: &[Told]) -> Result<String, AllocError> 
     Ok(text)
 }
 
-/// One event.
-pub fn drawn_event(alloc: Global, event: Event) -> Result<String, AllocError> {
+/// One event, and numbers behind it.
+pub fn drawn_with(alloc: Global, event: Event, facts: &[usize]) -> Result<String, AllocError> {
     let mut text = String::new(alloc);
     push_facts(alloc, &mut text, facts_of_event(event))?;
+    for fact in facts {
+        push_number(alloc, &mut text, Some(*fact))?;
+    }
     Ok(text)
 }
 

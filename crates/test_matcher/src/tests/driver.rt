@@ -6,6 +6,7 @@ use sno_match::{Engine, Event, Pending, Points};
 use sno_pattern::Patterns;
 use sno_value::{PatId, Text};
 use std::alloc::{AllocError, Global};
+use std::process::Abort;
 
 /// An event, how many steps were taken when it was told, and the pending list of the last way.
 #[derive(Drop)]
@@ -119,23 +120,6 @@ fn told_by<P: Points>(alloc: Global, m: &Engine<P>, event: Event) -> Result<Told
     })
 }
 
-/// The events of a match over a stack of this type, up to the last or to a Value for which there is no answer.
-pub fn all_events<P: Points>(
-    alloc: Global,
-    table: &Patterns,
-    pattern: PatId,
-    subject: &[u8],
-    anchored: bool,
-    limit: u32,
-    answers: &[Option<PatId>],
-) -> Result<Vec<Told>, AllocError>
-    requires { pattern.0 < length table.now }
-{
-    let mut m = begin::<P>(alloc, table, pattern, subject, anchored, limit)?;
-    let told = events_of(alloc, &mut m, table, answers, 100_000)?;
-    Ok(told)
-}
-
 /// The events that a match tells, at most so many, up to the last or to a Value for which there is no answer.
 pub fn events_of<P: Points>(
     alloc: Global,
@@ -166,6 +150,32 @@ pub fn events_of<P: Points>(
         }
     }
     Ok(told)
+}
+
+/// Compares an event of the match that a test names with the one that is wanted.
+pub fn check_event(rt: &impl Abort, of: &str, told: Event, want: Event) {
+    assert_eq!(rt; told, want, "of {of}");
+}
+
+/// Compares a number of the match that a test names with the one that is wanted.
+pub fn check_number(rt: &impl Abort, of: &str, told: usize, want: usize) {
+    assert_eq!(rt; told, want, "of {of}");
+}
+
+/// Nothing but the end is left, which is told behind so many steps.
+pub fn check_last<P: Points>(
+    rt: &impl Abort,
+    m: &mut Engine<P>,
+    table: &Patterns,
+    steps: u32,
+) -> Result<(), AllocError>
+    requires table { m.old.nodes ≡ table.now }
+    requires asked { m.old.waits ≡ false }
+{
+    let last = next_event(m, table)?;
+    check_event(rt, "the end", last, Event::Exhausted);
+    check_number(rt, "the steps", m.steps() as usize, steps as usize);
+    Ok(())
 }
 
 fn is_last(event: Event) -> bool {

@@ -1,10 +1,8 @@
 //! The engine beside the plain search, over generated patterns.
 ghost use Rattle.std.specs.Prelude.{◌<◌};
 
-use super::driver::{Told, all_events};
-use super::forms::{Form, table_of};
-use super::reference::search_events;
-use sno_match::{CopiedGoals, SharedGoals};
+use super::forms::Form;
+use super::searches::{Search, compare_forms};
 use sno_value::{ExprId, PatId, Prim};
 use std::alloc::{AllocError, Global};
 use std::process::Abort;
@@ -128,39 +126,31 @@ impl Chance {
     }
 }
 
-/// Whether two events are equal, with their counts and pending lists.
-fn is_same(got: &Told, want: &Told) -> bool {
-    got.event == want.event
-        && got.steps == want.steps
-        && got.pending.as_slice() == want.pending.as_slice()
-}
-
-pub fn check_same(rt: &impl Abort, got: &[Told], want: &[Told]) {
-    assert_eq!(rt; got.len(), want.len());
-    for (g, w) in got.iter().zip(want) {
-        assert!(rt; is_same(g, w));
-    }
-}
-
-/// Compares what the matcher over either stack and the plain search tell of one pattern, and gives the number of
-/// events.
+/// Compares what a match over either stack and the plain search tell of one pattern, and gives the number of events.
 fn compare(rt: &impl Abort, alloc: Global, chance: &mut Chance) -> Result<usize, Fail> {
     let forms = chance.forms(alloc)?;
+    let events = compare_answered(rt, alloc, chance, &forms)?;
+    Ok(events)
+}
+
+/// The same of the last of some forms, in a search that looks like chance.
+fn compare_answered(
+    rt: &impl Abort,
+    alloc: Global,
+    chance: &mut Chance,
+    forms: &[Form],
+) -> Result<usize, Fail> {
     let answers = chance.answers(alloc, forms.len())?;
     let anchored = chance.below(2) == 0;
     let limit = chance.below(90) as u32;
-    let subject = chance.among(&SUBJECTS);
-    let (table, pattern) = table_of(alloc, &forms)?;
-    let shared = all_events::<SharedGoals>(
-        alloc, &table, pattern, subject, anchored, limit, &answers,
-    )?;
-    let copied = all_events::<CopiedGoals>(
-        alloc, &table, pattern, subject, anchored, limit, &answers,
-    )?;
-    let want = search_events(alloc, &forms, pattern, subject, anchored, limit, &answers)?;
-    check_same(rt, &shared, &want);
-    check_same(rt, &copied, &want);
-    Ok(want.len())
+    let s = Search {
+        subject: chance.among(&SUBJECTS),
+        anchored,
+        limit,
+        answers: &answers,
+    };
+    let events = compare_forms(rt, alloc, forms, s)?;
+    Ok(events)
 }
 
 #[test]

@@ -1,25 +1,22 @@
 //! What a match remembers of its looks: it tells what the plain search tells, and runs are looked through once.
-ghost use Rattle.std.specs.Prelude.{◌<◌, length};
+ghost use Rattle.std.specs.Prelude.{◌≡◌, ◌<◌, false, length};
 ghost use Rattle.sno_pattern.specs.Looks.{AreTrue};
 
-use super::driver::{all_events, begin, give_new, next_event};
-use super::forms::table_of;
-use super::generated::check_same;
-use super::notation::forms_of;
-use super::reference::search_events;
+use super::driver::{begin, check_event, check_last, check_number, give_new, next_event};
 use super::rows::parts;
-use sno_match::{CopiedGoals, Event, Matcher, SharedGoals};
+use super::searches::{Search, compare_words, table_of_words};
+use sno_match::{Event, Matcher};
 use sno_pattern::{Arg, Looks, Patterns, Shape};
 use sno_value::{ExprId, PatId, Prim};
-use std::alloc::Global;
+use std::alloc::{AllocError, Global};
 use std::process::Abort;
 use std::test::Fail;
 
 /// Each row is tried with every limit below this.
 const LIMITS: u32 = 160;
 
-/// Compares what the matcher over either stack and the plain search tell of the row `SUBJECT: FORMS` with this limit.
-/// The first form answers a deferred part, but for the second that is reached, which fails.
+/// Compares what a match over either stack and the plain search tell of the row `SUBJECT: FORMS` with this limit. The
+/// first form answers a deferred part, but for the second that is reached, which fails.
 fn compare(
     rt: &impl Abort,
     alloc: Global,
@@ -28,19 +25,13 @@ fn compare(
     limit: u32,
 ) -> Result<(), Fail> {
     let (subject, words) = parts(row, ": ")?;
-    let subject = subject.as_bytes();
-    let answers = [Some(PatId(0)), None, Some(PatId(0))];
-    let forms = forms_of(alloc, words)?;
-    let (table, pattern) = table_of(alloc, &forms)?;
-    let want = search_events(alloc, &forms, pattern, subject, anchored, limit, &answers)?;
-    let shared = all_events::<SharedGoals>(
-        alloc, &table, pattern, subject, anchored, limit, &answers,
-    )?;
-    check_same(rt, &shared, &want);
-    let copied = all_events::<CopiedGoals>(
-        alloc, &table, pattern, subject, anchored, limit, &answers,
-    )?;
-    check_same(rt, &copied, &want);
+    let s = Search {
+        subject: subject.as_bytes(),
+        anchored,
+        limit,
+        answers: &[Some(PatId(0)), None, Some(PatId(0))],
+    };
+    let _events = compare_words(rt, alloc, words, s)?;
     Ok(())
 }
 
@@ -100,10 +91,16 @@ A)B(C)): BAL BAL |:0,1 TEXT:X &:2,3
 (A)((B): BAL ARBNO:0 TEXT:X &:1,2
 ";
 
-fn compare_all(rt: &impl Abort, alloc: Global, block: &'static str) -> Result<(), Fail> {
-    for row in block.lines() {
-        if !row.is_empty() {
-            for limit in 0..LIMITS {
+/// Compares each row of some blocks with this limit.
+fn compare_blocks(
+    rt: &impl Abort,
+    alloc: Global,
+    blocks: &[&'static str],
+    limit: u32,
+) -> Result<(), Fail> {
+    for block in blocks {
+        for row in block.lines() {
+            if !row.is_empty() {
                 compare(rt, alloc, row, false, limit)?;
                 compare(rt, alloc, row, true, limit)?;
             }
@@ -112,42 +109,16 @@ fn compare_all(rt: &impl Abort, alloc: Global, block: &'static str) -> Result<()
     Ok(())
 }
 
-/// The same with a few limits, for patterns that take many steps.
-fn compare_some(rt: &impl Abort, alloc: Global, block: &'static str) -> Result<(), Fail> {
-    for row in block.lines() {
-        if !row.is_empty() {
-            for limit in [75, 150, 400] {
-                compare(rt, alloc, row, false, limit)?;
-                compare(rt, alloc, row, true, limit)?;
-            }
-        }
-    }
-    Ok(())
-}
-
+/// Patterns that take many steps have a few limits.
 #[test]
 fn remembered_looks_change_no_event(rt: HostRuntime) -> Result<(), Fail> {
-    compare_all(&rt, rt.alloc(), RUNS)
-}
-
-#[test]
-fn balanced_parts_change_no_event(rt: HostRuntime) -> Result<(), Fail> {
-    compare_all(&rt, rt.alloc(), BALANCED)
-}
-
-#[test]
-fn runs_are_pushed_out(rt: HostRuntime) -> Result<(), Fail> {
-    compare_all(&rt, rt.alloc(), PUSHED_OUT)
-}
-
-#[test]
-fn more_sets_than_places_change_no_event(rt: HostRuntime) -> Result<(), Fail> {
-    compare_some(&rt, rt.alloc(), MANY_SETS)
-}
-
-#[test]
-fn far_stops_change_no_event(rt: HostRuntime) -> Result<(), Fail> {
-    compare_some(&rt, rt.alloc(), FAR_STOPS)
+    for limit in 0..LIMITS {
+        compare_blocks(&rt, rt.alloc(), &[RUNS, BALANCED, PUSHED_OUT], limit)?;
+    }
+    for limit in [75, 150, 400] {
+        compare_blocks(&rt, rt.alloc(), &[MANY_SETS, FAR_STOPS], limit)?;
+    }
+    Ok(())
 }
 
 /// How many bytes a long run has. If each start looked through it again, a thousand million bytes would be looked at.
@@ -161,14 +132,11 @@ fn check_no_way(
     pattern: PatId,
     subject: &[u8],
     steps: u32,
-) -> Result<(), Fail>
+) -> Result<(), AllocError>
     requires { pattern.0 < length table.now }
 {
     let mut m: Matcher = begin(alloc, table, pattern, subject, false, 1_000_000)?;
-    let last = next_event(&mut m, table)?;
-    assert_eq!(rt; last, Event::Exhausted);
-    assert_eq!(rt; m.steps(), steps);
-    Ok(())
+    check_last(rt, &mut m, table, steps)
 }
 
 /// The forms fail at each start of a long run that a byte follows, behind a look through all that is left of it.
@@ -176,23 +144,32 @@ fn check_long_run(
     rt: &impl Abort,
     alloc: Global,
     words: &'static str,
+    subject: &[u8],
     steps: u32,
 ) -> Result<(), Fail> {
-    let forms = forms_of(alloc, words)?;
-    let (table, pattern) = table_of(alloc, &forms)?;
-    let mut subject = vec![in alloc; b'A'; LONG]?;
-    subject.push(b',')?;
-    check_no_way(rt, alloc, &table, pattern, &subject, steps)
+    let (table, pattern) = table_of_words(alloc, words)?;
+    check_no_way(rt, alloc, &table, pattern, subject, steps)?;
+    Ok(())
 }
 
-/// At each start within the run three goals are entered: the concatenation, the primitive and the text. At a start
-/// where the primitive fails two are. Each start but the first is taken up by a step.
+/// Forms, and the steps by which they are found to have no way. At each start within the run three goals are entered:
+/// the concatenation, the primitive and the text. At a start where the primitive fails two are. Each start but the
+/// first is taken up by a step.
+const LONG_RUNS: [(&str, u32); 4] = [
+    ("SPAN:A TEXT:B &:0,1", 200_005),
+    ("BREAK:, TEXT:B &:0,1", 200_006),
+    ("BREAKX:, TEXT:B &:0,1", 200_006),
+    ("LEN:1 BREAK:; &:0,1", 200_006),
+];
+
 #[test]
 fn long_runs_are_looked_through_once(rt: HostRuntime) -> Result<(), Fail> {
-    check_long_run(&rt, rt.alloc(), "SPAN:A TEXT:B &:0,1", 200_005)?;
-    check_long_run(&rt, rt.alloc(), "BREAK:, TEXT:B &:0,1", 200_006)?;
-    check_long_run(&rt, rt.alloc(), "BREAKX:, TEXT:B &:0,1", 200_006)?;
-    check_long_run(&rt, rt.alloc(), "LEN:1 BREAK:; &:0,1", 200_006)
+    let mut subject = vec![in rt.alloc(); b'A'; LONG]?;
+    subject.push(b',')?;
+    for (words, steps) in LONG_RUNS {
+        check_long_run(&rt, rt.alloc(), words, &subject, steps)?;
+    }
+    Ok(())
 }
 
 /// Places in AA,A,A, and where SPAN('A') or BREAKX(',') ends from there.
@@ -256,18 +233,35 @@ fn place(
     Ok(patterns.look_for_place(looks, id, subject, from, until))
 }
 
+/// Compares the ends of both primitives, and the first places at which they have one.
+fn check_looks(
+    rt: &impl Abort,
+    patterns: &Patterns,
+    looks: &mut Looks,
+    span: PatId,
+    stops: PatId,
+    subject: &[u8],
+) -> Result<(), Fail>
+    requires span { span.0 < length patterns.now }
+    requires stops { stops.0 < length patterns.now }
+    requires looks { AreTrue patterns.now subject.now looks.old }
+{
+    check_ends(rt, patterns, looks, span, subject, SPANS)?;
+    check_ends(rt, patterns, looks, stops, subject, STOPS)?;
+    let behind = place(patterns, looks, span, subject, 2)?;
+    check_number(rt, "the place of a run", behind, 3);
+    let behind = place(patterns, looks, stops, subject, 5)?;
+    check_number(rt, "the place of a stop", behind, 7);
+    Ok(())
+}
+
 #[test]
 fn looks_give_the_ends(rt: HostRuntime) -> Result<(), Fail> {
-    let subject = b"AA,A,A";
     let mut patterns = Patterns::new(rt.alloc());
     let span = patterns.prim(Prim::Span, Arg::Set(b"A"))?;
     let stops = patterns.prim(Prim::BreakX, Arg::Set(b","))?;
     let mut looks = Looks::new(rt.alloc());
-    check_ends(&rt, &patterns, &mut looks, span, subject, SPANS)?;
-    check_ends(&rt, &patterns, &mut looks, stops, subject, STOPS)?;
-    assert_eq!(rt; place(&patterns, &mut looks, span, subject, 2)?, 3);
-    assert_eq!(rt; place(&patterns, &mut looks, stops, subject, 5)?, 7);
-    Ok(())
+    check_looks(&rt, &patterns, &mut looks, span, stops, b"AA,A,A")
 }
 
 /// Asks for the value of `*E`, and answers it by a node that the table got meanwhile.
@@ -280,15 +274,22 @@ fn answer_by_new_node(
     requires { pattern.0 < length table.old }
 {
     let mut m: Matcher = begin(alloc, table, pattern, b"AAB", false, 100)?;
-    let asked = next_event(&mut m, table)?;
+    check_answer(rt, &mut m, table)
+}
+
+fn check_answer(rt: &impl Abort, m: &mut Matcher, table: &mut Patterns) -> Result<(), Fail>
+    requires table { m.old.nodes ≡ table.old }
+    requires asked { m.old.waits ≡ false }
+{
+    let asked = next_event(m, table)?;
     assert!(rt; matches!(asked, Event::Value { .. }));
     if !m.is_waiting() {
         return Err(Fail::from("no value is wanted"));
     }
     let tail = table.prim(Prim::Span, Arg::Set(b"B"))?;
-    give_new(&mut m, table, tail)?;
-    let way = next_event(&mut m, table)?;
-    assert_eq!(rt; way, Event::Way { start: 0, end: 3 });
+    give_new(m, table, tail)?;
+    let way = next_event(m, table)?;
+    check_event(rt, "the new node", way, Event::Way { start: 0, end: 3 });
     Ok(())
 }
 

@@ -1,20 +1,15 @@
-//! Each public call of the table of patterns on worked rows. The ends are those of the book's descriptions of the
-//! primitives.
+//! The ends of primitives and the places where they have one, on worked rows: those of the book's descriptions.
 ghost use Rattle.std.specs.Prelude.{◌≤◌, ◌<◌, ◌+◌, length};
 ghost use Rattle.sno_pattern.specs.Shape.{IsPrimitive};
 ghost use Rattle.sno_pattern.specs.Table.{tree};
 
-use super::drawing::{push_head, push_number};
-use super::forms::table_of;
-use super::notation::forms_of;
-use super::rows::{Question, check_rows, parts};
-use sno_pattern::{Arg, BuildError, Patterns, Shape};
+use super::drawing::push_number;
+use super::rows::{Question, check_blocks, check_rows, parts};
+use super::searches::table_of_words;
+use sno_pattern::{Arg, Patterns, Shape};
 use sno_value::{PatId, Prim};
 use std::alloc::{AllocError, Global};
 use std::test::Fail;
-
-/// How many nodes a table holds at most.
-const MOST_NODES: u32 = 4_000_000;
 
 /// All ends of a primitive from a cursor in a subject, in order of trial: `FORM from CURSOR of SUBJECT`.
 #[derive(Drop)]
@@ -25,19 +20,30 @@ impl Question for Ends {
         let (words, rest) = parts(text, " from ")?;
         let (at, subject) = parts(rest, " of ")?;
         let at: usize = at.parse()?;
-        let subject = subject.as_bytes();
-        let forms = forms_of(alloc, words)?;
-        let (patterns, id) = table_of(alloc, &forms)?;
-        if at > subject.len() {
-            return Err(Fail::from("the cursor is outside"));
+        let (patterns, id) = table_of_words(alloc, words)?;
+        let text = ends_from(alloc, &patterns, id, subject.as_bytes(), at)?;
+        Ok(text)
+    }
+}
+
+fn ends_from(
+    alloc: Global,
+    patterns: &Patterns,
+    id: PatId,
+    subject: &[u8],
+    at: usize,
+) -> Result<String, Fail>
+    requires { id.0 < length patterns.now }
+{
+    if at > subject.len() {
+        return Err(Fail::from("the cursor is outside"));
+    }
+    match patterns.shape(id) {
+        Shape::Primitive => {
+            let text = ends_of(alloc, patterns, id, subject, at)?;
+            Ok(text)
         }
-        match patterns.shape(id) {
-            Shape::Primitive => {
-                let text = ends_of(alloc, &patterns, id, subject, at)?;
-                Ok(text)
-            }
-            _ => Err(Fail::from("no primitive")),
-        }
+        _ => Err(Fail::from("no primitive")),
     }
 }
 
@@ -98,11 +104,6 @@ RTAB:1 from 0 of ABC => ends 2
 RTAB:1 from 3 of ABC => ends
 ";
 
-#[test]
-fn counts(rt: HostRuntime) -> Result<(), Fail> {
-    check_rows::<Ends, _>(&rt, COUNTS)
-}
-
 const SETS: &str = r"
 ANY:BC from 2 of ABC => ends 3
 ANY:BC from 0 of ABC => ends
@@ -128,11 +129,6 @@ BREAKX:B from 0 of AAA => ends
 BREAKX:B from 2 of BB => ends
 ";
 
-#[test]
-fn sets(rt: HostRuntime) -> Result<(), Fail> {
-    check_rows::<Ends, _>(&rt, SETS)
-}
-
 const SEVERAL_ENDS: &str = r"
 ARB from 0 of AB => ends 0 1 2
 ARB from 2 of AB => ends 2
@@ -155,8 +151,8 @@ TEXT: from 0 of  => ends 0
 ";
 
 #[test]
-fn several_ends(rt: HostRuntime) -> Result<(), Fail> {
-    check_rows::<Ends, _>(&rt, SEVERAL_ENDS)
+fn ends_of_primitives(rt: HostRuntime) -> Result<(), Fail> {
+    check_blocks::<Ends, _>(&rt, &[COUNTS, SETS, SEVERAL_ENDS])
 }
 
 /// The first place at which a primitive has an end: `FORM from FROM to UNTIL of SUBJECT`.
@@ -170,19 +166,31 @@ impl Question for Places {
         let (until, subject) = parts(rest, " of ")?;
         let from: usize = from.parse()?;
         let until: usize = until.parse()?;
-        let subject = subject.as_bytes();
-        let forms = forms_of(alloc, words)?;
-        let (patterns, id) = table_of(alloc, &forms)?;
-        if from > subject.len() || until < from || until > subject.len() + 1 {
-            return Err(Fail::from("the places are outside"));
+        let (patterns, id) = table_of_words(alloc, words)?;
+        let text = place_from(alloc, &patterns, id, subject.as_bytes(), from, until)?;
+        Ok(text)
+    }
+}
+
+fn place_from(
+    alloc: Global,
+    patterns: &Patterns,
+    id: PatId,
+    subject: &[u8],
+    from: usize,
+    until: usize,
+) -> Result<String, Fail>
+    requires { id.0 < length patterns.now }
+{
+    if from > subject.len() || until < from || until > subject.len() + 1 {
+        return Err(Fail::from("the places are outside"));
+    }
+    match patterns.shape(id) {
+        Shape::Primitive => {
+            let text = place_of(alloc, patterns, id, subject, from, until)?;
+            Ok(text)
         }
-        match patterns.shape(id) {
-            Shape::Primitive => {
-                let text = place_of(alloc, &patterns, id, subject, from, until)?;
-                Ok(text)
-            }
-            _ => Err(Fail::from("no primitive")),
-        }
+        _ => Err(Fail::from("no primitive")),
     }
 }
 
@@ -273,116 +281,5 @@ fn words_of_masks(rt: HostRuntime) -> Result<(), Fail> {
     assert_eq!(rt; patterns.end_at(span, CORNERS, 0, 0), Some(8));
     let until = patterns.prim(Prim::Break, Arg::Set(CORNERS))?;
     assert_eq!(rt; patterns.end_at(until, NEIGHBOURS, 0, 0), None);
-    Ok(())
-}
-
-/// The heads of all nodes of a table in order, in the notation of the forms, and which of them are quiet; then how many
-/// there are.
-#[derive(Drop)]
-struct Heads;
-
-impl Question for Heads {
-    fn answer(alloc: Global, text: &'static str) -> Result<String, Fail> {
-        let forms = forms_of(alloc, text)?;
-        let (patterns, _) = table_of(alloc, &forms)?;
-        let mut text = String::new(alloc);
-        'nodes: for number in 0..patterns.len() {
-            let id = PatId(number);
-            push_head(alloc, &mut text, patterns.shape(id))?;
-            push_quiet(&mut text, patterns.is_quiet(id))?;
-        }
-        push_number(alloc, &mut text, Some(patterns.len() as usize))?;
-        Ok(text)
-    }
-}
-
-fn push_quiet(text: &mut String, quiet: bool) -> Result<(), AllocError> {
-    if quiet {
-        text.push_str(" quiet")?;
-    }
-    text.push_str(",")?;
-    Ok(())
-}
-
-const HEADS: &str = r"
-TEXT:A FENCE ABORT SUCCEED ARBNO:0 |:0,4 &:5,1 .:5,7 $:6,7 @:7 *:3 *SPAN:4 => primitive quiet, FENCE, ABORT, SUCCEED, ARBNO 0 quiet, | 0 4 quiet, & 5 1, . 5 7 quiet, $ 6 7, @ 7 quiet, * 3, *SPAN 4, 12
-TEXT:A FENCE CUT:0 CUT:1 *:3 CUT:4 BREAKX:A CUT:6 ARBNO:7 => primitive quiet, FENCE, CUT 0 quiet, CUT 1, * 3, CUT 4, primitive quiet, CUT 6 quiet, ARBNO 7 quiet, 9
-@:7 *:3 *SPAN:4 &:0,2 ARBNO:3 => @ 7 quiet, * 3, *SPAN 4, & 0 2, ARBNO 3, 5
-";
-
-#[test]
-fn heads_and_numbers(rt: HostRuntime) -> Result<(), Fail> {
-    check_rows::<Heads, _>(&rt, HEADS)
-}
-
-#[test]
-fn refusals(rt: HostRuntime) -> Result<(), Fail> {
-    let mut patterns = Patterns::new(rt.alloc());
-    let null_set = patterns.prim(Prim::Span, Arg::Set(b""));
-    assert_eq!(rt; null_set, Err(BuildError::NullSet));
-    let below_zero = patterns.prim(Prim::Len, Arg::Count(-1));
-    assert_eq!(rt; below_zero, Err(BuildError::BadCount));
-    let least = patterns.prim(Prim::Pos, Arg::Count(i64::MIN));
-    assert_eq!(rt; least, Err(BuildError::BadCount));
-    assert_eq!(rt; patterns.len(), 0);
-    assert_eq!(rt; patterns.prim(Prim::Len, Arg::Count(0)), Ok(PatId(0)));
-    Ok(())
-}
-
-/// A call that would add a node to a table, over its first node and its last.
-#[derive(Clone, Copy, Drop)]
-enum Call {
-    Arb,
-    Text,
-    Alternate,
-    Cut,
-    Length(i64),
-    NullSet,
-}
-
-/// What a full table answers.
-const REFUSALS: [(Call, BuildError); 7] = [
-    (Call::Arb, BuildError::Full),
-    (Call::Text, BuildError::Full),
-    (Call::Alternate, BuildError::Full),
-    (Call::Cut, BuildError::Full),
-    (Call::Length(1), BuildError::Full),
-    (Call::Length(-1), BuildError::BadCount),
-    (Call::NullSet, BuildError::NullSet),
-];
-
-fn make(patterns: &mut Patterns, call: Call, first: PatId, last: PatId) -> Result<PatId, BuildError>
-    requires first { first.0 < length patterns.old }
-    requires last { last.0 < length patterns.old }
-    ensures { length patterns.old ≤ length patterns.new }
-{
-    match call {
-        Call::Arb => patterns.arb(),
-        Call::Text => patterns.text(b"A"),
-        Call::Alternate => patterns.alt(first, last),
-        Call::Cut => patterns.cut(last),
-        Call::Length(count) => patterns.prim(Prim::Len, Arg::Count(count)),
-        Call::NullSet => patterns.prim(Prim::Any, Arg::Set(b"")),
-    }
-}
-
-/// A table with as many nodes as it may hold: a text, and then concatenations of the one before with it.
-#[test]
-fn full(rt: HostRuntime) -> Result<(), Fail> {
-    let mut patterns = Patterns::new(rt.alloc());
-    let first = patterns.text(b"A")?;
-    let mut deepest = first;
-    for _node in 1..MOST_NODES {
-        deepest = patterns.cat(deepest, first)?;
-    }
-    assert_eq!(rt; deepest.0, 3_999_999);
-    'refusals: for (call, refusal) in &REFUSALS {
-        let answer = make(&mut patterns, *call, first, deepest);
-        assert_eq!(rt; answer, Err(*refusal));
-    }
-    assert_eq!(rt; patterns.len(), 4_000_000);
-    assert!(rt; patterns.is_quiet(deepest));
-    let shape = patterns.shape(deepest);
-    assert_eq!(rt; shape, Shape::Cat(PatId(3_999_998), first));
     Ok(())
 }

@@ -63,32 +63,33 @@ pub fn search_events(
         pending: Vec::new(alloc),
         told: Vec::new(alloc),
     };
-    let goals = [Step::Match(pattern)];
-    let mut verdict = search.search(&goals, 0, &[], limit)?;
-    if !anchored {
-        for start in 0..subject.len() {
-            match search.next_try(verdict) {
-                Some(stop) => {
-                    verdict = stop;
-                    break;
-                }
-                None => {
-                    search.start = start + 1;
-                    verdict = search.search(&goals, start + 1, &[], limit)?;
-                }
-            }
-        }
-    }
-    match verdict {
-        Verdict::Exhausted => search.tell(Event::Exhausted)?,
-        Verdict::Aborted => search.tell(Event::Aborted)?,
-        Verdict::Limit => search.tell(Event::Limit)?,
-        Verdict::Waiting | Verdict::CutOff(_) => {}
-    }
+    search.search_all(pattern, anchored)?;
     Ok(search.told)
 }
 
 impl Search<'_> {
+    /// Searches from the first start, and where it isn't anchored from each.
+    fn search_all(&mut self, pattern: PatId, anchored: bool) -> Result<(), AllocError> {
+        let goals = [Step::Match(pattern)];
+        let mut verdict = self.search(&goals, 0, &[], self.limit)?;
+        if !anchored {
+            for start in 0..self.subject.len() {
+                if let Some(stop) = self.next_try(verdict) {
+                    verdict = stop;
+                    break;
+                }
+                self.start = start + 1;
+                verdict = self.search(&goals, start + 1, &[], self.limit)?;
+            }
+        }
+        match verdict {
+            Verdict::Exhausted => self.tell(Event::Exhausted),
+            Verdict::Aborted => self.tell(Event::Aborted),
+            Verdict::Limit => self.tell(Event::Limit),
+            Verdict::Waiting | Verdict::CutOff(_) => Ok(()),
+        }
+    }
+
     fn tell(&mut self, event: Event) -> Result<(), AllocError> {
         let told = Told {
             event,

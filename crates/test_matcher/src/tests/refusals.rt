@@ -1,7 +1,7 @@
 //! Refused memory: a stack of points that refuses growths, which are then asked for again.
 ghost use Rattle.std.specs.Prelude.{◌≡◌, ◌<◌, ◌+◌, false, length, IfOk};
 
-use super::driver::{begin, next_event};
+use super::driver::{begin, check_number, next_event};
 use sno_match::{CopiedGoals, Engine, Event, Goal, Pending, Points, SharedGoals, Top};
 use sno_pattern::{BuildError, Looks, Patterns};
 use sno_value::PatId;
@@ -188,6 +188,49 @@ fn ask_again<P: Points>(
     None
 }
 
+/// Asks for the next event, again after each refusal, which are counted, and compares it and its steps with those that
+/// are wanted.
+fn check_next<P: Points>(
+    rt: &impl Abort,
+    m: &mut Engine<P>,
+    table: &Patterns,
+    want: Event,
+    steps: u32,
+    refused: &mut u32,
+)
+    requires table { m.old.nodes ≡ table.now }
+    requires asked { m.old.waits ≡ false }
+    ensures { m.new.nodes ≡ table.now }
+{
+    let told = ask_again(rt, m, table, steps, refused);
+    assert_eq!(rt; told, Some(want));
+    assert_eq!(rt; m.steps(), steps);
+}
+
+/// Asks for all events, and gives the number of refusals.
+fn ask_for_all<P: Points>(
+    rt: &impl Abort,
+    m: &mut Engine<P>,
+    table: &Patterns,
+    expected: Expected,
+) -> u32
+    requires table { m.old.nodes ≡ table.now }
+    requires asked { m.old.waits ≡ false }
+{
+    let mut refused = 0u32;
+    'ways: for (end, steps) in expected.ways {
+        let way = Event::Way {
+            start: 0,
+            end: *end,
+        };
+        check_next(rt, m, table, way, *steps, &mut refused);
+        assert!(rt; !m.is_waiting());
+    }
+    check_next(rt, m, table, Event::Exhausted, expected.steps, &mut refused);
+    assert_eq!(rt; m.told(), expected.ways.len() as u64 + 1);
+    refused
+}
+
 /// Asks a pattern for all its events, and gives the number of refusals. An Err is a refusal before the first.
 fn asked_again<P: Points>(
     rt: &impl Abort,
@@ -199,21 +242,7 @@ fn asked_again<P: Points>(
     requires { pattern.0 < length table.now }
 {
     let mut m = begin::<P>(alloc, table, pattern, b"AAA", true, 1000)?;
-    let mut refused = 0u32;
-    'ways: for (end, steps) in expected.ways {
-        let told = ask_again(rt, &mut m, table, *steps, &mut refused);
-        let way = Event::Way {
-            start: 0,
-            end: *end,
-        };
-        assert_eq!(rt; told, Some(way));
-        assert_eq!(rt; m.steps(), *steps);
-        assert!(rt; !m.is_waiting());
-    }
-    let told = ask_again(rt, &mut m, table, expected.steps, &mut refused);
-    assert_eq!(rt; told, Some(Event::Exhausted));
-    assert_eq!(rt; m.steps(), expected.steps);
-    assert_eq!(rt; m.told(), expected.ways.len() as u64 + 1);
+    let refused = ask_for_all(rt, &mut m, table, expected);
     Ok(refused)
 }
 
@@ -262,23 +291,36 @@ fn every_second_growth_is_refused(rt: HostRuntime) -> Result<(), Fail> {
     Ok(())
 }
 
-/// Each growth behind `new` is refused once, in a match of its own; that in `new` is left to the test below.
+/// Refuses each growth of a choice that is repeated once, in a match of its own, and gives the number of growths.
+fn count_growths(
+    rt: &impl Abort,
+    table: &mut Patterns,
+    choice: PatId,
+    alloc: Global,
+) -> Result<u32, Fail>
+    requires { choice.0 < length table.old }
+{
+    let mut growths = 0u32;
+    'growths: for k in 0..1000u32 {
+        let some = table.arbno(choice)?;
+        check_number(rt, "the repetition", some.0 as usize, k as usize + 4);
+        let refusals = count_refusals(rt, table, some, alloc, REPETITION)?;
+        if refusals == 0 {
+            break;
+        }
+        check_number(rt, "the refusals", refusals as usize, 1);
+        growths = k + 1;
+    }
+    Ok(growths)
+}
+
+/// Each growth behind `new` is refused once; that in `new` is left to the test below.
 #[test]
 fn each_growth_is_refused_once(rt: HostRuntime) -> Result<(), Fail> {
     let mut table = Patterns::new(rt.alloc());
     let choice = add_choice(&mut table)?;
     let _third = table.arbno(choice)?;
-    let mut growths = 0u32;
-    'growths: for k in 0..1000u32 {
-        let some = table.arbno(choice)?;
-        assert_eq!(rt; some.0, k + 4);
-        let refusals = count_refusals(&rt, &table, some, rt.alloc(), REPETITION)?;
-        if refusals == 0 {
-            break;
-        }
-        assert_eq!(rt; refusals, 1);
-        growths = k + 1;
-    }
+    let growths = count_growths(&rt, &mut table, choice, rt.alloc())?;
     assert_eq!(rt; growths, GROWTHS);
     Ok(())
 }
@@ -297,21 +339,36 @@ fn add_cuts(table: &mut Patterns) -> Result<(PatId, PatId), BuildError>
     Ok((outer, rest))
 }
 
-/// The same of a cut in a cut.
-#[test]
-fn each_growth_of_cuts_is_refused_once(rt: HostRuntime) -> Result<(), Fail> {
-    let mut table = Patterns::new(rt.alloc());
-    let (outer, rest) = add_cuts(&mut table)?;
+/// Refuses each growth of a cut in a cut once, and then none.
+fn check_growths_of_cuts(
+    rt: &impl Abort,
+    table: &mut Patterns,
+    outer: PatId,
+    rest: PatId,
+    alloc: Global,
+) -> Result<(), Fail>
+    requires outer { outer.0 < length table.old }
+    requires rest { rest.0 < length table.old }
+{
     for _other in table.len()..68 {
         let _none = table.fail()?;
     }
     'growths: for k in 0..20u32 {
         let pattern = table.cat(outer, rest)?;
-        assert_eq!(rt; pattern.0, k + 68);
-        let refusals = count_refusals(&rt, &table, pattern, rt.alloc(), CUTS)?;
-        assert_eq!(rt; refusals, if k < GROWTHS_OF_CUTS { 1 } else { 0 });
+        check_number(rt, "the pattern", pattern.0 as usize, k as usize + 68);
+        let refusals = count_refusals(rt, table, pattern, alloc, CUTS)?;
+        let refused = if k < GROWTHS_OF_CUTS { 1 } else { 0 };
+        check_number(rt, "the refusals", refusals as usize, refused);
     }
     Ok(())
+}
+
+/// The same of a cut in a cut.
+#[test]
+fn each_growth_of_cuts_is_refused_once(rt: HostRuntime) -> Result<(), Fail> {
+    let mut table = Patterns::new(rt.alloc());
+    let (outer, rest) = add_cuts(&mut table)?;
+    check_growths_of_cuts(&rt, &mut table, outer, rest, rt.alloc())
 }
 
 /// With `rt try --test --fail-alloc N` the Nth allocation is refused, wherever it stands: while the table is built, in

@@ -24,6 +24,17 @@ pub fn check_rows<Q: Question, R: Abort + AllocGlobal>(
     Ok(())
 }
 
+/// The same of several blocks.
+pub fn check_blocks<Q: Question, R: Abort + AllocGlobal>(
+    rt: &R,
+    blocks: &[&'static str],
+) -> Result<(), Fail> {
+    for block in blocks {
+        check_rows::<Q, R>(rt, block)?;
+    }
+    Ok(())
+}
+
 /// What stands before a sign and behind it.
 pub fn parts(text: &'static str, sign: &str) -> Result<(&'static str, &'static str), Fail> {
     let parts = text.split_once(sign).ok_or("a row lacks a sign")?;

@@ -1,6 +1,6 @@
 //! Arithmetic on integers of 64 bits.
 use super::integers::integer;
-use super::rows::{Question, check_rows};
+use super::rows::{Question, check_blocks};
 use sno_value::{Arith, add, div, mul, pow, remdr, sub};
 use std::alloc::Global;
 use std::test::Fail;
@@ -33,6 +33,7 @@ fn result_of(first: i64, operator: &str, second: i64) -> Result<i64, Arith> {
     }
 }
 
+/// Worked rows.
 const WORKED: &str = r"
 2 ** 62 => 4611686018427387904
 2 ** 63 => overflow
@@ -52,11 +53,6 @@ const WORKED: &str = r"
 -1 - 3 => -4
 -9223372036854775808 + 0 => -9223372036854775808
 ";
-
-#[test]
-fn worked_rows(rt: HostRuntime) -> Result<(), Fail> {
-    check_rows::<Operations, _>(&rt, WORKED)
-}
 
 /// Where operands or results are the ends of the range.
 const EXTREMES: &str = r"
@@ -134,11 +130,6 @@ const EXTREMES: &str = r"
 2 ** 9223372036854775807 => overflow
 ";
 
-#[test]
-fn extremes(rt: HostRuntime) -> Result<(), Fail> {
-    check_rows::<Operations, _>(&rt, EXTREMES)
-}
-
 const LARGE_EXPONENTS: &str = r"
 0 ** 64 => 0
 1 ** 64 => 1
@@ -183,6 +174,6 @@ const LARGE_EXPONENTS: &str = r"
 ";
 
 #[test]
-fn large_exponents(rt: HostRuntime) -> Result<(), Fail> {
-    check_rows::<Operations, _>(&rt, LARGE_EXPONENTS)
+fn rows(rt: HostRuntime) -> Result<(), Fail> {
+    check_blocks::<Operations, _>(&rt, &[WORKED, EXTREMES, LARGE_EXPONENTS])
 }

@@ -1,7 +1,8 @@
 //! The words of the command line, and the texts of help.
-use super::rows::{Question, check_rows, check_texts};
+use super::help_texts::{CHECK_HELP, HELP, NO_COMMAND, RUN_HELP, SHORT_CHECK_HELP, WAYS_HELP};
+use super::rows::{Question, check_blocks, check_texts};
 use sno_io::{Job, command, status_of};
-use std::alloc::Global;
+use std::alloc::{AllocError, Global};
 use std::test::Fail;
 
 /// The job that words ask for, which stand with `|` between them; or the status where they are refused.
@@ -11,10 +12,15 @@ struct Commands;
 impl Question for Commands {
     fn answer(alloc: Global, text: &[u8]) -> Result<String, Fail> {
         let words = words_of(alloc, text)?;
-        match command(alloc, &words) {
-            Ok(job) => Ok(job_text(alloc, &job)?),
-            Err(error) => Ok(format!(in alloc; "status {}", status_of(&error))?),
-        }
+        let answer = answer_to(alloc, &words)?;
+        Ok(answer)
+    }
+}
+
+fn answer_to(alloc: Global, words: &[&str]) -> Result<String, AllocError> {
+    match command(alloc, words) {
+        Ok(job) => job_text(alloc, &job),
+        Err(error) => format!(in alloc; "status {}", status_of(&error)),
     }
 }
 
@@ -26,12 +32,12 @@ fn words_of<'a>(alloc: Global, text: &'a [u8]) -> Result<Vec<&'a str>, Fail> {
     Ok(words)
 }
 
-fn job_text(alloc: Global, job: &Job<'_>) -> Result<String, Fail> {
-    let text = match job {
-        Job::Check { file } => format!(in alloc; "check [{file}]")?,
+fn job_text(alloc: Global, job: &Job<'_>) -> Result<String, AllocError> {
+    match job {
+        Job::Check { file } => format!(in alloc; "check [{file}]"),
         Job::Run { file, limits } => {
             let (statements, steps) = (limits.statements, limits.match_steps);
-            format!(in alloc; "run [{file}] {statements} statements, {steps} steps")?
+            format!(in alloc; "run [{file}] {statements} statements, {steps} steps")
         }
         Job::Ways {
             anchored,
@@ -40,12 +46,12 @@ fn job_text(alloc: Global, job: &Job<'_>) -> Result<String, Fail> {
             subject,
         } => {
             let place = if *anchored { "anchored" } else { "anywhere" };
-            format!(in alloc; "ways [{pattern}] [{subject}] {place}, {steps} steps")?
+            format!(in alloc; "ways [{pattern}] [{subject}] {place}, {steps} steps")
         }
-    };
-    Ok(text)
+    }
 }
 
+/// Accepts check.
 const CHECKS: &str = r"
 snobol4|check|f.sno => check [f.sno]
 other name|check|dir/f => check [dir/f]
@@ -55,11 +61,7 @@ snobol4|check|- => check [-]
 snobol4|check| => check []
 ";
 
-#[test]
-fn accepts_check(rt: HostRuntime) -> Result<(), Fail> {
-    check_rows::<Commands, _>(&rt, CHECKS)
-}
-
+/// Accepts run.
 const RUNS: &str = r"
 snobol4|run|F => run [F] 1000000 statements, 1000000 steps
 other name|run|dir/f => run [dir/f] 1000000 statements, 1000000 steps
@@ -80,11 +82,7 @@ snobol4|run|--match-steps=1000000|F => run [F] 1000000 statements, 1000000 steps
 snobol4|run|--match-steps=1000000000|F => run [F] 1000000 statements, 1000000000 steps
 ";
 
-#[test]
-fn accepts_run(rt: HostRuntime) -> Result<(), Fail> {
-    check_rows::<Commands, _>(&rt, RUNS)
-}
-
+/// Accepts ways.
 const WAYS: &str = r"
 snobol4|ways|'A'|AB => ways ['A'] [AB] anywhere, 1000000 steps
 snobol4|ways|--anchor|--steps|5|'A'|AB => ways ['A'] [AB] anchored, 5 steps
@@ -96,11 +94,6 @@ snobol4|ways|--|-X|--anchor => ways [-X] [--anchor] anywhere, 1000000 steps
 snobol4|ways|--steps|1000000000|-| => ways [-] [] anywhere, 1000000000 steps
 snobol4|ways|--steps|1000000|'A'|AB => ways ['A'] [AB] anywhere, 1000000 steps
 ";
-
-#[test]
-fn accepts_ways(rt: HostRuntime) -> Result<(), Fail> {
-    check_rows::<Commands, _>(&rt, WAYS)
-}
 
 const REFUSED: &str = r"
 snobol4
@@ -191,243 +184,42 @@ fn refuses_no_words(rt: HostRuntime) {
     }
 }
 
-const WAYS_HELP: &str = "List the ways in which a pattern matches a subject.
-
-Each way is a line: where it starts, where it ends, and the assignments that it
-would make. Assignments that are made while the pattern is tried have lines of
-their own. The last line tells how the search ended: exhausted, aborted, limit.
-A word that begins with - is given behind --.
-
-Usage: snobol4 ways [OPTIONS] <PATTERN> <SUBJECT>
-
-Arguments:
-  <PATTERN>
-          A pattern, written as in a program
-
-  <SUBJECT>
-          The text in which it is matched
-
-Options:
-      --anchor
-          Start at the subject's first byte alone
-
-      --steps <N>
-          The most steps of the match: 0 to 1000000000 [default: 1000000]
-
-  -h, --help
-          Print help (see a summary with '-h')
-
-Examples:
-  snobol4 ways --anchor \"'A' | 'AB'\" AB
-  snobol4 ways \"BREAK(',') . FIELD\" one,two
-
-Statuses:
-  0   the ways were listed, at the limit too
-  1   an error, which standard error tells by its number
-  2   the pattern is refused
-  6   no memory
-  7   standard output failed
-  64  wrong words on the command line
-
-Documents: docs/LANGUAGE.md, docs/ERRORS.md, man snobol4
-";
-
-const RUN_HELP: &str = "Run a program.
-
-What the program assigns to OUTPUT goes to standard output, and INPUT reads a
-line of standard input. A run ends at END, at an error, or at a limit: so many
-statements in all, and so many steps in each match. An error is told with the
-number of its statement: snobol4-list FILE lists a program with these numbers.
-
-Usage: snobol4 run [OPTIONS] <FILE>
-
-Arguments:
-  <FILE>
-          The file that holds the program
-
-Options:
-      --statements <N>
-          The most statements of the run: 1 to 1000000000000 [default: 1000000]
-
-      --match-steps <N>
-          The most steps of each match: 0 to 1000000000 [default: 1000000]
-
-  -h, --help
-          Print help (see a summary with '-h')
-
-Examples:
-  snobol4 run hello.sno
-  snobol4 run --statements 50000000 words.sno < words.txt
-  snobol4 run /dev/stdin < hello.sno
-
-Statuses:
-  0   the program came to its END
-  1   an error, which standard error tells by its number
-  2   the program is refused
-  3   FILE can't be read
-  4   the limit of statements (error 20)
-  5   the limit of match steps (error 21)
-  6   no memory
-  7   standard input or output failed
-  64  wrong words on the command line
-
-Documents: docs/LANGUAGE.md, docs/ERRORS.md, man snobol4
-";
-
-const CHECK_HELP: &str = "Check a program: nothing is written where it is accepted.
-
-The program is read as by run, and not run. Where it is refused, standard error
-tells the first line at which something is wrong.
-
-Usage: snobol4 check <FILE>
-
-Arguments:
-  <FILE>
-          The file that holds the program
-
-Options:
-  -h, --help
-          Print help (see a summary with '-h')
-
-Examples:
-  snobol4 check hello.sno
-  snobol4 check hello.sno && snobol4 run hello.sno
-  snobol4 check /dev/stdin < hello.sno
-
-Statuses:
-  0   the program is accepted
-  2   the program is refused
-  3   FILE can't be read
-  6   no memory
-  64  wrong words on the command line
-
-Documents: docs/LANGUAGE.md, docs/ERRORS.md, man snobol4
-";
-
-const HELP: &str = "A SNOBOL4 interpreter with a resumable pattern matcher.
-
-It runs SNOBOL4 programs, tells what is wrong with them, and lists every way in
-which a pattern matches a text, in the order in which the ways are tried.
-
-Usage: snobol4 run [--statements N] [--match-steps N] FILE
-       snobol4 check FILE
-       snobol4 ways [--anchor] [--steps N] PATTERN SUBJECT
-
-Commands:
-  run    Run a program
-  check  Check a program: nothing is written where it is accepted
-  ways   List the ways in which a pattern matches a subject
-  help   Print this message or the help of the given subcommand(s)
-
-Options:
-  -h, --help
-          Print help (see a summary with '-h')
-
-  -V, --version
-          Print version
-
-Examples:
-  snobol4 run hello.sno
-  snobol4 ways --anchor \"'A' | 'AB'\" AB
-
-Statuses:
-  0   the program ended, was accepted, or the ways were listed; help, version
-  1   an error, which standard error tells by its number
-  2   the program or the pattern is refused
-  3   FILE can't be read
-  4   the limit of statements (error 20)
-  5   the limit of match steps (error 21)
-  6   no memory
-  7   standard input or output failed
-  64  wrong words on the command line
-
-Errors, of which snobol4-list --error K tells more:
-  1   data type
-  2   overflow
-  3   division by zero
-  4   undefined function
-  5   undefined label
-  6   null string
-  7   bad count
-  8   string too long
-  9   store full
-  10  call level
-  11  failure in a goto
-  12  bad prototype
-  13  return outside a call
-  14  keyword
-  15  not a variable
-  20  statement limit
-  21  match-step limit
-
-Documents: docs/LANGUAGE.md, docs/ERRORS.md, man snobol4
-";
-
-const SHORT_CHECK_HELP: &str = "Check a program: nothing is written where it is accepted
-
-Usage: snobol4 check <FILE>
-
-Arguments:
-  <FILE>  The file that holds the program
-
-Options:
-  -h, --help  Print help (see more with '--help')
-
-Examples:
-  snobol4 check hello.sno
-  snobol4 check hello.sno && snobol4 run hello.sno
-  snobol4 check /dev/stdin < hello.sno
-
-Statuses:
-  0   the program is accepted
-  2   the program is refused
-  3   FILE can't be read
-  6   no memory
-  64  wrong words on the command line
-
-Documents: docs/LANGUAGE.md, docs/ERRORS.md, man snobol4
-";
-
-const NO_COMMAND: &str = "error: unrecognized subcommand 'hello.sno'
-
-Usage: snobol4 run [--statements N] [--match-steps N] FILE
-       snobol4 check FILE
-       snobol4 ways [--anchor] [--steps N] PATTERN SUBJECT
-
-For more information, try '--help'.
-";
-
 /// The text that is told where words are refused.
 fn help_text(alloc: Global, text: &[u8]) -> Result<String, Fail> {
     let words = words_of(alloc, text)?;
-    match command(alloc, &words) {
-        Ok(_) => Err(Fail::from("accepted")),
-        Err(error) => Ok(format!(in alloc; "{error}")?),
+    let told = told_of(alloc, &words)?;
+    Ok(told)
+}
+
+fn told_of(alloc: Global, words: &[&str]) -> Result<String, AllocError> {
+    match command(alloc, words) {
+        Ok(_) => String::from_str(alloc, "accepted"),
+        Err(error) => format!(in alloc; "{error}"),
     }
 }
 
+/// Words that are refused, and what is told then.
+const TOLD: [(&str, &str); 8] = [
+    ("snobol4|--help", HELP),
+    ("snobol4|run|--help", RUN_HELP),
+    ("snobol4|check|--help", CHECK_HELP),
+    ("snobol4|ways|--help", WAYS_HELP),
+    ("snobol4|check|-h", SHORT_CHECK_HELP),
+    ("snobol4|hello.sno", NO_COMMAND),
+    ("snobol4|--version", "snobol4 0.9.0\n"),
+    ("other name|-V", "snobol4 0.9.0\n"),
+];
+
 #[test]
 fn shows_help(rt: HostRuntime) -> Result<(), Fail> {
-    let alloc = rt.alloc();
-    assert!(rt; help_text(alloc, b"snobol4|--help")?.as_str() == HELP);
-    assert!(rt; help_text(alloc, b"snobol4|run|--help")?.as_str() == RUN_HELP);
-    assert!(rt; help_text(alloc, b"snobol4|check|--help")?.as_str() == CHECK_HELP);
-    assert!(rt; help_text(alloc, b"snobol4|ways|--help")?.as_str() == WAYS_HELP);
-    assert!(rt; help_text(alloc, b"snobol4|check|-h")?.as_str() == SHORT_CHECK_HELP);
+    for (words, wanted) in TOLD {
+        let told = help_text(rt.alloc(), words.as_bytes())?;
+        assert!(rt; told.as_str() == wanted, "{words}");
+    }
     Ok(())
 }
 
 #[test]
-fn shows_the_commands_for_a_file_without_one(rt: HostRuntime) -> Result<(), Fail> {
-    let alloc = rt.alloc();
-    assert!(rt; help_text(alloc, b"snobol4|hello.sno")?.as_str() == NO_COMMAND);
-    Ok(())
-}
-
-#[test]
-fn tells_its_version(rt: HostRuntime) -> Result<(), Fail> {
-    let alloc = rt.alloc();
-    assert!(rt; help_text(alloc, b"snobol4|--version")?.as_str() == "snobol4 0.9.0\n");
-    assert!(rt; help_text(alloc, b"other name|-V")?.as_str() == "snobol4 0.9.0\n");
-    Ok(())
+fn rows(rt: HostRuntime) -> Result<(), Fail> {
+    check_blocks::<Commands, _>(&rt, &[CHECKS, RUNS, WAYS])
 }

@@ -1,6 +1,6 @@
 //! Expressions: their trees, and texts that are none.
 use super::reading::Expressions;
-use super::rows::{check_rows, check_texts};
+use super::rows::{check_blocks, check_texts};
 use std::test::Fail;
 
 const PRIMARIES: &str = r#"
@@ -41,11 +41,6 @@ A[ 'K' ] => (item A 'K')
 A[B<C[D<E(F)>]>] => (item A (item B (item C (item D (call E F)))))
 "#;
 
-#[test]
-fn primaries(rt: HostRuntime) -> Result<(), Fail> {
-    check_rows::<Expressions, _>(&rt, PRIMARIES)
-}
-
 const PARENTHESES_AND_BLANKS: &str = r"
 (X) => X
 ( \tX ) => X
@@ -75,11 +70,6 @@ X - (Y - Z) => (- X (- Y Z))
 X . (Y $ Z) => (. X ($ Y Z))
 -(X + Y) => (- (+ X Y))
 ";
-
-#[test]
-fn parentheses_and_blanks(rt: HostRuntime) -> Result<(), Fail> {
-    check_rows::<Expressions, _>(&rt, PARENTHESES_AND_BLANKS)
-}
 
 const UNARY_OPERATORS: &str = r"
 +X => (+ X)
@@ -111,11 +101,6 @@ X + +Y => (+ X (+ Y))
 X - -Y => (- X (- Y))
 ";
 
-#[test]
-fn unary_operators(rt: HostRuntime) -> Result<(), Fail> {
-    check_rows::<Expressions, _>(&rt, UNARY_OPERATORS)
-}
-
 /// A sign with blanks on both sides is binary, and one with a blank before it alone is unary.
 const SIGNS_BEHIND_A_BLANK: &str = r#"
 1 + 2 => (+ 1 2)
@@ -136,11 +121,6 @@ X 1 => (cat X 1)
 1 X => (cat 1 X)
 'A' 'B' => (cat 'A' 'B')
 "#;
-
-#[test]
-fn signs_behind_a_blank(rt: HostRuntime) -> Result<(), Fail> {
-    check_rows::<Expressions, _>(&rt, SIGNS_BEHIND_A_BLANK)
-}
 
 /// Each binary operator, and how like ones group.
 const GROUPING: &str = r"
@@ -172,11 +152,6 @@ W | X | Y | Z => (| (| (| W X) Y) Z)
 W - X - Y - Z => (- (- (- W X) Y) Z)
 ";
 
-#[test]
-fn grouping(rt: HostRuntime) -> Result<(), Fail> {
-    check_rows::<Expressions, _>(&rt, GROUPING)
-}
-
 /// Each two neighbouring levels of operators, in both orders, and all levels at once.
 const PRECEDENCE: &str = r"
 X | Y Z => (| X (cat Y Z))
@@ -205,11 +180,6 @@ A $ B | C => (| ($ A B) C)
 A | B C + D / E * F ** G . H => (| A (cat B (+ C (/ D (* E (** F (. G H)))))))
 A $ B ** C * D / E - F G | H => (| (cat (- (/ (* (** ($ A B) C) D) E) F) G) H)
 ";
-
-#[test]
-fn precedence(rt: HostRuntime) -> Result<(), Fail> {
-    check_rows::<Expressions, _>(&rt, PRECEDENCE)
-}
 
 const TEXTS_OF_NO_EXPRESSION: &str = r"
 
@@ -303,4 +273,19 @@ X\_Y
 #[test]
 fn texts_of_no_expression(rt: HostRuntime) -> Result<(), Fail> {
     check_texts::<Expressions, _>(&rt, "snobol4: syntax 3 at line 1", TEXTS_OF_NO_EXPRESSION)
+}
+
+#[test]
+fn rows(rt: HostRuntime) -> Result<(), Fail> {
+    check_blocks::<Expressions, _>(
+        &rt,
+        &[
+            PRIMARIES,
+            PARENTHESES_AND_BLANKS,
+            UNARY_OPERATORS,
+            SIGNS_BEHIND_A_BLANK,
+            GROUPING,
+            PRECEDENCE,
+        ],
+    )
 }

@@ -81,16 +81,39 @@ fn four_calls(
     tells_held: bool,
 ) -> Result<(String, usize), Fail> {
     let mut device = reader_of(text, at_once, reads);
+    let told = tell_lines(alloc, &mut device, tells_held)?;
+    Ok((told, device.into_inner().asked))
+}
+
+fn tell_lines(
+    alloc: Global,
+    device: &mut Device<Pieces<'_>>,
+    tells_held: bool,
+) -> Result<String, Fail>
+    requires { device.old.has_failed ≡ false }
+{
     let mut lines = Lines::new(alloc);
+    let told = tell_four(alloc, &mut lines, device, tells_held)?;
+    Ok(told)
+}
+
+fn tell_four(
+    alloc: Global,
+    lines: &mut Lines,
+    device: &mut Device<Pieces<'_>>,
+    tells_held: bool,
+) -> Result<String, Fail>
+    requires sound { lines.old.stopped ≡ None → device.old.has_failed ≡ false }
+    requires same { lines.old.stopped ≡ None → lines.old.told_end ≡ true → device.old.told_end ≡ true }
+{
     let mut told = String::new(alloc);
-    tell_next(alloc, &mut told, &mut lines, &mut device, tells_held)?;
-    tell_next(alloc, &mut told, &mut lines, &mut device, tells_held)?;
-    tell_next(alloc, &mut told, &mut lines, &mut device, tells_held)?;
-    tell_next(alloc, &mut told, &mut lines, &mut device, tells_held)?;
-    if Source::failed(&device) {
+    'calls: for _ in 0..4 {
+        tell_next(alloc, &mut told, lines, device, tells_held)?;
+    }
+    if Source::failed(device) {
         told.push_str("!")?;
     }
-    Ok((told, device.into_inner().asked))
+    Ok(told)
 }
 
 /// The lines of an input, behind the numbers of bytes that come at once: they are the same for each of these. A reader
@@ -117,6 +140,7 @@ impl Question for Inputs {
     }
 }
 
+/// Gives lines.
 const LINES: &str = r"
 1 2 3 100| => ----
 1 2 3 100|\n => []---
@@ -130,11 +154,6 @@ const LINES: &str = r"
 1 2 3 100|1\n2\n3\n4\n5 => [1][2][3][4]
 1 8192 1000000 2000000|\<1000000:x\>\nnext => [\<1000000:x\>][next]--
 ";
-
-#[test]
-fn gives_lines(rt: HostRuntime) -> Result<(), Fail> {
-    check_rows::<Inputs, _>(&rt, LINES)
-}
 
 /// What is told of `size` letters of which that at the place is a line feed, or none where the place is behind them.
 fn two_lines(alloc: Global, size: usize, place: usize) -> Result<String, Fail> {
@@ -188,16 +207,12 @@ impl Question for Reads {
     }
 }
 
+/// Holds what was read.
 const HELD: &str = r"
 9|3|one\ntwo\nthree => [one](two\nt)[two](t)[three]()-() 3
 4|0|one\n => ReadFault()ReadFault()ReadFault()ReadFault()! 1
 6|1|one\ntwo\n => [one](tw)ReadFault(tw)ReadFault(tw)ReadFault(tw)! 2
 ";
-
-#[test]
-fn holds_what_was_read(rt: HostRuntime) -> Result<(), Fail> {
-    check_rows::<Reads, _>(&rt, HELD)
-}
 
 /// A line that is too long is refused again, and what was read stays held.
 fn check_refused<R: Abort + AllocGlobal>(rt: &R, text: &[u8], at_once: usize) {
@@ -218,4 +233,10 @@ fn refuses_a_longer_line(rt: HostRuntime) -> Result<(), Fail> {
     check_refused(&rt, &text, 1);
     check_refused(&rt, &text, 2_000_000);
     Ok(())
+}
+
+#[test]
+fn rows(rt: HostRuntime) -> Result<(), Fail> {
+    check_rows::<Inputs, _>(&rt, LINES)?;
+    check_rows::<Reads, _>(&rt, HELD)
 }

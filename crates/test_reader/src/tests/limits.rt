@@ -1,6 +1,6 @@
 //! The longest and deepest texts that are read, and the first that are not.
 use super::reading::{Nodes, Sizes};
-use super::rows::check_rows;
+use super::rows::check_blocks;
 use std::test::Fail;
 
 const LONG_EXPRESSIONS: &str = r"
@@ -10,11 +10,6 @@ const LONG_EXPRESSIONS: &str = r"
 \<1500:1 ** \>1 => 0 statements, 3001 nodes
 \<2000:'' \> => 0 statements, 3999 nodes
 ";
-
-#[test]
-fn long_expressions(rt: HostRuntime) -> Result<(), Fail> {
-    check_rows::<Nodes, _>(&rt, LONG_EXPRESSIONS)
-}
 
 /// All kinds count alike. One that closes makes room for another, those in literals aren't counted, and the count
 /// doesn't fall below 0.
@@ -28,19 +23,9 @@ const BRACKETS: &str = r"
 )))\<40:(\>[ => snobol4: too large at line 1
 ";
 
-#[test]
-fn brackets(rt: HostRuntime) -> Result<(), Fail> {
-    check_rows::<Nodes, _>(&rt, BRACKETS)
-}
-
 const LARGE_PROGRAMS: &str = r"
 \<99999: X = X 'ABCDEFGHIJKLMNOPQRSTUVWXYZ'\n\>END\n => 100000 statements, 399996 nodes
 ";
-
-#[test]
-fn large_programs(rt: HostRuntime) -> Result<(), Fail> {
-    check_rows::<Sizes, _>(&rt, LARGE_PROGRAMS)
-}
 
 /// The bytes of a statement are those of its lines, their ends, the lines between and the `;` left out.
 const LONG_STATEMENTS: &str = r"
@@ -54,6 +39,7 @@ const LONG_STATEMENTS: &str = r"
 ";
 
 #[test]
-fn long_statements(rt: HostRuntime) -> Result<(), Fail> {
-    check_rows::<Sizes, _>(&rt, LONG_STATEMENTS)
+fn rows(rt: HostRuntime) -> Result<(), Fail> {
+    check_blocks::<Nodes, _>(&rt, &[LONG_EXPRESSIONS, BRACKETS])?;
+    check_blocks::<Sizes, _>(&rt, &[LARGE_PROGRAMS, LONG_STATEMENTS])
 }

@@ -1,6 +1,6 @@
 //! Lines: how they are cut and joined into statements, and in which line each begins.
 use super::reading::{Programs, Sizes};
-use super::rows::check_rows;
+use super::rows::{check_blocks, check_rows};
 use std::test::Fail;
 
 const SKIPPED_LINES: &str = r"
@@ -10,11 +10,6 @@ const SKIPPED_LINES: &str = r"
 \r\n X\r\n* Y\r\nEND\r\n => 2 subject X / 4 label END
  X\n;\n; ;\nEND => 1 subject X / 4 label END
 ";
-
-#[test]
-fn skipped_lines(rt: HostRuntime) -> Result<(), Fail> {
-    check_rows::<Programs, _>(&rt, SKIPPED_LINES)
-}
 
 const CONTINUED_LINES: &str = r"
 * note\n-LIST\n X = 'A'\n+ 'B'\nEND => 3 subject X = object (cat 'A' 'B') / 5 label END
@@ -29,11 +24,6 @@ L\nEND\n\n* note\n+ L => 1 label L / 2 label END entry L
  X\n+;Y\nEND => 1 subject X / 2 label Y / 3 label END
 ";
 
-#[test]
-fn continued_lines(rt: HostRuntime) -> Result<(), Fail> {
-    check_rows::<Programs, _>(&rt, CONTINUED_LINES)
-}
-
 const CUT_LINES: &str = r#"
  X;Y;END => 1 subject X / 1 label Y / 1 label END
 L1; X = 1;L2\nEND => 1 label L1 / 1 subject X = object 1 / 1 label L2 / 2 label END
@@ -45,11 +35,6 @@ L1; X = 1;L2\nEND => 1 label L1 / 1 subject X = object 1 / 1 label L2 / 2 label 
  X;\n* note\n+ Y\nEND => 1 subject X / 3 subject Y / 4 label END
  X; Y\n+ Z; W\nEND => 1 subject X / 1 subject Y pattern Z / 2 subject W / 3 label END
 "#;
-
-#[test]
-fn cut_lines(rt: HostRuntime) -> Result<(), Fail> {
-    check_rows::<Programs, _>(&rt, CUT_LINES)
-}
 
 const REFUSED_LINES: &str = r"
   * X\nEND => snobol4: syntax 3 at line 1
@@ -77,11 +62,6 @@ END\n+ ) => snobol4: syntax 3 at line 1
  X\r\n Y\r\n )\r\nEND => snobol4: syntax 3 at line 3
 ";
 
-#[test]
-fn refused_lines(rt: HostRuntime) -> Result<(), Fail> {
-    check_rows::<Programs, _>(&rt, REFUSED_LINES)
-}
-
 const OPEN_LITERALS: &str = r#"
  X = 'A\nEND => snobol4: syntax 1 at line 1
  X = "A'\nEND => snobol4: syntax 1 at line 1
@@ -97,11 +77,6 @@ const OPEN_LITERALS: &str = r#"
 END 'A => snobol4: syntax 1 at line 1
 END\n+ 'A => snobol4: syntax 1 at line 1
 "#;
-
-#[test]
-fn open_literals(rt: HostRuntime) -> Result<(), Fail> {
-    check_rows::<Programs, _>(&rt, OPEN_LITERALS)
-}
 
 /// The program that copies its input, cut to its first bytes.
 const CUT_PROGRAMS: &str = r"
@@ -142,6 +117,16 @@ L OUTPUT = INPUT :S(L)F(END)\nEND\n => 2 statements, 2 nodes
 ";
 
 #[test]
-fn cut_programs(rt: HostRuntime) -> Result<(), Fail> {
+fn rows(rt: HostRuntime) -> Result<(), Fail> {
+    check_blocks::<Programs, _>(
+        &rt,
+        &[
+            SKIPPED_LINES,
+            CONTINUED_LINES,
+            CUT_LINES,
+            REFUSED_LINES,
+            OPEN_LITERALS,
+        ],
+    )?;
     check_rows::<Sizes, _>(&rt, CUT_PROGRAMS)
 }

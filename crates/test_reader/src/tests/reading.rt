@@ -2,7 +2,8 @@
 use super::drawing::Drawing;
 use super::rows::Question;
 use sno_text::{Program, ReadError, read_expression, read_program};
-use std::alloc::Global;
+use sno_value::ExprId;
+use std::alloc::{AllocError, Global};
 use std::test::Fail;
 
 /// The tree of an expression. No statement is written behind it, since its program has none.
@@ -12,15 +13,17 @@ pub struct Expressions;
 impl Question for Expressions {
     fn answer(alloc: Global, text: &[u8]) -> Result<String, Fail> {
         match read_expression(alloc, text) {
-            Ok((program, root)) => {
-                let mut drawing = Drawing::new(alloc);
-                drawing.write_tree(alloc, &program, root)?;
-                drawing.write_program(alloc, &program)?;
-                Ok(drawing.text)
-            }
+            Ok((program, root)) => Ok(drawn_expression(alloc, &program, root)?),
             Err(error) => refusal(alloc, error),
         }
     }
+}
+
+fn drawn_expression(alloc: Global, program: &Program, root: ExprId) -> Result<String, AllocError> {
+    let mut drawing = Drawing::new(alloc);
+    drawing.write_tree(alloc, program, root)?;
+    drawing.write_program(alloc, program)?;
+    Ok(drawing.text)
 }
 
 /// The statements of a program.
@@ -30,14 +33,16 @@ pub struct Programs;
 impl Question for Programs {
     fn answer(alloc: Global, text: &[u8]) -> Result<String, Fail> {
         match read_program(alloc, text) {
-            Ok(program) => {
-                let mut drawing = Drawing::new(alloc);
-                drawing.write_program(alloc, &program)?;
-                Ok(drawing.text)
-            }
+            Ok(program) => Ok(drawn_program(alloc, &program)?),
             Err(error) => refusal(alloc, error),
         }
     }
+}
+
+fn drawn_program(alloc: Global, program: &Program) -> Result<String, AllocError> {
+    let mut drawing = Drawing::new(alloc);
+    drawing.write_program(alloc, program)?;
+    Ok(drawing.text)
 }
 
 /// How many statements and nodes the program of an expression has.

@@ -1,6 +1,6 @@
 //! Which refusal is told where several fit.
 use super::reading::{Nodes, Sizes};
-use super::rows::{check_rows, check_texts};
+use super::rows::{check_blocks, check_rows, check_texts};
 use sno_text::ReadError;
 use std::test::Fail;
 
@@ -23,11 +23,6 @@ END RETURN => snobol4: syntax 4 at line 1
  END\n => snobol4: no END
 end\n => snobol4: no END
 ";
-
-#[test]
-fn single_refusals(rt: HostRuntime) -> Result<(), Fail> {
-    check_rows::<Sizes, _>(&rt, SINGLE_REFUSALS)
-}
 
 /// Each two rows of the table of refusals that fit one statement, the one before and behind the other in its text. A
 /// label stands first, so nothing comes before a duplicate one. An END that was read ends the program, so no duplicate
@@ -102,11 +97,6 @@ L\nEND \# => snobol4: syntax 4 at line 2
 END\nEND M => 1 statements, 0 nodes
 ";
 
-#[test]
-fn pairs_in_one_statement(rt: HostRuntime) -> Result<(), Fail> {
-    check_rows::<Sizes, _>(&rt, PAIRS_IN_ONE_STATEMENT)
-}
-
 /// NoEnd comes behind all others but code 4, which is of a program with END.
 const REFUSALS_WITHOUT_END: &str = r"
  X = 'A => snobol4: syntax 1 at line 1
@@ -116,11 +106,6 @@ const REFUSALS_WITHOUT_END: &str = r"
  X = \# => snobol4: syntax 2 at line 1
 L\nL => snobol4: duplicate label at line 2
 ";
-
-#[test]
-fn refusals_without_end(rt: HostRuntime) -> Result<(), Fail> {
-    check_rows::<Sizes, _>(&rt, REFUSALS_WITHOUT_END)
-}
 
 /// Of two statements the first that is refused is told, whatever rows fit them.
 const PAIRS_OF_STATEMENTS: &str = r"
@@ -175,11 +160,6 @@ L\nEND M\nL X = 1\nEND\n => snobol4: syntax 4 at line 2
 L\nEND M\nEND M\nEND\n => snobol4: syntax 4 at line 2
 ";
 
-#[test]
-fn pairs_of_statements(rt: HostRuntime) -> Result<(), Fail> {
-    check_rows::<Sizes, _>(&rt, PAIRS_OF_STATEMENTS)
-}
-
 /// Statement 100,001 is too large, whatever else fits it.
 const STATEMENT_AND_SHAPE: &str = r"
 L\<99998:\n X\>\n X\n X = 'A\nEND\n => snobol4: too large at line 100001
@@ -187,11 +167,6 @@ L\<99998:\n X\>\n X\n X = \<41:(\>1\<41:)\>\nEND\n => snobol4: too large at line
 L\<99998:\n X\>\n X\n X = \<8000: \>1\nEND\n => snobol4: too large at line 100001
 L\<99998:\n X\>\n X\n )\nEND\n => snobol4: too large at line 100001
 ";
-
-#[test]
-fn statement_and_shape(rt: HostRuntime) -> Result<(), Fail> {
-    check_rows::<Sizes, _>(&rt, STATEMENT_AND_SHAPE)
-}
 
 const STATEMENT_AND_LABELS: &str = r"
 L\<99998:\n X\>\n X\n X = \#\nEND\n => snobol4: too large at line 100001
@@ -201,11 +176,6 @@ L\<99998:\n X\>\n X\n X\n => snobol4: too large at line 100001
 L\<99998:\n X\>\n X\nEND\n => snobol4: too large at line 100001
 ";
 
-#[test]
-fn statement_and_labels(rt: HostRuntime) -> Result<(), Fail> {
-    check_rows::<Sizes, _>(&rt, STATEMENT_AND_LABELS)
-}
-
 /// The statement before it is judged as ever.
 const LAST_STATEMENT_ALLOWED: &str = r"
 L\<99998:\n X\>\n X\n => snobol4: no END
@@ -213,11 +183,6 @@ L\<99998:\n X\>\n )\n X\nEND\n => snobol4: syntax 3 at line 100000
 L\<99998:\n X\>\nL\n X\nEND\n => snobol4: duplicate label at line 100000
 L\<99998:\n X\>\nEND L\n X\n => 100000 statements, 99998 nodes
 ";
-
-#[test]
-fn last_statement_allowed(rt: HostRuntime) -> Result<(), Fail> {
-    check_rows::<Sizes, _>(&rt, LAST_STATEMENT_ALLOWED)
-}
 
 /// A program of 4,000,001 bytes is too large in line 0, whatever else fits it, before or behind its other bytes.
 const ONE_BYTE_TOO_MANY: &str = r"
@@ -251,11 +216,6 @@ const LAST_BYTE_ALLOWED: &str = r"
 \<4000000:\n\> => snobol4: no END
 \<3999997:\n\> X) => snobol4: syntax 3 at line 3999998
 ";
-
-#[test]
-fn last_byte_allowed(rt: HostRuntime) -> Result<(), Fail> {
-    check_rows::<Sizes, _>(&rt, LAST_BYTE_ALLOWED)
-}
 
 /// An expression is one statement in line 1, which an LF would end.
 const PAIRS_IN_ONE_EXPRESSION: &str = r"
@@ -299,15 +259,28 @@ X\n\<41:(\>1\<41:)\> => snobol4: too large at line 1
 \<4000001: \>' => snobol4: syntax 1 at line 1
 ";
 
-#[test]
-fn pairs_in_one_expression(rt: HostRuntime) -> Result<(), Fail> {
-    check_rows::<Nodes, _>(&rt, PAIRS_IN_ONE_EXPRESSION)
-}
-
 /// Want of memory, which no row can have.
 #[test]
 fn no_memory(rt: HostRuntime) -> Result<(), Fail> {
     let text = format!(in rt.alloc(); "{}", ReadError::NoMemory)?;
     assert_eq!(rt; text.as_str(), "snobol4: no memory");
     Ok(())
+}
+
+#[test]
+fn rows(rt: HostRuntime) -> Result<(), Fail> {
+    check_blocks::<Sizes, _>(
+        &rt,
+        &[
+            SINGLE_REFUSALS,
+            PAIRS_IN_ONE_STATEMENT,
+            REFUSALS_WITHOUT_END,
+            PAIRS_OF_STATEMENTS,
+            STATEMENT_AND_SHAPE,
+            STATEMENT_AND_LABELS,
+            LAST_STATEMENT_ALLOWED,
+            LAST_BYTE_ALLOWED,
+        ],
+    )?;
+    check_rows::<Nodes, _>(&rt, PAIRS_IN_ONE_EXPRESSION)
 }

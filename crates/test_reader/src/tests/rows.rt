@@ -24,6 +24,17 @@ pub fn check_rows<Q: Question, R: Abort + AllocGlobal>(rt: &R, block: &str) -> R
     Ok(())
 }
 
+/// The same of several blocks.
+pub fn check_blocks<Q: Question, R: Abort + AllocGlobal>(
+    rt: &R,
+    blocks: &[&str],
+) -> Result<(), Fail> {
+    for block in blocks {
+        check_rows::<Q, R>(rt, block)?;
+    }
+    Ok(())
+}
+
 /// The same of a block whose lines are texts that all have one answer.
 pub fn check_texts<Q: Question, R: Abort + AllocGlobal>(
     rt: &R,

@@ -1,7 +1,8 @@
 //! Statements: their parts, their trees, and texts that are none.
 use super::reading::Programs;
-use super::rows::{check_rows, check_texts};
-use sno_text::{Span, read_program};
+use super::rows::{check_blocks, check_texts};
+use sno_text::{Program, Span, read_program};
+use std::process::Abort;
 use std::test::Fail;
 
 const LABELS_AND_CORES: &str = r"
@@ -50,11 +51,6 @@ RETURNS\nFRETURN.\nEND => 1 label RETURNS / 2 label FRETURN. / 3 label END
 return\nEND => 1 label return / 2 label END
 ";
 
-#[test]
-fn labels_and_cores(rt: HostRuntime) -> Result<(), Fail> {
-    check_rows::<Programs, _>(&rt, LABELS_AND_CORES)
-}
-
 const GOTOS: &str = r"
  :(A)\nEND => 1 goto A / 2 label END
  :S(A)\nEND => 1 branch success A / 2 label END
@@ -92,11 +88,6 @@ L :(L)\nEND => 1 label L goto L / 2 label END
 L X Y = Z :F(A)S($B) \nEND => 1 label L subject X pattern Y = object Z branch success $B failure A / 2 label END
 ";
 
-#[test]
-fn gotos(rt: HostRuntime) -> Result<(), Fail> {
-    check_rows::<Programs, _>(&rt, GOTOS)
-}
-
 const ENDS: &str = r"
 END => 1 label END
 END\n => 1 label END
@@ -117,11 +108,6 @@ END;\n+ ) => 1 label END
 END; 'A => 1 label END
  X = 1;END;' => 1 subject X = object 1 / 1 label END
 ";
-
-#[test]
-fn ends(rt: HostRuntime) -> Result<(), Fail> {
-    check_rows::<Programs, _>(&rt, ENDS)
-}
 
 const TEXTS_OF_NO_STATEMENT: &str = r"
 _L
@@ -251,15 +237,14 @@ const LABELS: [(&str, Option<u32>); 7] = [
     ("", None),
 ];
 
-#[test]
-fn numbers_of_labels(rt: HostRuntime) -> Result<(), Fail> {
-    let program = read_program(rt.alloc(), LABELLED)?;
+/// Compares the numbers of labels with those that are wanted, and looks for statements before the first and behind the
+/// last.
+fn check_labels(rt: &impl Abort, program: &Program) {
     for (label, number) in &LABELS {
         assert_eq!(rt; program.label(label.as_bytes()), *number, "{label}");
     }
     assert!(rt; program.statement(0).is_none());
     assert!(rt; program.statement(5).is_none());
-    Ok(())
 }
 
 /// Spans, and what of this program's 33 bytes lies in them.
@@ -274,9 +259,7 @@ const SPANS: [(usize, usize, &str); 8] = [
     (1000, 2000, ""),
 ];
 
-#[test]
-fn texts_of_spans(rt: HostRuntime) -> Result<(), Fail> {
-    let program = read_program(rt.alloc(), LABELLED)?;
+fn check_spans(rt: &impl Abort, program: &Program) {
     for (start, end, text) in &SPANS {
         let span = Span {
             start: *start,
@@ -284,5 +267,17 @@ fn texts_of_spans(rt: HostRuntime) -> Result<(), Fail> {
         };
         assert_eq!(rt; program.text(span), text.as_bytes(), "{start} {end}");
     }
+}
+
+#[test]
+fn labels_and_spans(rt: HostRuntime) -> Result<(), Fail> {
+    let program = read_program(rt.alloc(), LABELLED)?;
+    check_labels(&rt, &program);
+    check_spans(&rt, &program);
     Ok(())
+}
+
+#[test]
+fn rows(rt: HostRuntime) -> Result<(), Fail> {
+    check_blocks::<Programs, _>(&rt, &[LABELS_AND_CORES, GOTOS, ENDS])
 }

@@ -1,6 +1,6 @@
 //! TRIM, DUPL, REPLACE and LGT on strings.
 use super::integers::integer;
-use super::rows::{Question, check_rows};
+use super::rows::{Question, check_blocks};
 use sno_value::{TextError, dupl, lgt, replace, trim};
 use std::alloc::{AllocError, Global};
 use std::test::Fail;
@@ -45,6 +45,7 @@ fn bracketed(alloc: Global, text: &[u8]) -> Result<String, Fail> {
     Ok(format!(in alloc; "[{text}]")?)
 }
 
+/// Trims.
 const TRIMMED: &str = r"
 TRIM| => []
 TRIM|\s => []
@@ -57,11 +58,7 @@ TRIM|\<1000000: \> => []
 TRIM|\<1000000: \>A => [\<1000000: \>A]
 ";
 
-#[test]
-fn trims(rt: HostRuntime) -> Result<(), Fail> {
-    check_rows::<Calls, _>(&rt, TRIMMED)
-}
-
+/// Duplicates.
 const COPIES: &str = r"
 DUPL|A|0 => []
 DUPL|A|1 => [A]
@@ -107,11 +104,7 @@ DUPL|\<1000000:A\>|2 => string too long
 DUPL|\<1000001:A\>|1 => string too long
 ";
 
-#[test]
-fn duplicates(rt: HostRuntime) -> Result<(), Fail> {
-    check_rows::<Calls, _>(&rt, COPIES)
-}
-
+/// Replaces.
 const REPLACED: &str = r"
 REPLACE|ABA|AB|XY => [XYX]
 REPLACE|A|AA|XY => [Y]
@@ -123,11 +116,7 @@ REPLACE|ABC|BAB|123 => [23C]
 REPLACE|\<1000000:A\>|\<1000000:A\>|\<999999:X\>Z => [\<1000000:Z\>]
 ";
 
-#[test]
-fn replaces(rt: HostRuntime) -> Result<(), Fail> {
-    check_rows::<Calls, _>(&rt, REPLACED)
-}
-
+/// Compares.
 const COMPARED: &str = r"
 LGT|A| => true
 LGT|| => false
@@ -147,11 +136,6 @@ LGT|\<63:A\>BA|\<63:A\>AB => true
 LGT|\<1000:A\>AB\<100:A\>|\<1000:A\>BA\<100:B\> => false
 LGT|\<65:A\>|\<65:A\> => false
 ";
-
-#[test]
-fn compares(rt: HostRuntime) -> Result<(), Fail> {
-    check_rows::<Calls, _>(&rt, COMPARED)
-}
 
 #[test]
 fn every_byte(rt: HostRuntime) -> Result<(), Fail> {
@@ -178,4 +162,9 @@ fn no_memory(rt: HostRuntime) -> Result<(), Fail> {
     let text = TextError::from(AllocError).to_string(rt.alloc())?;
     assert!(rt; text.as_str() == "no memory");
     Ok(())
+}
+
+#[test]
+fn rows(rt: HostRuntime) -> Result<(), Fail> {
+    check_blocks::<Calls, _>(&rt, &[TRIMMED, COPIES, REPLACED, COMPARED])
 }

@@ -1,9 +1,10 @@
 //! Values and their copies, and the kinds of primitives.
-ghost use Rattle.std.specs.Prelude.{◌≡◌, ◌↔◌, IsTrue};
+ghost use Rattle.std.specs.Prelude.{◌≡◌, ◌↔◌, ◌≤◌, IsTrue, length};
 
 use sno_value::{ExprId, Name, ObjId, PatId, Prim, SymId, Text, Value};
 use std::alloc::{AllocError, Global};
 use std::mem::size_of;
+use std::process::Abort;
 use std::slice::from_ref;
 use std::test::Fail;
 
@@ -76,17 +77,35 @@ const STRINGS: [&str; 8] = [
     "abcdefghijklmnopqrstuvwxyzabcdefghijklmnopqrstuvwxyz",
 ];
 
+/// Compares a string with its copy.
+fn check_copy(rt: &impl Abort, string: &Value, bytes: &[u8]) -> Result<(), Fail> {
+    let Value::Str(copy) = string.copy()? else {
+        return Err(Fail::from("no string"));
+    };
+    assert!(rt; copy.as_slice() == bytes);
+    assert!(rt; *string == Value::Str(copy));
+    Ok(())
+}
+
+/// Compares a string with one that is made of a list of its bytes.
+fn check_list(
+    rt: &impl Abort,
+    alloc: Global,
+    string: &Value,
+    bytes: &[u8],
+) -> Result<(), AllocError> {
+    let list = Vec::from_slice(alloc, bytes)?;
+    let made = Value::Str(Text::new(alloc, list)?);
+    assert!(rt; *string == made);
+    Ok(())
+}
+
 #[test]
 fn copies_strings(rt: HostRuntime) -> Result<(), Fail> {
     for text in &STRINGS {
         let string = Value::Str(Text::from_slice(rt.alloc(), text.as_bytes())?);
-        let Value::Str(copy) = string.copy()? else {
-            return Err(Fail::from("no string"));
-        };
-        assert!(rt; copy.as_slice() == text.as_bytes());
-        assert!(rt; string == Value::Str(copy));
-        let bytes = Vec::from_slice(rt.alloc(), text.as_bytes())?;
-        assert!(rt; string == Value::Str(Text::new(rt.alloc(), bytes)?));
+        check_copy(&rt, &string, text.as_bytes())?;
+        check_list(&rt, rt.alloc(), &string, text.as_bytes())?;
     }
     Ok(())
 }
@@ -103,20 +122,36 @@ fn joins_strings(rt: HostRuntime) -> Result<(), Fail> {
     Ok(())
 }
 
+/// Compares what a string has from a place on, and the first half of that.
+fn check_rest(
+    rt: &impl Abort,
+    alloc: Global,
+    whole: &Text,
+    bytes: &[u8],
+    start: usize,
+) -> Result<(), AllocError>
+    requires whole { whole.now ≡ bytes.now }
+    requires start { start ≤ length bytes.now }
+{
+    let rest = whole.part(alloc, start, bytes.len())?;
+    assert!(rt; rest.as_slice() == &bytes[start..], "{bytes:?} {start}");
+    check_half(rt, alloc, &rest)
+}
+
+fn check_half(rt: &impl Abort, alloc: Global, rest: &Text) -> Result<(), AllocError> {
+    let bytes = rest.as_slice();
+    let first = rest.part(alloc, 0, bytes.len() / 2)?;
+    assert!(rt; first.as_slice() == &bytes[..bytes.len() / 2], "{bytes:?}");
+    Ok(())
+}
+
 #[test]
 fn takes_parts_of_strings(rt: HostRuntime) -> Result<(), Fail> {
     for text in &STRINGS {
         let bytes = text.as_bytes();
         let whole = Text::from_slice(rt.alloc(), bytes)?;
         for start in 0..=bytes.len() {
-            let rest = whole.part(rt.alloc(), start, bytes.len())?;
-            assert!(rt; rest.as_slice() == &bytes[start..], "{text} {start}");
-            let length = rest.as_slice().len();
-            let first = rest.part(rt.alloc(), 0, length / 2)?;
-            assert!(rt;
-                first.as_slice() == &rest.as_slice()[..length / 2],
-                "{text} {start}"
-            );
+            check_rest(&rt, rt.alloc(), &whole, bytes, start)?;
         }
     }
     Ok(())
@@ -136,40 +171,73 @@ fn last_letters(alloc: Global) -> Result<Text, AllocError> {
     letters.part(alloc, length.min(3), length)
 }
 
+/// Appends what a string has from a place on to what it has before it.
+fn check_append(rt: &impl Abort, alloc: Global, bytes: &[u8], at: usize) -> Result<(), AllocError>
+    requires { at ≤ length bytes.now }
+{
+    let mut string = Text::from_slice(alloc, &bytes[..at])?;
+    string.append(alloc, &bytes[at..])?;
+    assert!(rt; string.as_slice() == bytes, "{bytes:?} {at}");
+    Ok(())
+}
+
+/// Appends bytes one by one.
+fn append_each(alloc: Global, string: &mut Text, bytes: &[u8]) -> Result<(), AllocError> {
+    for byte in bytes {
+        string.append(alloc, from_ref(byte))?;
+    }
+    Ok(())
+}
+
 #[test]
 fn appends_to_strings(rt: HostRuntime) -> Result<(), Fail> {
     for text in &STRINGS {
         let bytes = text.as_bytes();
         for at in 0..=bytes.len() {
-            let mut string = Text::from_slice(rt.alloc(), &bytes[..at])?;
-            string.append(rt.alloc(), &bytes[at..])?;
-            assert!(rt; string.as_slice() == bytes, "{text} {at}");
+            check_append(&rt, rt.alloc(), bytes, at)?;
         }
         let mut string = Text::null();
-        for byte in bytes {
-            string.append(rt.alloc(), from_ref(byte))?;
-        }
+        append_each(rt.alloc(), &mut string, bytes)?;
         assert!(rt; string.as_slice() == bytes, "{text}");
     }
     Ok(())
 }
 
+const LETTERS: &[u8] = b"abcdefghijklmnopqrstuvwxyzabcdef";
+
 /// What is appended to a string is seen neither in its copies nor in its parts, nor in what it is a part of.
 #[test]
 fn appends_to_one_of_many(rt: HostRuntime) -> Result<(), Fail> {
-    let letters: &[u8] = b"abcdefghijklmnopqrstuvwxyzabcdef";
-    let mut whole = Text::from_slice(rt.alloc(), letters)?;
+    let mut whole = Text::from_slice(rt.alloc(), LETTERS)?;
     whole.append(rt.alloc(), b"gh")?;
     let copy = whole.copy()?;
-    let mut first = whole.part(rt.alloc(), 0, 26)?;
-    let mut last = whole.part(rt.alloc(), 8, 34)?;
-    whole.append(rt.alloc(), b"1")?;
-    first.append(rt.alloc(), b"2")?;
-    last.append(rt.alloc(), b"3")?;
+    check_first(&rt, rt.alloc(), &mut whole)?;
+    assert!(rt; copy.as_slice() == b"abcdefghijklmnopqrstuvwxyzabcdefgh".as_slice());
+    Ok(())
+}
+
+fn check_first(rt: &impl Abort, alloc: Global, whole: &mut Text) -> Result<(), AllocError>
+    requires { 34 ≤ length whole.old }
+{
+    let mut first = whole.part(alloc, 0, 26)?;
+    check_last(rt, alloc, whole, &mut first)
+}
+
+fn check_last(
+    rt: &impl Abort,
+    alloc: Global,
+    whole: &mut Text,
+    first: &mut Text,
+) -> Result<(), AllocError>
+    requires { 34 ≤ length whole.old }
+{
+    let mut last = whole.part(alloc, 8, 34)?;
+    whole.append(alloc, b"1")?;
+    first.append(alloc, b"2")?;
+    last.append(alloc, b"3")?;
     assert!(rt; whole.as_slice() == b"abcdefghijklmnopqrstuvwxyzabcdefgh1".as_slice());
     assert!(rt; first.as_slice() == b"abcdefghijklmnopqrstuvwxyz2".as_slice());
     assert!(rt; last.as_slice() == b"ijklmnopqrstuvwxyzabcdefgh3".as_slice());
-    assert!(rt; copy.as_slice() == b"abcdefghijklmnopqrstuvwxyzabcdefgh".as_slice());
     Ok(())
 }
 
@@ -177,18 +245,21 @@ fn appends_to_one_of_many(rt: HostRuntime) -> Result<(), Fail> {
 #[test]
 fn appends_to_parts(rt: HostRuntime) -> Result<(), Fail> {
     let wanted: &[u8] = b"defghijklmnopqrstuvwxyz0123456789012345678901234567890123456789";
-    let mut last = last_letters(rt.alloc())?;
-    for digit in &wanted[23..] {
-        last.append(rt.alloc(), from_ref(digit))?;
-    }
-    assert!(rt; last.as_slice() == wanted);
-    let mut first = last.part(rt.alloc(), 0, 30)?;
-    drop(last);
-    for digit in &wanted[30..] {
-        first.append(rt.alloc(), from_ref(digit))?;
-    }
+    let mut first = grown_part(&rt, rt.alloc(), wanted)?;
+    append_each(rt.alloc(), &mut first, &wanted[30..])?;
     assert!(rt; first.as_slice() == wanted);
     Ok(())
+}
+
+/// The first 30 bytes of a part that has grown, and is gone then.
+fn grown_part(rt: &impl Abort, alloc: Global, wanted: &[u8]) -> Result<Text, AllocError>
+    requires { 30 ≤ length wanted.now }
+{
+    let mut last = last_letters(alloc)?;
+    append_each(alloc, &mut last, &wanted[23..])?;
+    assert!(rt; last.as_slice() == wanted);
+    let first = last.part(alloc, 0, 30)?;
+    Ok(first)
 }
 
 /// A value takes four words, whatever it is.

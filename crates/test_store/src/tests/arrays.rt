@@ -20,11 +20,6 @@ const SUBSCRIPTS: &[Step] = &[
     Step::Prototype(1, Err(1)),
 ];
 
-#[test]
-fn last_subscript_varies_fastest(rt: HostRuntime) -> Result<(), Fail> {
-    check(&rt, rt.alloc(), SUBSCRIPTS)
-}
-
 const PROTOTYPES: &[Step] = &[
     Step::NewArray("0", Row::Int(0), Err(12)),
     Step::NewArray("3:2", Row::Int(0), Err(12)),
@@ -48,11 +43,6 @@ const PROTOTYPES: &[Step] = &[
     Step::Element(2, &[1000, 1000], Ok(Some(999_999))),
 ];
 
-#[test]
-fn judges_prototypes(rt: HostRuntime) -> Result<(), Fail> {
-    check(&rt, rt.alloc(), PROTOTYPES)
-}
-
 const ELEMENTS: &[Step] = &[
     Step::NewArray("2,-1:1", Row::Str("x"), Ok(0)),
     Step::Set(Name::Elem(ObjId(0), 1), Row::Str("y")),
@@ -65,7 +55,14 @@ const ELEMENTS: &[Step] = &[
     Step::Get(Name::Elem(ObjId(0), 6), Row::Str("")),
 ];
 
+/// Calls of a new store each.
+const STORES: [(&str, &[Step]); 3] = [
+    ("last subscript varies fastest", SUBSCRIPTS),
+    ("judges prototypes", PROTOTYPES),
+    ("keeps elements", ELEMENTS),
+];
+
 #[test]
-fn keeps_elements(rt: HostRuntime) -> Result<(), Fail> {
-    check(&rt, rt.alloc(), ELEMENTS)
+fn answers(rt: HostRuntime) -> Result<(), Fail> {
+    check(&rt, rt.alloc(), &STORES)
 }

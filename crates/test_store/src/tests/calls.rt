@@ -46,11 +46,6 @@ const DEFINITIONS: &[Step] = &[
     Step::Level(0),
 ];
 
-#[test]
-fn defines_functions(rt: HostRuntime) -> Result<(), Fail> {
-    check(&rt, rt.alloc(), DEFINITIONS)
-}
-
 const NAMES_TO_JUDGE: &[Step] = &[
     Step::Define("", "", Err(12)),
     Step::Define("F", "", Err(12)),
@@ -107,11 +102,6 @@ const NAMES_TO_JUDGE: &[Step] = &[
     Step::SymbolText(14, ""),
 ];
 
-#[test]
-fn judges_names(rt: HostRuntime) -> Result<(), Fail> {
-    check(&rt, rt.alloc(), NAMES_TO_JUDGE)
-}
-
 const HUNDRED_NAMES: &[Step] = &[
     Step::DefineMany(100, Err(12)),
     Step::SymbolText(9, ""),
@@ -123,11 +113,6 @@ const HUNDRED_NAMES: &[Step] = &[
     Step::Get(Name::Var(SymId(10)), Row::Str("")),
     Step::Leave(Row::Str("")),
 ];
-
-#[test]
-fn has_at_most_100_names(rt: HostRuntime) -> Result<(), Fail> {
-    check(&rt, rt.alloc(), HUNDRED_NAMES)
-}
 
 const NEW_DEFINITIONS: &[Step] = &[
     Step::Define("F(A,B)C", "ONE", Ok(())),
@@ -156,11 +141,6 @@ const NEW_DEFINITIONS: &[Step] = &[
     Step::Get(Name::Var(SymId(13)), Row::Int(4)),
     Step::Get(Name::Var(SymId(14)), Row::Int(52)),
 ];
-
-#[test]
-fn defines_anew(rt: HostRuntime) -> Result<(), Fail> {
-    check(&rt, rt.alloc(), NEW_DEFINITIONS)
-}
 
 const SAVED_VALUES: &[Step] = &[
     Step::Define("F(A,B)L,M", "", Ok(())),
@@ -194,11 +174,6 @@ const SAVED_VALUES: &[Step] = &[
     Step::Get(Name::Var(SymId(14)), Row::Int(60)),
 ];
 
-#[test]
-fn saves_and_restores(rt: HostRuntime) -> Result<(), Fail> {
-    check(&rt, rt.alloc(), SAVED_VALUES)
-}
-
 const ARGUMENTS: &[Step] = &[
     Step::Define("F(A,B)L", "", Ok(())),
     Step::Set(Name::Var(SymId(10)), Row::Int(1)),
@@ -228,11 +203,6 @@ const ARGUMENTS: &[Step] = &[
     Step::Get(Name::Var(SymId(11)), Row::Int(2)),
     Step::Get(Name::Var(SymId(12)), Row::Int(3)),
 ];
-
-#[test]
-fn gives_arguments(rt: HostRuntime) -> Result<(), Fail> {
-    check(&rt, rt.alloc(), ARGUMENTS)
-}
 
 const NAMES_TWICE: &[Step] = &[
     // a formal that is the function's own name
@@ -265,11 +235,6 @@ const NAMES_TWICE: &[Step] = &[
     Step::Get(Name::Var(SymId(9)), Row::Int(1)),
     Step::Get(Name::Var(SymId(10)), Row::Int(2)),
 ];
-
-#[test]
-fn names_may_stand_twice(rt: HostRuntime) -> Result<(), Fail> {
-    check(&rt, rt.alloc(), NAMES_TWICE)
-}
 
 const NESTED_CALLS: &[Step] = &[
     Step::Define("F(N)L", "", Ok(())),
@@ -314,11 +279,6 @@ const NESTED_CALLS: &[Step] = &[
     Step::Get(Name::Var(SymId(12)), Row::Int(40)),
 ];
 
-#[test]
-fn calls_nest(rt: HostRuntime) -> Result<(), Fail> {
-    check(&rt, rt.alloc(), NESTED_CALLS)
-}
-
 const TWO_HUNDRED_CALLS: &[Step] = &[
     Step::Define("F(A)L", "", Ok(())),
     Step::Set(Name::Var(SymId(10)), Row::Str("before")),
@@ -347,11 +307,6 @@ const TWO_HUNDRED_CALLS: &[Step] = &[
     Step::Get(Name::Var(SymId(10)), Row::Str("before")),
 ];
 
-#[test]
-fn opens_at_most_200_calls(rt: HostRuntime) -> Result<(), Fail> {
-    check(&rt, rt.alloc(), TWO_HUNDRED_CALLS)
-}
-
 const NO_CALL: &[Step] = &[
     // no call is open
     Step::Leave(Row::Str("")),
@@ -364,7 +319,21 @@ const NO_CALL: &[Step] = &[
     Step::Get(Name::Var(SymId(7)), Row::Int(1)),
 ];
 
+/// Calls of a new store each.
+const STORES: [(&str, &[Step]); 10] = [
+    ("defines functions", DEFINITIONS),
+    ("judges names", NAMES_TO_JUDGE),
+    ("has at most 100 names", HUNDRED_NAMES),
+    ("defines anew", NEW_DEFINITIONS),
+    ("saves and restores", SAVED_VALUES),
+    ("gives arguments", ARGUMENTS),
+    ("names may stand twice", NAMES_TWICE),
+    ("calls nest", NESTED_CALLS),
+    ("opens at most 200 calls", TWO_HUNDRED_CALLS),
+    ("nothing is called", NO_CALL),
+];
+
 #[test]
-fn nothing_is_called(rt: HostRuntime) -> Result<(), Fail> {
-    check(&rt, rt.alloc(), NO_CALL)
+fn answers(rt: HostRuntime) -> Result<(), Fail> {
+    check(&rt, rt.alloc(), &STORES)
 }

@@ -15,11 +15,6 @@ const FIRST_SYMBOLS: &[Step] = &[
     Step::SymbolText(9, ""),
 ];
 
-#[test]
-fn begins_with_patterns(rt: HostRuntime) -> Result<(), Fail> {
-    check(&rt, rt.alloc(), FIRST_SYMBOLS)
-}
-
 const NUMBERED: &[Step] = &[
     Step::Symbol("", Err(6)),
     Step::Symbol("X", Ok(9)),
@@ -29,11 +24,6 @@ const NUMBERED: &[Step] = &[
     Step::Symbol("A B", Ok(11)),
     Step::SymbolText(11, "A B"),
 ];
-
-#[test]
-fn numbers_symbols(rt: HostRuntime) -> Result<(), Fail> {
-    check(&rt, rt.alloc(), NUMBERED)
-}
 
 // the last 28 bits of their hashes are equal
 const NEAR_NAMES: &[Step] = &[
@@ -49,11 +39,6 @@ const NEAR_NAMES: &[Step] = &[
     Step::Get(Name::Var(SymId(10)), Row::Int(2)),
     Step::Get(Name::Var(SymId(11)), Row::Str("")),
 ];
-
-#[test]
-fn names_with_near_hashes_are_told_apart(rt: HostRuntime) -> Result<(), Fail> {
-    check(&rt, rt.alloc(), NEAR_NAMES)
-}
 
 // two and two of them have the same hash, in all of its 64 bits
 const EQUAL_NAMES: &[Step] = &[
@@ -80,11 +65,6 @@ const EQUAL_NAMES: &[Step] = &[
     Step::Get(Name::Var(SymId(13)), Row::Int(5)),
 ];
 
-#[test]
-fn names_with_equal_hashes_are_told_apart(rt: HostRuntime) -> Result<(), Fail> {
-    check(&rt, rt.alloc(), EQUAL_NAMES)
-}
-
 const X: Name = Name::Var(SymId(9));
 
 const Y: Name = Name::Var(SymId(10));
@@ -104,11 +84,6 @@ const VALUES: &[Step] = &[
     Step::Get(Name::Elem(ObjId(0), 0), Row::Str("")),
     Step::Get(Name::Entry(ObjId(0), 0), Row::Str("")),
 ];
-
-#[test]
-fn keeps_values(rt: HostRuntime) -> Result<(), Fail> {
-    check(&rt, rt.alloc(), VALUES)
-}
 
 const KEYED: &[Step] = &[
     Step::Symbol("X", Ok(9)),
@@ -132,7 +107,17 @@ const KEYED: &[Step] = &[
     Step::ByKey(7, "INPUT", None),
 ];
 
+/// Calls of a new store each.
+const STORES: [(&str, &[Step]); 6] = [
+    ("begins with patterns", FIRST_SYMBOLS),
+    ("numbers symbols", NUMBERED),
+    ("names with near hashes are told apart", NEAR_NAMES),
+    ("names with equal hashes are told apart", EQUAL_NAMES),
+    ("keeps values", VALUES),
+    ("finds values by keys", KEYED),
+];
+
 #[test]
-fn finds_values_by_keys(rt: HostRuntime) -> Result<(), Fail> {
-    check(&rt, rt.alloc(), KEYED)
+fn answers(rt: HostRuntime) -> Result<(), Fail> {
+    check(&rt, rt.alloc(), &STORES)
 }

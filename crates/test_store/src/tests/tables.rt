@@ -22,11 +22,6 @@ const ORDERED_ENTRIES: &[Step] = &[
     Step::Get(Name::Elem(ObjId(1), 3), Row::Int(2)),
 ];
 
-#[test]
-fn entries_keep_their_order(rt: HostRuntime) -> Result<(), Fail> {
-    check(&rt, rt.alloc(), ORDERED_ENTRIES)
-}
-
 const KEYS_OF_EACH_TYPE: &[Step] = &[
     Step::NewTable(Ok(0)),
     Step::Entry(0, Row::Int(1), Ok(0)),
@@ -45,11 +40,6 @@ const KEYS_OF_EACH_TYPE: &[Step] = &[
     Step::Entry(0, Row::Expression(0), Err(1)),
 ];
 
-#[test]
-fn types_tell_keys_apart(rt: HostRuntime) -> Result<(), Fail> {
-    check(&rt, rt.alloc(), KEYS_OF_EACH_TYPE)
-}
-
 const NULL_ENTRIES: &[Step] = &[
     Step::NewTable(Ok(0)),
     Step::TableToArray(0, Ok(None)),
@@ -63,11 +53,6 @@ const NULL_ENTRIES: &[Step] = &[
     Step::Get(Name::Elem(ObjId(1), 1), Row::Int(0)),
 ];
 
-#[test]
-fn null_entries_are_left_out(rt: HostRuntime) -> Result<(), Fail> {
-    check(&rt, rt.alloc(), NULL_ENTRIES)
-}
-
 const NO_TABLES: &[Step] = &[
     Step::NewArray("1", Row::Int(0), Ok(0)),
     Step::Find(0, Row::Int(1), Err(1)),
@@ -78,11 +63,6 @@ const NO_TABLES: &[Step] = &[
     Step::Element(1, &[1], Err(1)),
     Step::Prototype(1, Err(1)),
 ];
-
-#[test]
-fn other_objects_are_no_tables(rt: HostRuntime) -> Result<(), Fail> {
-    check(&rt, rt.alloc(), NO_TABLES)
-}
 
 // the last 28 bits of the hashes of these texts are equal, and the last 24 bits of those of the numbers
 const NEAR_KEYS: &[Step] = &[
@@ -109,11 +89,6 @@ const NEAR_KEYS: &[Step] = &[
     Step::Get(Name::Entry(ObjId(0), 3), Row::Int(13)),
     Step::Get(Name::Entry(ObjId(0), 4), Row::Str("")),
 ];
-
-#[test]
-fn keys_with_near_hashes_are_told_apart(rt: HostRuntime) -> Result<(), Fail> {
-    check(&rt, rt.alloc(), NEAR_KEYS)
-}
 
 // two and two of these texts have the same hash, in all of its 64 bits
 const EQUAL_HASHES: &[Step] = &[
@@ -145,11 +120,6 @@ const EQUAL_HASHES: &[Step] = &[
     Step::Get(Name::Entry(ObjId(0), 5), Row::Int(15)),
 ];
 
-#[test]
-fn texts_with_equal_hashes_are_told_apart(rt: HostRuntime) -> Result<(), Fail> {
-    check(&rt, rt.alloc(), EQUAL_HASHES)
-}
-
 // two and two of these numbers have the same hash, in all of its 64 bits
 const EQUAL_NUMBERS: &[Step] = &[
     Step::NewTable(Ok(0)),
@@ -175,7 +145,18 @@ const EQUAL_NUMBERS: &[Step] = &[
     Step::Get(Name::Entry(ObjId(0), 3), Row::Str("three")),
 ];
 
+/// Calls of a new store each.
+const STORES: [(&str, &[Step]); 7] = [
+    ("entries keep their order", ORDERED_ENTRIES),
+    ("types tell keys apart", KEYS_OF_EACH_TYPE),
+    ("null entries are left out", NULL_ENTRIES),
+    ("other objects are no tables", NO_TABLES),
+    ("keys with near hashes are told apart", NEAR_KEYS),
+    ("texts with equal hashes are told apart", EQUAL_HASHES),
+    ("numbers with equal hashes are told apart", EQUAL_NUMBERS),
+];
+
 #[test]
-fn numbers_with_equal_hashes_are_told_apart(rt: HostRuntime) -> Result<(), Fail> {
-    check(&rt, rt.alloc(), EQUAL_NUMBERS)
+fn answers(rt: HostRuntime) -> Result<(), Fail> {
+    check(&rt, rt.alloc(), &STORES)
 }

@@ -33,11 +33,6 @@ const TYPES: &[Step] = &[
     Step::SymbolText(13, ""),
 ];
 
-#[test]
-fn makes_types(rt: HostRuntime) -> Result<(), Fail> {
-    check(&rt, rt.alloc(), TYPES)
-}
-
 const PROTOTYPES: &[Step] = &[
     Step::DefineData("", Err(12)),
     Step::DefineData("N", Err(12)),
@@ -77,11 +72,6 @@ const PROTOTYPES: &[Step] = &[
     Step::SymbolText(12, ""),
 ];
 
-#[test]
-fn judges_prototypes(rt: HostRuntime) -> Result<(), Fail> {
-    check(&rt, rt.alloc(), PROTOTYPES)
-}
-
 const NAMES: &[Step] = &[
     Step::DefineFields(100, Err(12)),
     Step::SymbolText(9, ""),
@@ -97,11 +87,6 @@ const NAMES: &[Step] = &[
     Step::Set(Name::Field(ObjId(0), 99), Row::Int(8)),
     Step::Get(Name::Field(ObjId(0), 99), Row::Str("")),
 ];
-
-#[test]
-fn counts_names(rt: HostRuntime) -> Result<(), Fail> {
-    check(&rt, rt.alloc(), NAMES)
-}
 
 const OBJECTS: &[Step] = &[
     Step::DefineData("NODE(VAL,NEXT)", Ok(())),
@@ -144,11 +129,6 @@ const OBJECTS: &[Step] = &[
     Step::Get(Name::Elem(ObjId(4), 1), Row::Data(2)),
 ];
 
-#[test]
-fn makes_objects(rt: HostRuntime) -> Result<(), Fail> {
-    check(&rt, rt.alloc(), OBJECTS)
-}
-
 const TYPES_AGAIN: &[Step] = &[
     Step::DefineData("N(A,B)", Ok(())),
     Step::NewData(0, &[Row::Int(1), Row::Int(2)], Ok(0)),
@@ -175,11 +155,6 @@ const TYPES_AGAIN: &[Step] = &[
     Step::TypeName(3, "M"),
 ];
 
-#[test]
-fn makes_types_again(rt: HostRuntime) -> Result<(), Fail> {
-    check(&rt, rt.alloc(), TYPES_AGAIN)
-}
-
 const LAST_MADE: &[Step] = &[
     Step::Define("F(A)", "", Ok(())),
     Step::DefineData("F(A)", Ok(())),
@@ -202,11 +177,6 @@ const LAST_MADE: &[Step] = &[
     Step::IsField(10, true),
     Step::Constructor(11, Some(1)),
 ];
-
-#[test]
-fn names_are_what_was_made_last(rt: HostRuntime) -> Result<(), Fail> {
-    check(&rt, rt.alloc(), LAST_MADE)
-}
 
 const KEYS: &[Step] = &[
     Step::DefineData("N(A)", Ok(())),
@@ -232,7 +202,18 @@ const KEYS: &[Step] = &[
     Step::Find(0, Row::Name(Name::Field(ObjId(1), 0)), Ok(Some(2))),
 ];
 
+/// Calls of a new store each.
+const STORES: [(&str, &[Step]); 7] = [
+    ("makes types", TYPES),
+    ("judges prototypes", PROTOTYPES),
+    ("counts names", NAMES),
+    ("makes objects", OBJECTS),
+    ("makes types again", TYPES_AGAIN),
+    ("names are what was made last", LAST_MADE),
+    ("objects are keys", KEYS),
+];
+
 #[test]
-fn objects_are_keys(rt: HostRuntime) -> Result<(), Fail> {
-    check(&rt, rt.alloc(), KEYS)
+fn answers(rt: HostRuntime) -> Result<(), Fail> {
+    check(&rt, rt.alloc(), &STORES)
 }

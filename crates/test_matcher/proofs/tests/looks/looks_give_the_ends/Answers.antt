@@ -1,4 +1,4 @@
 use Rattle.test_matcher.proofs.tests.looks.looks_give_the_ends.Goals as goal
 
-pub check_ends-requires-clause-looks : goal.check_ends-requires-clause-looks
-check_ends-requires-clause-looks g c = c.new-looks.ensures _ _
+pub check_looks-requires-clause-looks : goal.check_looks-requires-clause-looks
+check_looks-requires-clause-looks g c = c.new-looks.ensures _ _

@@ -1,5 +1,5 @@
 use Rattle.std.proofs.Common.{◌<◌, length}
-use Rattle.test_matcher.proofs.tests.refusals.each_growth_of_cuts_is_refused_once.Given as goal
+use Rattle.test_matcher.proofs.tests.refusals.check_growths_of_cuts.Given as goal
 
 abbrev pub invariant-loop-other : goal.invariant-loop-other
 invariant-loop-other g l = (l.outer.0 < length l.table) × (l.rest.0 < length l.table)

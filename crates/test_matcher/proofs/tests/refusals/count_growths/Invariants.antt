@@ -1,5 +1,5 @@
 use Rattle.std.proofs.Common.{◌<◌, length}
-use Rattle.test_matcher.proofs.tests.refusals.each_growth_is_refused_once.Given as goal
+use Rattle.test_matcher.proofs.tests.refusals.count_growths.Given as goal
 
 abbrev pub invariant-growths : goal.invariant-growths
 invariant-growths g l = l.choice.0 < length l.table

@@ -1,8 +1,8 @@
 use Rattle.std.proofs.Common.{◌<◌, length}
-use Rattle.test_matcher.proofs.tests.matches.a_long_chain.Given as goal
+use Rattle.test_matcher.proofs.tests.long_patterns.add_chain.Given as goal
 
 abbrev pub invariant-loop-part : goal.invariant-loop-part
-invariant-loop-part g l = record {
+invariant-loop-part l = record {
   null : l.null.0 < length l.table;
   chain : l.chain.0 < length l.table;
 }
