@@ -37,14 +37,15 @@ alternatives() {
     printf '(%s)' "$choice"
 }
 
-# time_sets COUNT PRIMITIVE BYTES: so many alternatives of the primitive, each with another set, of these and two bytes more
+# time_sets COUNT PRIMITIVE BYTES: so many alternatives of the primitive, each with another set, of these and four bytes more
 time_sets() {
-    local i first=BCDEFGHIJKLMNOPQ second=abcdefghijklmnop
-    printf ' S = %s\n P = FAIL\n' "$same" >"$work/program"
-    for ((i = 0; i < $1; i++)); do
-        printf " P = %s('%s') '!' | P\n" "$2" "$3${first:i/16:1}${second:i%16:1}" >>"$work/program"
-    done
-    printf ' S P :S(YES)F(NO)\nYES OUTPUT = "found" :(END)\nNO OUTPUT = "none"\nEND\n' >>"$work/program"
+    awk -v count="$1" -v primitive="$2" -v bytes="$3" -v subject="$same" 'BEGIN {
+        printf " S = %s\n P = FAIL\n", subject
+        for (i = 0; i < count; i++)
+            printf " P = %s(\"%s%s%s%s%s\") \"!\" | P\n", primitive, bytes, substr("BCDEFGHIJKLMNOPQ", int(i / 4096) % 16 + 1, 1),
+                substr("abcdefghijklmnop", int(i / 256) % 16 + 1, 1), substr("RSTUVWXYZqrstuvw", int(i / 16) % 16 + 1, 1), substr("0123456789+-*/=_", i % 16 + 1, 1)
+        printf " S P :S(YES)F(NO)\nYES OUTPUT = \"found\" :(END)\nNO OUTPUT = \"none\"\nEND\n"
+    }' >"$work/program"
     run_row "$same" "$1 alternatives of $2, each with another set"
 }
 
@@ -86,7 +87,7 @@ for count in 4 8 9 16; do
     time_row "$same" "$(alternatives $count "SPAN('A')")"
     time_row "$same" "$(alternatives $count "BREAK(',')")"
 done
-for count in 33 64 200; do
+for count in 33 64 200 2000 16000 50000; do
     time_sets $count SPAN A
     time_sets $count BREAK ""
     time_sets $count BREAKX ""

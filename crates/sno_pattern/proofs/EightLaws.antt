@@ -7,7 +7,7 @@ use Rattle.std.proofs.lemmas.List.{get_or-drop, get_or-set_other, length-drop, t
 use Rattle.std.proofs.lemmas.List.Folds.{list_any-append, list_any_at}
 use Rattle.sno_pattern.specs.Ends.{is_in}
 use Rattle.sno_pattern.specs.Sets.{set_of}
-use Rattle.sno_pattern.specs.inner.Masks.{members}
+use Rattle.sno_pattern.specs.Masks.{members}
 use Rattle.sno_pattern.proofs.SetLaws.{is_in-more, is_in-set_of, past_set, or-right, or-none}
 use Rattle.sno_pattern.proofs.PlaceLaws.{below_or_not}
 

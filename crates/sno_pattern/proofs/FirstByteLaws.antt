@@ -12,7 +12,7 @@ use Rattle.sno_pattern.specs.Places.{IsAmong, BeginsWith, stands_at, has_end}
 use Rattle.sno_pattern.specs.Shape.{HasShape, IsPrimitive, end_of}
 use Rattle.sno_pattern.specs.Table.{tree}
 use Rattle.sno_pattern.specs.inner.Kinds.{node_of, nodes_of, IsBegun, IsTable}
-use Rattle.sno_pattern.specs.inner.Masks.{members}
+use Rattle.sno_pattern.specs.Masks.{members}
 use Rattle.sno_pattern.specs.inner.Places.{leaf_has_end, node_has_end, byte_passes}
 use Rattle.sno_pattern.specs.inner.Shape.{shape_of, end_of_node}
 use Rattle.sno_pattern.specs.declared.first_bytes.FirstBytes.{FirstBytes}

@@ -105,7 +105,7 @@ break_none set s c d at low =
     ap (λ bytes. slice_get (first_in set d bytes) 0) (sym (drop_to s c d low)) ∙
     ap (λ m. slice_get (first_in set m (drop (d - c) (drop c s))) 0) (sym n) ∙ none_behind set c (drop c s) (d - c) at
 
-stop_first : (set s : List ℕ) (c : ℕ) → slice_get (ends (Among BreakX set) s c) 0 ≡ slice_get (ends (Among Break set) s c) 0
+pub stop_first : (set s : List ℕ) (c : ℕ) → slice_get (ends (Among BreakX set) s c) 0 ≡ slice_get (ends (Among Break set) s c) 0
 stop_first set s c = all_in-first set c (drop c s)
 
 pub stop_run : (set s : List ℕ) (c e d : ℕ) → slice_get (ends (Among BreakX set) s c) 0 ≡ Some e → c ≤ d → d ≤ e
@@ -131,19 +131,21 @@ true_grown nodes more s found are = record {
   runs = grown_runs nodes more s found.turn found.runs are.runs;
   more = grown_runs nodes more s found.turn found.more are.more;
   balance = are.balance;
+  present = are.present;
 }
 
 -- where nothing is told of the subject, all that is remembered is true
 earlier_true : (nodes : List Node) (s : List ℕ) (turn : ℕ) (runs : List Run) → AreEarlier turn runs → AreTrueRuns nodes s turn runs
 earlier_true nodes s turn runs earlier = record { each = λ place other h told. absurd (omega (arith, told, earlier.each place other h)) }
 
-pub empty_true : (runs more : List Run) (turn : ℕ) (first_ends : List ℕ) → AreBefore turn runs → AreEarlier turn more → first_ends ≡ [] →
-    (nodes : List Node) (s : List ℕ) → AreTrue nodes s (found_of runs more turn first_ends)
-empty_true runs more turn first_ends before earlier none nodes s = record {
+pub empty_true : (runs more : List Run) (turn : ℕ) (first_ends : List ℕ) (present : List (List (List ℕ))) → AreBefore turn runs → AreEarlier turn more
+    → first_ends ≡ [] → present ≡ [] → (nodes : List Node) (s : List ℕ) → AreTrue nodes s (found_of runs more turn first_ends present)
+empty_true runs more turn first_ends present before earlier none absent nodes s = record {
   places = before.places;
   runs = earlier_true nodes s turn runs before.earlier;
   more = earlier_true nodes s turn more earlier;
   balance = record { made = λ some. absurd (omega (arith, some, ap length none)) };
+  present = record { each = λ level h. absurd (omega (arith, h, ap length absent)) };
 }
 
 pub still_earlier : (turn : ℕ) (runs : List Run) → AreEarlier turn runs → AreEarlier (turn + 1) runs
@@ -205,20 +207,23 @@ runs_put nodes s runs turn place run are is = record {
       (same_or_not place at);
 }
 
-pub true_put : (nodes : List Node) (s first_ends : List ℕ) (runs more : List Run) (turn place : ℕ) (run : Run) →
-    AreTrue nodes s (found_of runs more turn first_ends) → IsTrueRun nodes s run →
-    AreTrue nodes s (found_of (slice_set runs place run) more turn first_ends)
-true_put nodes s first_ends runs more turn place run are is = record {
+pub true_put : (nodes : List Node) (s first_ends : List ℕ) (present : List (List (List ℕ))) (runs more : List Run) (turn place : ℕ) (run : Run) →
+    AreTrue nodes s (found_of runs more turn first_ends present) → IsTrueRun nodes s run →
+    AreTrue nodes s (found_of (slice_set runs place run) more turn first_ends present)
+true_put nodes s first_ends present runs more turn place run are is = record {
   places = length-set runs place run ∙ are.places;
   runs = runs_put nodes s runs turn place run are.runs is;
   more = are.more;
   balance = are.balance;
+  present = are.present;
 }
 
 -- other runs that are true in the place of more
-pub true_more : (nodes : List Node) (s first_ends : List ℕ) (runs more others : List Run) (turn : ℕ) → AreTrue nodes s (found_of runs more turn first_ends)
-    → AreTrueRuns nodes s turn others → AreTrue nodes s (found_of runs others turn first_ends)
-true_more nodes s first_ends runs more others turn are is = record { places = are.places; runs = are.runs; more = is; balance = are.balance }
+pub true_more : (nodes : List Node) (s first_ends : List ℕ) (present : List (List (List ℕ))) (runs more others : List Run) (turn : ℕ) →
+    AreTrue nodes s (found_of runs more turn first_ends present) → AreTrueRuns nodes s turn others
+    → AreTrue nodes s (found_of runs others turn first_ends present)
+true_more nodes s first_ends present runs more others turn are is =
+    record { places = are.places; runs = are.runs; more = is; balance = are.balance; present = are.present }
 
 -- a run is as true of whatever subject it is told, and by whatever key it is looked up
 pub told_now : (nodes : List Node) (s : List ℕ) (run : Run) (turn key : ℕ) → IsTrueRun nodes s run
@@ -231,11 +236,11 @@ pub runs_tell : (nodes : List Node) (s : List ℕ) (runs : List Run) (turn place
     (get_or runs place other).end ≡ end_of (tree nodes (get_or runs place other).id.0) s at 0
 runs_tell nodes s runs turn place other at are h told low high = sym ((are.each place other h told).ends at low high)
 
-pub run_tells : (nodes : List Node) (s first_ends : List ℕ) (runs more : List Run) (turn : ℕ) (found : Found) (place : ℕ) (other : Run) (at : ℕ)
-    → found_of runs more turn first_ends ≡ found → AreTrue nodes s found → place < 32 → (get_or runs place other).turn ≡ turn →
+pub run_tells : (nodes : List Node) (s first_ends : List ℕ) (present : List (List (List ℕ))) (runs more : List Run) (turn : ℕ) (found : Found)
+    (place : ℕ) (other : Run) (at : ℕ) → found_of runs more turn first_ends present ≡ found → AreTrue nodes s found → place < 32 → (get_or runs place other).turn ≡ turn →
     (get_or runs place other).from ≤ at → at ≤ (get_or runs place other).until → (get_or runs place other).end
     ≡ end_of (tree nodes (get_or runs place other).id.0) s at 0
-run_tells nodes s first_ends runs more turn found place other at is are h told low high =
+run_tells nodes s first_ends present runs more turn found place other at is are h told low high =
     let known = subst (AreTrue nodes s) (sym is) are in
     runs_tell nodes s runs turn place other at known.runs (omega (arith, known.places, h)) told low high
 

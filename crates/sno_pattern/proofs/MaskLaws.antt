@@ -6,11 +6,11 @@ use Rattle.std.proofs.lemmas.Bool.{ne_eqb}
 use Rattle.std.proofs.lemmas.Bool.Decides.{eqb_tells}
 use Rattle.std.proofs.lemmas.Nat.Bits.{bit_at_or, bit_at-lt}
 use Rattle.sno_pattern.specs.Ends.{is_in}
-use Rattle.sno_pattern.specs.inner.Masks.{has_bit, members}
+use Rattle.sno_pattern.specs.Masks.{has_bit, members}
 use Rattle.sno_pattern.proofs.PlaceLaws.{below_or_not}
 use Rattle.sno_pattern.proofs.SetLaws.{behind-count, empty-has_bit, has_bit-same, has_bit-other, is_in-members, or-none, or-right, with_bit}
 
-past_members : (words : List ℕ) (b : ℕ) → 256 ≤ b → is_in (members words) b ≡ false
+pub past_members : (words : List ℕ) (b : ℕ) → 256 ≤ b → is_in (members words) b ≡ false
 unfolding members
 past_members words b h = behind-count (has_bit words) 0 256 b (omega arith)
 

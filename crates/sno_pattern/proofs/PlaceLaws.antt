@@ -51,7 +51,7 @@ none_here p i x xs true is e behind k h = absurd (cc)
 none_here p i x xs false is e behind zero h = is
 none_here p i x xs false is e behind (suc k) h = behind e k (omega (arith, h))
 
-none_from : (p : ℕ → Bool) (i : ℕ) (xs : List ℕ) → position_from p i xs ≡ None → (k : ℕ) → k < length xs → p (get_or xs k 0) ≡ false
+pub none_from : (p : ℕ → Bool) (i : ℕ) (xs : List ℕ) → position_from p i xs ≡ None → (k : ℕ) → k < length xs → p (get_or xs k 0) ≡ false
 none_from p i [] e k h = absurd (omega arith)
 none_from p i (x ∷ xs) e k h = none_here p i x xs (p x) refl e (none_from p (i + 1) xs) k h
 

@@ -1,5 +1,5 @@
 -- A node that a builder would make stands for the pattern.
-use Rattle.std.proofs.Common.{◌≡◌, ℕ, ◌<◌, List, [], length, get_or, sym, ◌∙◌, ap, subst, arith, Some}
+use Rattle.std.proofs.Common.{◌≡◌, ◌<◌, List, [], length, get_or, sym, ◌∙◌, ap, arith}
 use Rattle.sno_value.specs.declared.ids.PatId.{PatId}
 use Rattle.sno_pattern.specs.Pattern.{Primitive, Leaf}
 use Rattle.sno_pattern.specs.Table.{Node, LeafNode, StandsFor, tree, tree_over, trees_onto}

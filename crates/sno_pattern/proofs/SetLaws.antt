@@ -8,7 +8,7 @@ use Rattle.std.proofs.lemmas.List.Folds.{list_any-append}
 use Rattle.std.proofs.lemmas.Nat.Bits.{bit_at-zero, bit_at_set_same, bit_at_set_other}
 use Rattle.sno_pattern.specs.Ends.{is_in, count_from}
 use Rattle.sno_pattern.specs.Sets.{set_of}
-use Rattle.sno_pattern.specs.inner.Masks.{has_bit, members}
+use Rattle.sno_pattern.specs.Masks.{has_bit, members}
 
 -- two tests that agree on n numbers keep the same of them
 filter-agree : (p q : ℕ → Bool) (c n : ℕ) → ((b : ℕ) → b < c + n → p b ≡ q b) → filter p (count_from c n) ≡ filter q (count_from c n)

@@ -1,7 +1,7 @@
 pub mod Kinds
 pub mod Lanes
 pub mod Looks
-pub mod Masks
 pub mod Places
+pub mod Present
 pub mod Shape
 pub mod Table

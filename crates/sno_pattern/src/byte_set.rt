@@ -3,7 +3,8 @@ ghost use Rattle.std.specs.Prelude.{◌≡◌, ◌==◌, ℕ, Bool, false, not, 
 ghost use Rattle.sno_pattern.specs.Ends.{is_in};
 ghost use Rattle.sno_pattern.specs.Sets.{set_of};
 ghost use Rattle.sno_pattern.specs.inner.Lanes.{passes};
-ghost use Rattle.sno_pattern.specs.inner.Masks.{members};
+ghost use Rattle.sno_pattern.specs.Masks.{members};
+ghost use Rattle.sno_pattern.specs.inner.Present.{NonePasses};
 
 use crate::lanes;
 use std::marker::Model;
@@ -28,7 +29,7 @@ pub struct ByteSet {
 impl Model for ByteSet {
     ghost use Rattle.std.specs.Prelude.{List, ℕ, IfSome, ◌≡◌};
     ghost use Rattle.sno_pattern.specs.Ends.{is_in};
-    ghost use Rattle.sno_pattern.specs.inner.Masks.{members};
+    ghost use Rattle.sno_pattern.specs.Masks.{members};
 
     ghost Value = { List ℕ };
 
@@ -116,6 +117,24 @@ impl ByteSet {
         self.words[(byte / 64) as usize] >> (byte % 64) & 1 == 1
     }
 
+    /// Whether no byte of a mask is in the set, or each is where `inside` is false.
+    #[inline(always)]
+    pub(crate) fn passes_over(&self, mask: &[u64; 4], inside: bool) -> bool
+        ensures { IsTrue result → NonePasses inside self.now mask.now }
+    {
+        let common = [
+            mask[0] & self.words[0],
+            mask[1] & self.words[1],
+            mask[2] & self.words[2],
+            mask[3] & self.words[3],
+        ];
+        if inside {
+            common == [0; 4]
+        } else {
+            common == *mask
+        }
+    }
+
     /// The first place whose byte is in the set.
     pub(crate) fn first_in(&self, bytes: &[u8]) -> Option<usize>
         ensures { result ≡ position (is_in self.now) bytes.now }
@@ -135,7 +154,7 @@ impl ByteSet {
     /// The first place whose byte is in the set, or is not where `inside` is false. What is near is found without
     /// lanes, which take longer to make ready than a short run to look through.
     #[inline(always)]
-    fn first_that_passes(&self, bytes: &[u8], inside: bool) -> Option<usize>
+    pub(crate) fn first_that_passes(&self, bytes: &[u8], inside: bool) -> Option<usize>
         ensures { result ≡ position (passes inside self.now) bytes.now }
     {
         let near = bytes.len().min(NEAR);

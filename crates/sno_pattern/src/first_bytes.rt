@@ -2,7 +2,7 @@
 ghost use Rattle.std.specs.Prelude.{◌≡◌, ◌<◌, ◌≤◌, ℕ, List, false, length, IsTrue, IfSome};
 ghost use Rattle.sno_pattern.specs.Pattern.{Alt};
 ghost use Rattle.sno_pattern.specs.inner.Kinds.{node_of, nodes_of, IsTable};
-ghost use Rattle.sno_pattern.specs.inner.Masks.{members};
+ghost use Rattle.sno_pattern.specs.Masks.{members};
 ghost use Rattle.sno_pattern.specs.inner.Places.{node_has_end};
 ghost use Rattle.sno_pattern.specs.Places.{IsAmong, BeginsWith, stands_at};
 ghost use Rattle.sno_pattern.specs.Table.{tree};

@@ -7,6 +7,7 @@ ghost use Rattle.sno_pattern.specs.inner.Looks.{AreBefore, AreEarlier};
 ghost use Rattle.sno_pattern.specs.Looks.{IsTrueRun, AreTrue};
 ghost use Rattle.sno_pattern.specs.Pattern.{Bal};
 ghost use Rattle.sno_pattern.specs.Places.{IsFirstPlace};
+ghost use Rattle.sno_pattern.specs.Present.{ArePresent};
 ghost use Rattle.sno_pattern.specs.inner.Places.{leaf_has_end};
 ghost use Rattle.sno_pattern.specs.Shape.{end_of};
 ghost use Rattle.sno_pattern.specs.inner.Shape.{end_of_node};
@@ -15,6 +16,7 @@ ghost use Rattle.sno_pattern.specs.Table.{Node, tree};
 use crate::balance_table::Balance;
 use crate::kind::Kind;
 use crate::more_runs::MoreRuns;
+use crate::present::Present;
 use sno_value::{PatId, Prim};
 use std::alloc::Global;
 use std::marker::Model;
@@ -52,7 +54,7 @@ pub(crate) const NO_RUN: Run = Run {
 };
 
 /// What the looks through one subject have found out: the last runs that SPAN, BREAK and BREAKX looked through, and
-/// BAL's first ends.
+/// BAL's first ends, and which bytes are present in its parts.
 #[derive(Drop)]
 pub struct Looks {
     runs: [Run; RUNS],
@@ -61,6 +63,7 @@ pub struct Looks {
     /// The number of the subject: what was told of others counts no more.
     turn: u32,
     balance: Balance,
+    present: Present,
     /// Whether anything may have been kept since they were cleared.
     used: bool,
 }
@@ -73,10 +76,10 @@ impl Model for Looks {
 
     ghost Value = { Found };
 
-    ghost view = { λ looks. found_of looks.runs looks.more looks.turn looks.balance };
+    ghost view = { λ looks. found_of looks.runs looks.more looks.turn looks.balance looks.present };
 
     ghost invariant = { λ looks. AreBefore (looks.turn + 1) looks.runs × (AreEarlier (looks.turn + 1) looks.more × (looks.used ≡ false
-        → (nodes : List Node) (s : List ℕ) → AreTrue nodes s (found_of looks.runs looks.more looks.turn looks.balance))) };
+        → (nodes : List Node) (s : List ℕ) → AreTrue nodes s (found_of looks.runs looks.more looks.turn looks.balance looks.present))) };
 }
 
 impl Looks {
@@ -89,6 +92,7 @@ impl Looks {
             more: MoreRuns::new(alloc),
             turn: 1,
             balance: Balance::new(alloc),
+            present: Present::new(alloc),
             used: false,
         }
     }
@@ -100,6 +104,7 @@ impl Looks {
         if self.used {
             self.turn = next_turn(&mut self.runs, &mut self.more, self.turn);
             self.balance.clear();
+            self.present.clear();
             self.used = false;
         }
     }
@@ -134,6 +139,30 @@ impl Looks {
         } else {
             self.more.remember(told);
         }
+    }
+
+    /// Counts the bytes that a look passed, so that looks at many sets come to share the masks of the subject.
+    pub(crate) fn count(&mut self, subject: &[u8], passed: usize)
+        requires present { ArePresent subject.now self.old.present }
+        ensures looks { (nodes : List Node) → AreTrue nodes subject.now self.old → AreTrue nodes subject.now self.new }
+    {
+        self.used = true;
+        self.present.count(subject, passed);
+    }
+
+    /// A cursor from which SPAN, BREAK or BREAKX has the same first end, near to that end where the masks are made.
+    #[inline(always)]
+    pub(crate) fn near_end(&self, kind: &Kind, subject: &[u8], at: usize) -> usize
+        requires at { at ≤ length subject.now }
+        requires present { ArePresent subject.now self.now.present }
+        ensures inside { result ≤ length subject.now }
+        ensures same { end_of_node (node_of kind.now) subject.now result 0 ≡ end_of_node (node_of kind.now) subject.now at 0 }
+    {
+        if !self.present.are_made() {
+            return at;
+        }
+        let cursor = cursor_by_masks(&self.present, kind, subject, at);
+        cursor
     }
 
     /// BAL's first end from a cursor.
@@ -229,6 +258,34 @@ pub(crate) fn is_near(kind: &Kind) -> bool {
         kind,
         Kind::Bal | Kind::Among(Prim::Span | Prim::Break | Prim::BreakX, _)
     )
+}
+
+/// A cursor from which SPAN, BREAK or BREAKX has the same first end, found by masks.
+#[inline(never)]
+fn cursor_by_masks(present: &Present, kind: &Kind, subject: &[u8], at: usize) -> usize
+    requires at { at ≤ length subject.now }
+    requires present { ArePresent subject.now present.now }
+    ensures inside { result ≤ length subject.now }
+    ensures same { end_of_node (node_of kind.now) subject.now result 0 ≡ end_of_node (node_of kind.now) subject.now at 0 }
+{
+    match kind {
+        Kind::Among(prim, set) => match prim {
+            Prim::Span => {
+                let behind = present.cursor_near(set, false, subject, at);
+                behind.saturating_sub(1).max(at)
+            }
+            Prim::Break => {
+                let end = present.cursor_near(set, true, subject, at);
+                end
+            }
+            Prim::BreakX => {
+                let end = present.cursor_near(set, true, subject, at);
+                end
+            }
+            _ => at,
+        },
+        _ => at,
+    }
 }
 
 /// The last cursor of the run that begins at one with this first end.

@@ -12,6 +12,7 @@ mod looks;
 mod matches;
 mod notation;
 mod patterns;
+mod present;
 mod reference;
 mod refusals;
 mod rows;

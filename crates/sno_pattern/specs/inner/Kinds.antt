@@ -4,7 +4,7 @@ use Rattle.sno_pattern.specs.Pattern.{Pattern, Text, Counted, Among, Arb, Bal, R
 use Rattle.sno_pattern.specs.Table.{Node, LeafNode, FenceNode, CutNode, AbortNode, SucceedNode, ArbnoNode, AltNode}
 use Rattle.sno_pattern.specs.Table.{CatNode, CondNode, ImmNode, PlaceNode, DeferNode, tree}
 use Rattle.sno_pattern.specs.Places.{BeginsWith}
-use Rattle.sno_pattern.specs.inner.Masks.{members}
+use Rattle.sno_pattern.specs.Masks.{members}
 use Rattle.sno_pattern.specs.inner.Table.{AllParts}
 use Rattle.sno_pattern.specs.declared.kind.Kind.{Kind}
 use Rattle.sno_pattern.specs.declared.kind.Kind.TheVariants as K

@@ -283,6 +283,22 @@ impl Patterns {
         is_same_search(kind, &self.entries[other.0 as usize].kind)
     }
 
+    /// The first end of a primitive, looked for from near it where the masks of the subject are made.
+    #[inline(always)]
+    fn end_from_near(&self, looks: &Looks, id: PatId, subject: &[u8], at: usize) -> Option<usize>
+        requires id { id.0 < length self.now }
+        requires primitive { IsPrimitive (tree self.now id.0) }
+        requires at { at ≤ length subject.now }
+        requires looks { AreTrue self.now subject.now looks.now }
+        ensures value { result ≡ end_of (tree self.now id.0) subject.now at 0 }
+        ensures ahead { IfSome result (λ e. at ≤ e) }
+        ensures inside { IfSome result (λ e. e ≤ length subject.now) }
+    {
+        let near = looks.near_end(&self.entries[id.0 as usize].kind, subject, at);
+        let end = self.end_at(id, subject, near, 0);
+        end
+    }
+
     /// The first end of a primitive. A run that is looked through is remembered under the key.
     fn look_by(
         &self,
@@ -313,9 +329,10 @@ impl Patterns {
         if let Some(end) = self.recall(looks, key, id, at) {
             return end;
         }
-        let end = self.end_at(id, subject, at, 0);
+        let end = self.end_from_near(looks, id, subject, at);
         let until = last_with_end(kind, subject, at, end);
         if at + WORTH_KEEPING <= until {
+            looks.count(subject, until - at);
             looks.remember(Run {
                 id,
                 from: at,

@@ -2,7 +2,7 @@ use Rattle.std.proofs.Common.{◌≡◌, ◌||◌, ℕ, sym, subst, arith, IfSom
 use Rattle.sno_pattern.specs.declared.kind.Kind.TheVariants as K
 use Rattle.sno_pattern.specs.Ends.{is_in}
 use Rattle.sno_pattern.specs.inner.Kinds.{nodes_of}
-use Rattle.sno_pattern.specs.inner.Masks.{members}
+use Rattle.sno_pattern.specs.Masks.{members}
 use Rattle.sno_pattern.specs.Places.{BeginsWith}
 use Rattle.sno_pattern.specs.Table.{tree}
 use Rattle.sno_pattern.proofs.FirstByteLaws as laws

@@ -1,6 +1,6 @@
 use Rattle.std.proofs.Common.{◌≡◌, ℕ, List, refl, ◌∙◌, ap}
 use Rattle.sno_pattern.specs.Sets.{set_of}
-use Rattle.sno_pattern.specs.inner.Masks.{members}
+use Rattle.sno_pattern.specs.Masks.{members}
 use Rattle.sno_pattern.proofs.EightLaws.{eight-members}
 use Rattle.std.proofs.lemmas.List.{length-set, take_all}
 use Rattle.sno_pattern.specs.Ends.{is_in}

@@ -1,6 +1,6 @@
 use Rattle.std.proofs.Common.{◌≡◌, ℕ, ◌<◌, length, take}
 use Rattle.sno_pattern.specs.Ends.{is_in}
-use Rattle.sno_pattern.specs.inner.Masks.{has_bit}
+use Rattle.sno_pattern.specs.Masks.{has_bit}
 use Rattle.sno_pattern.proofs.byte_set.ByteSet.of.Given as goal
 
 abbrev pub invariant-loop-byte : goal.invariant-loop-byte

@@ -8,13 +8,13 @@ use Rattle.sno_pattern.proofs.table.Patterns.look_by.Goals as goal
 
 pub last_with_end-until-requires : goal.last_with_end-until-requires
 last_with_end-until-requires c =
-    c.end_at-end-2.ensures.value ∙
+    c.end_from_near-end.ensures.value ∙
     sym (of_entry c.self.inside.entries.items c.args.self.now c.args.id.0 c.index.result.now c.args.subject.now c.args.at c.self.view_is c.self.invariant
     c.requires.id (sym c.index.ensures))
 
 pub returns-then-at-until-clause-looks : goal.returns-then-at-until-clause-looks
 returns-then-at-until-clause-looks c =
-    c.remember.ensures c.args.self.now c.args.subject.now c.requires.looks
+    c.remember.ensures c.args.self.now c.args.subject.now (c.count.ensures.looks c.args.self.now c.requires.looks)
     (run_of_node c.args.self.now (node_of c.index.result.now.kind) c.args.subject.now _ c.requires.id
     (λ d. of_entry c.self.inside.entries.items c.args.self.now c.args.id.0 c.index.result.now c.args.subject.now d c.self.view_is c.self.invariant
     c.requires.id (sym c.index.ensures))

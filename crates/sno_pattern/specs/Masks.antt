@@ -1,4 +1,4 @@
--- What a mask of 256 bits stands for. Private contracts alone cite it.
+-- What a mask of 256 bits stands for.
 use Rattle.std.specs.Prelude.{ℕ, ◌/◌, ◌%◌, ◌==◌, Bool, List, filter, slice_index}
 use Rattle.std.specs.Int.{bit_at}
 use Rattle.sno_pattern.specs.Ends.{count_from}
