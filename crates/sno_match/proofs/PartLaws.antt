@@ -1,7 +1,7 @@
 -- Steps that tell nothing, one after another.
 use Rattle.std.proofs.Common.{◌≡◌, ℕ, ◌+◌, ◌-◌, ◌≤◌, ◌<◌, List, [], ◌∷◌, length, None, refl, sym, ◌∙◌, ap, subst, arith}
 use Rattle.sno_value.specs.declared.ids.PatId.{PatId}
-use Rattle.sno_pattern.specs.Table.{Node}
+use Rattle.sno_pattern.specs.Table.{Node, tree}
 use Rattle.sno_match.specs.declared.event.Pending.{Pending}
 use Rattle.sno_match.specs.declared.goal.Goal.{Goal as Numbered}
 use Rattle.sno_match.specs.declared.goal.Goal.TheVariants as N
@@ -9,7 +9,7 @@ use Rattle.sno_match.specs.declared.goal.Mark.{Mark}
 use Rattle.sno_match.specs.declared.goal.Mark.TheVariants.{Enter, Next}
 use Rattle.sno_match.specs.declared.goal.Top.{Top}
 use Rattle.sno_match.specs.declared.goal.Top.TheVariants as T
-use Rattle.sno_match.specs.Point.{Point, replaced}
+use Rattle.sno_match.specs.Point.{Point, below, replaced}
 use Rattle.sno_match.specs.Top.{IsTop}
 use Rattle.sno_match.specs.inner.Plan.{point_at}
 use Rattle.sno_match.specs.Remaining.{goals_of, remaining, resume, IsStack, MarkFits}
@@ -17,8 +17,9 @@ use Rattle.sno_match.specs.inner.Remaining.{HasPoint}
 use Rattle.sno_match.specs.Scopes.{HasCuts}
 use Rattle.sno_match.specs.Silent.{LeadsOn}
 use Rattle.sno_match.specs.inner.Move.{Makes, EnteredGivesWay, Steps}
-use Rattle.sno_match.proofs.CutMoves.{cuts-later}
-use Rattle.sno_match.proofs.ReadingLaws.{emit-none}
+use Rattle.sno_match.proofs.CutMoves.{cuts-below, cuts-later}
+use Rattle.sno_match.specs.inner.Starts.{FailsAt}
+use Rattle.sno_match.proofs.ReadingLaws.{emit-none, resume-exhausted}
 use Rattle.sno_match.proofs.MoveLaws as laws
 
 -- a stack at whose top something is read has a point
@@ -114,6 +115,36 @@ sides_passed nodes s limit steps cost old new goal c mark top id known way room 
     subst (λ (ps : List Point). LeadsOn nodes s limit ps steps new (steps + cost)) (sym top.3)
     (subst (λ (ps : List Point). LeadsOn nodes s limit (point_at goal top.0 c top.1 mark ∷ top.2) steps ps (steps + cost)) (sym made)
     (passed_here nodes s limit steps cost goal top.0 c top.1 mark top.2 id known way room (subst (IsStack nodes s) top.3 st)
+    (subst (HasCuts nodes (limit - steps)) top.3 cuts)))
+
+-- a pattern that is entered is searched in vain, and its point is dropped
+vain_here : (nodes : List Node) (s : List ℕ) (limit steps cost : ℕ) (id : PatId) (goals : List Numbered) (c : ℕ) (pending : List Pending)
+    (rest : List Point) → FailsAt (tree nodes id.0) s cost c → steps + cost ≤ limit → IsStack nodes s (point_at (N.Match id) goals c pending Enter ∷ rest)
+    → HasCuts nodes (limit - steps) (point_at (N.Match id) goals c pending Enter ∷ rest)
+    → LeadsOn nodes s limit (point_at (N.Match id) goals c pending Enter ∷ rest) steps rest (steps + cost)
+vain_here nodes s limit steps cost id goals c pending rest vain room st cuts =
+    let old = point_at (N.Match id) goals c pending Enter ∷ rest in
+    record {
+      steps_in = room;
+      paid = omega arith;
+      grows = omega arith;
+      falls = omega (arith, room);
+      stack = laws.below-kept nodes s old st.fit st.marked;
+      cuts = cuts-later nodes (limit - (steps + cost)) (limit - steps) rest (omega arith) (cuts-below nodes (limit - steps) old cuts);
+      leads = λ start answers.
+          ap (resume nodes s start rest)
+          (vain.fails start (goals_of nodes goals) pending answers (limit - steps) (limit - (steps + cost)) (omega (arith, room)))
+          ∙ resume-exhausted nodes s start rest answers (limit - (steps + cost)) st.marked;
+    }
+
+pub vain_passed : (nodes : List Node) (s : List ℕ) (limit steps cost : ℕ) (old new : List Point) (id : PatId) (c : ℕ)
+    → IsTop old (T.Open (N.Match id) c Enter) → FailsAt (tree nodes id.0) s cost c → steps + cost ≤ limit → new ≡ below old → IsStack nodes s old
+    → HasCuts nodes (limit - steps) old → LeadsOn nodes s limit old steps new (steps + cost)
+vain_passed nodes s limit steps cost old new id c top vain room is st cuts =
+    let under : new ≡ top.2 = is ∙ ap below top.3 in
+    subst (λ (ps : List Point). LeadsOn nodes s limit ps steps new (steps + cost)) (sym top.3)
+    (subst (λ (ps : List Point). LeadsOn nodes s limit (point_at (N.Match id) top.0 c top.1 Enter ∷ top.2) steps ps (steps + cost)) (sym under)
+    (vain_here nodes s limit steps cost id top.0 c top.1 top.2 vain room (subst (IsStack nodes s) top.3 st)
     (subst (HasCuts nodes (limit - steps)) top.3 cuts)))
 
 -- steps that tell nothing are a move

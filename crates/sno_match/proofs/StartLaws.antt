@@ -140,7 +140,7 @@ no_end None h = refl
 no_end (Some e) h = absurd (cc)
 
 -- the pattern begins with a primitive that has no end
-head_fails : (p head : Pattern) (s : List ℕ) (above c : ℕ) → IsPrimitive head → FailsWith p head above → has_end head s c ≡ false → FailsAt p s (1 + above) c
+pub head_fails : (p head : Pattern) (s : List ℕ) (above c : ℕ) → IsPrimitive head → FailsWith p head above → has_end head s c ≡ false → FailsAt p s (1 + above) c
 head_fails p head s above c leaf with_head none =
     let end : end_of head s c 0 ≡ None = no_end (end_of head s c 0) none in
     let vain : FailsAt (Leaf leaf.0) s 1 c = leaf_fails s leaf.0 c (subst (λ q. end_of q s c 0 ≡ None) leaf.1 end) in

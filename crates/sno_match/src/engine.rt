@@ -3,6 +3,7 @@ ghost use Rattle.std.specs.Prelude.{◌≡◌, ◌<◌, ◌≤◌, ◌+◌, ◌+
 ghost use Rattle.std.specs.Prelude.{OnErr};
 ghost use Rattle.sno_match.specs.Matching.{SameMatch, IsTold, StaysAt, IsCounted, TellsWays, Begins, begins, told_of};
 ghost use Rattle.sno_match.specs.Matching.{in_trace, IsWithin};
+ghost use Rattle.sno_match.specs.declared.engine.State.TheVariants.{Going};
 ghost use Rattle.sno_match.specs.inner.State.{after};
 ghost use Rattle.sno_match.specs.inner.Subject.{searched};
 ghost use Rattle.sno_match.specs.inner.Running.{Advances, GoesOn, work};
@@ -12,10 +13,10 @@ mod parts;
 
 use crate::event::{Event, Pending};
 use crate::goal::{Goal, Top};
-use crate::moves::{make_move, put_answer};
+use crate::moves::{go_on, make_move, put_answer};
 use crate::points::Points;
 use crate::snapshot::Snapshot;
-use crate::starts::pass_failing_starts;
+use crate::starts::{NO_PATTERN, pass_failing_starts, vain_behind};
 use crate::subject::Subject;
 use sno_pattern::{Looks, Patterns};
 use sno_value::{PatId, Text};
@@ -52,6 +53,8 @@ pub struct Engine<P: Points> {
     start: usize,
     steps: u32,
     told: u64,
+    /// The pattern that was seen last to have no match at a first start, or none.
+    vain: PatId,
     /// The pending list of the last way.
     way: Vec<Pending>,
     answers: Vec<Option<PatId>>,
@@ -126,6 +129,7 @@ impl<P: Points> Engine<P> {
             start: 0,
             steps: 0,
             told: 0,
+            vain: NO_PATTERN,
             way: Vec::new(alloc),
             answers: Vec::new(alloc),
             state: State::Going,
@@ -255,11 +259,14 @@ impl<P: Points> Engine<P> {
         ensures goes { GoesOn self.old self.new }
         ensures work { work self.new ≤ work self.old }
     {
-        self.points.take_silent_steps(
+        go_on(
+            &mut self.points,
             &mut self.steps,
             &mut self.looks,
             patterns,
             self.subject.as_slice(),
+            &mut self.vain,
+            self.pattern,
             self.limit,
         );
     }
@@ -290,7 +297,7 @@ impl<P: Points> Engine<P> {
         )?;
         if let Some(event) = told {
             self.told += 1;
-            self.state = state_behind(event);
+            go_behind(&mut self.state, event);
         }
         Ok(told)
     }
@@ -306,17 +313,19 @@ impl<P: Points> Engine<P> {
         ensures err { OnErr result (self.new ≡ self.old) }
         ensures counts { IsCounted self.new }
     {
+        let subject = self.subject.as_slice();
         let passed = pass_failing_starts(
             patterns,
             &mut self.looks,
             self.pattern,
-            self.subject.as_slice(),
+            subject,
             self.anchored,
             self.start,
             self.limit - self.steps,
         );
+        let end = subject.len();
+        self.vain = vain_behind(self.vain, self.pattern, self.start, self.steps, passed);
         let steps = self.steps + passed.steps;
-        let end = self.subject.as_slice().len();
         if self.anchored || passed.start == end {
             self.start = passed.start;
             self.steps = steps;
@@ -369,13 +378,15 @@ impl<P: Points> Engine<P> {
     }
 }
 
-/// The state behind an event.
-fn state_behind(event: Event) -> State
-    ensures { result ≡ after event }
+/// The state of a match that was going is that behind an event.
+#[inline(always)]
+fn go_behind(state: &mut State, event: Event)
+    requires going { state.old ≡ Going }
+    ensures behind { state.new ≡ after event }
 {
     match event {
-        Event::Value { .. } => State::Waiting,
-        Event::Exhausted | Event::Aborted | Event::Limit => State::Ended(event),
-        _ => State::Going,
+        Event::Value { .. } => *state = State::Waiting,
+        Event::Exhausted | Event::Aborted | Event::Limit => *state = State::Ended(event),
+        _ => {}
     }
 }

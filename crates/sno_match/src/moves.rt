@@ -1,15 +1,17 @@
 //! One move of the search: what is due at the newest resumption point is done.
-ghost use Rattle.std.specs.Prelude.{◌≡◌, ℕ, List, ◌<◌, ◌≤◌, ◌+◌, ◌*◌, length, IfOk, IfSome, OnOk, OnErr};
+ghost use Rattle.std.specs.Prelude.{◌≡◌, ℕ, List, ◌<◌, ◌≤◌, ◌+◌, ◌-◌, ◌*◌, length, IfOk, IfSome, OnOk, OnErr};
 ghost use Rattle.sno_match.specs.Point.{HasFirst};
-ghost use Rattle.sno_match.specs.Remaining.{IsKnown};
+ghost use Rattle.sno_match.specs.Remaining.{IsKnown, IsStack};
 ghost use Rattle.sno_match.specs.inner.Remaining.{HasPoint};
+ghost use Rattle.sno_match.specs.Scopes.{HasCuts};
 ghost use Rattle.sno_match.specs.Silent.{Stands, LeadsOn};
+ghost use Rattle.sno_pattern.specs.Looks.{AreTrue};
 ghost use Rattle.sno_match.specs.inner.Move.{IsAtTop, Makes, EnteredGivesWay, answered, owed_by};
 
 use crate::event::{Event, Pending};
 use crate::goal::{Goal, Mark, Top};
 use crate::points::Points;
-use crate::starts::{Sides, sides_in_vain};
+use crate::starts::{NO_PATTERN, Sides, head_in_vain, sides_in_vain};
 use crate::steps::{Due, due_at, take_step};
 use sno_pattern::{Looks, Patterns, Shape};
 use sno_value::PatId;
@@ -150,6 +152,68 @@ fn lone_sides_in_vain<P: Points>(
         return None;
     }
     Some(rest)
+}
+
+/// Takes steps that tell nothing, as many as the stack takes by itself. Where none was taken yet and the pattern was seen
+/// last to have no match at a first start, it is asked first whether that is so again.
+#[inline(always)]
+pub(crate) fn go_on<P: Points>(
+    points: &mut P,
+    steps: &mut u32,
+    looks: &mut Looks,
+    patterns: &Patterns,
+    subject: &[u8],
+    vain: &mut PatId,
+    pattern: PatId,
+    limit: u32,
+)
+    requires stands { Stands patterns.now subject.now looks.old limit steps.old (P.points points.old) }
+    ensures looks { AreTrue patterns.now subject.now looks.new }
+    ensures leads { LeadsOn patterns.now subject.now limit (P.points points.old) steps.old (P.points points.new) steps.new }
+    ensures records { P.records points.new + 2 * steps.old ≤ P.records points.old + 2 * steps.new }
+{
+    if vain.0 != pattern.0 || *steps > 0 {
+        points.take_silent_steps(steps, looks, patterns, subject, limit);
+        return;
+    }
+    if drop_in_vain(points, steps, patterns, subject, limit) {
+        return;
+    }
+    *vain = NO_PATTERN;
+    points.take_silent_steps(steps, looks, patterns, subject, limit);
+}
+
+/// Drops the newest point, with the steps that its search takes, where that is in vain as the first bytes of its pattern
+/// tell: whether it did.
+#[inline(always)]
+fn drop_in_vain<P: Points>(
+    points: &mut P,
+    steps: &mut u32,
+    patterns: &Patterns,
+    subject: &[u8],
+    limit: u32,
+) -> bool
+    requires steps_in { steps.old ≤ limit }
+    requires stack { IsStack patterns.now subject.now (P.points points.old) }
+    requires cuts { HasCuts patterns.now (limit - steps.old) (P.points points.old) }
+    ensures leads { LeadsOn patterns.now subject.now limit (P.points points.old) steps.old (P.points points.new) steps.new }
+    ensures records { P.records points.new + 2 * steps.old ≤ P.records points.old + 2 * steps.new }
+{
+    let Top::Open { goal, cursor, mark } = points.top() else {
+        return false;
+    };
+    let Mark::Enter = mark else {
+        return false;
+    };
+    let Goal::Match(id) = goal else {
+        return false;
+    };
+    let Some(price) = head_in_vain(patterns, id, subject, cursor, limit - *steps) else {
+        return false;
+    };
+    points.pop();
+    *steps += price;
+    true
 }
 
 /// The deferred part that the newest point waits for fails, or a pattern takes its place.

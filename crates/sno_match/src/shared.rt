@@ -35,18 +35,23 @@ pub(crate) struct Held {
     pub assigned: u32,
 }
 
-/// A stack of points: the newest, and those below it with the newest of them last. Record k has the number k + 1.
-///
-/// No list is copied at a branch. The records of a point that is dropped are cut back with it, and those that no list
-/// of the newest point or of one below has any more where the next ones are put. Entries of dropped points are cut back
-/// where the next one is put.
+/// What a stack is made of: the newest point, and those below it with the newest of them last. Record k has the number
+/// k + 1.
+#[derive(Drop)]
+pub(crate) struct Lists {
+    pub records: Vec<GoalRecord>,
+    /// The assignments that wait on the way to the newest point, and maybe those of points that were dropped.
+    pub pending: Vec<Pending>,
+    pub top: Option<Held>,
+    pub below: Vec<Held>,
+}
+
+/// A stack of points. No list is copied at a branch. The records of a point that is dropped are cut back with it, and
+/// those that no list of the newest point or of one below has any more where the next ones are put. Entries of dropped
+/// points are cut back where the next one is put.
 #[derive(Drop)]
 pub struct SharedGoals {
-    records: Vec<GoalRecord>,
-    /// The assignments that wait on the way to the newest point, and maybe those of points that were dropped.
-    pending: Vec<Pending>,
-    top: Option<Held>,
-    below: Vec<Held>,
+    lists: Lists,
 }
 
 impl Model for SharedGoals {
@@ -57,11 +62,11 @@ impl Model for SharedGoals {
     ghost Value = { Seen };
 
     ghost view = { λ s. record {
-      points = points_of s.records.items s.pending.items s.top s.below.items;
-      count = length s.records.items;
+      points = points_of s.lists.records.items s.lists.pending.items s.lists.top s.lists.below.items;
+      count = length s.lists.records.items;
     } };
 
-    ghost invariant = { λ s. Holds s.records.items s.pending.items s.top s.below.items };
+    ghost invariant = { λ s. Holds s.lists.records.items s.lists.pending.items s.lists.top s.lists.below.items };
 }
 
 impl Points for SharedGoals {
@@ -70,30 +75,31 @@ impl Points for SharedGoals {
     ghost records = { λ s. s.count };
 
     fn empty(alloc: Global) -> SharedGoals {
-        SharedGoals {
+        let lists = Lists {
             records: Vec::new(alloc),
             pending: Vec::new(alloc),
             top: None,
             below: Vec::new(alloc),
-        }
+        };
+        SharedGoals { lists }
     }
 
     fn depth(&self) -> usize {
-        match &self.top {
+        match &self.lists.top {
             None => 0,
-            Some(_) => self.below.len() + 1,
+            Some(_) => self.lists.below.len() + 1,
         }
     }
 
     fn count_records(&self) -> usize {
-        self.records.len()
+        self.lists.records.len()
     }
 
     fn top(&self) -> Top {
-        let Some(point) = self.top else {
+        let Some(point) = self.lists.top else {
             return Top::Empty;
         };
-        match first_of(&self.records, point.goals) {
+        match first_of(&self.lists.records, point.goals) {
             None => Top::Complete {
                 cursor: point.cursor as usize,
                 mark: mark_of(point.next),
@@ -108,13 +114,13 @@ impl Points for SharedGoals {
 
     #[inline(always)]
     fn replace(&mut self, front: &[Goal], cursor: usize) -> Result<(), AllocError> {
-        let Some(point) = self.top else {
+        let Some(point) = self.lists.top else {
             return Ok(());
         };
         let cursor = in_32_bits(cursor)?;
-        let behind = behind_first(&self.records, point.goals);
+        let behind = behind_first(&self.lists.records, point.goals);
         if front.is_empty() {
-            self.top = Some(Held {
+            self.lists.top = Some(Held {
                 goals: behind,
                 cursor,
                 next: None,
@@ -124,8 +130,8 @@ impl Points for SharedGoals {
             return Ok(());
         }
         let keep = larger(behind, point.floor);
-        let goals = put_front(&mut self.records, keep, behind, front)?;
-        self.top = Some(Held {
+        let goals = put_front(&mut self.lists.records, keep, behind, front)?;
+        self.lists.top = Some(Held {
             goals,
             cursor,
             next: None,
@@ -137,23 +143,23 @@ impl Points for SharedGoals {
 
     #[inline(always)]
     fn branch(&mut self, front: &[Goal], cursor: usize, next: usize) -> Result<(), AllocError> {
-        let Some(point) = self.top else {
+        let Some(point) = self.lists.top else {
             return Ok(());
         };
         let cursor = in_32_bits(cursor)?;
         let next = in_32_bits(next)?;
-        self.below.reserve(1)?;
-        let behind = behind_first(&self.records, point.goals);
+        self.lists.below.reserve(1)?;
+        let behind = behind_first(&self.lists.records, point.goals);
         let keep = larger(point.goals, point.floor);
-        let goals = put_front(&mut self.records, keep, behind, front)?;
-        self.below.push_reserved(Held {
+        let goals = put_front(&mut self.lists.records, keep, behind, front)?;
+        self.lists.below.push_reserved(Held {
             goals: point.goals,
             cursor: point.cursor,
             next: Some(next),
             floor: point.floor,
             assigned: point.assigned,
         });
-        self.top = Some(Held {
+        self.lists.top = Some(Held {
             goals,
             cursor,
             next: None,
@@ -164,13 +170,13 @@ impl Points for SharedGoals {
     }
 
     fn close(&mut self, assignment: Pending) -> Result<(), AllocError> {
-        let Some(point) = self.top else {
+        let Some(point) = self.lists.top else {
             return Ok(());
         };
         let assigned = in_32_bits(point.assigned as usize + 1)?;
-        put_pending(&mut self.pending, point.assigned as usize, assignment)?;
-        self.top = Some(Held {
-            goals: behind_first(&self.records, point.goals),
+        put_pending(&mut self.lists.pending, point.assigned as usize, assignment)?;
+        self.lists.top = Some(Held {
+            goals: behind_first(&self.lists.records, point.goals),
             cursor: point.cursor,
             next: None,
             floor: point.floor,
@@ -180,10 +186,10 @@ impl Points for SharedGoals {
     }
 
     fn cut(&mut self, depth: usize) {
-        if let Some(point) = self.top {
-            let goals = behind_first(&self.records, point.goals);
-            let floor = drop_newer(&mut self.below, depth, point.floor);
-            self.top = Some(Held {
+        if let Some(point) = self.lists.top {
+            let goals = behind_first(&self.lists.records, point.goals);
+            let floor = drop_newer(&mut self.lists.below, depth, point.floor);
+            self.lists.top = Some(Held {
                 goals,
                 cursor: point.cursor,
                 next: None,
@@ -201,31 +207,20 @@ impl Points for SharedGoals {
         subject: &[u8],
         limit: u32,
     ) {
-        let went = take_steps(
-            &mut self.records,
-            &mut self.pending,
-            &mut self.below,
-            self.top,
-            looks,
-            patterns,
-            subject,
-            *steps,
-            limit,
-        );
-        self.top = went.top;
-        *steps = went.steps;
+        let taken = take_steps(&mut self.lists, looks, patterns, subject, *steps, limit);
+        *steps = taken;
     }
 
     fn pop(&mut self) {
-        if let Some(point) = self.top {
-            self.top = self.below.pop();
-            self.records.truncate(point.floor as usize);
+        if let Some(point) = self.lists.top {
+            self.lists.top = self.lists.below.pop();
+            self.lists.records.truncate(point.floor as usize);
         }
     }
 
     fn finish(&mut self, way: &mut Vec<Pending>) -> Result<(), AllocError> {
-        if let Some(point) = self.top {
-            copy_out(way, &self.pending[..point.assigned as usize])?;
+        if let Some(point) = self.lists.top {
+            copy_out(way, &self.lists.pending[..point.assigned as usize])?;
             self.pop();
         }
         Ok(())
@@ -233,9 +228,9 @@ impl Points for SharedGoals {
 
     fn begin(&mut self, goal: Goal, cursor: usize) -> Result<(), AllocError> {
         let cursor = in_32_bits(cursor)?;
-        let goals = put_front(&mut self.records, 0, 0, &[goal])?;
-        self.below.clear();
-        self.top = Some(Held {
+        let goals = put_front(&mut self.lists.records, 0, 0, &[goal])?;
+        self.lists.below.clear();
+        self.lists.top = Some(Held {
             goals,
             cursor,
             next: None,
@@ -266,6 +261,18 @@ fn in_32_bits(n: usize) -> Result<u32, AllocError>
     Ok(same)
 }
 
+/// Makes room in a list for so many in all, which is mostly there.
+#[inline(always)]
+fn make_room<T: Drop>(list: &mut Vec<T>, count: usize) -> Result<(), AllocError>
+    ensures items { list.new.items ≡ list.old.items }
+    ensures room { OnOk result (count ≤ vec_capacity list.new) }
+{
+    if count > list.capacity() {
+        list.reserve(count.saturating_sub(list.len()))?;
+    }
+    Ok(())
+}
+
 /// Cuts the records back to the first `keep`, and puts these goals in front of a list of those.
 #[inline(always)]
 fn put_front(
@@ -282,7 +289,7 @@ fn put_front(
 {
     let keep = keep as usize;
     in_32_bits(keep + front.len())?;
-    records.reserve((keep + front.len()).saturating_sub(records.len()))?;
+    make_room(records, keep + front.len())?;
     records.truncate(keep);
     let goals = link(records, behind, front);
     Ok(goals)
@@ -379,7 +386,7 @@ fn copy_out(way: &mut Vec<Pending>, entries: &[Pending]) -> Result<(), AllocErro
     ensures ok { OnOk result (way.new.items ≡ entries.now) }
     ensures err { OnErr result (way.new.items ≡ way.old.items) }
 {
-    way.reserve(entries.len().saturating_sub(way.len()))?;
+    make_room(way, entries.len())?;
     way.clear();
     for entry in entries {
         way.push_reserved(*entry);

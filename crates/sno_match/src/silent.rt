@@ -13,54 +13,54 @@ use crate::goal::{Goal, Mark};
 use crate::hand::{
     close, drop_point, first_record, put_one, put_two, stay, stay_and_put, take_end,
 };
-use crate::shared::{GoalRecord, Held};
+use crate::shared::{GoalRecord, Held, Lists};
 use sno_pattern::{Head, Looks, Patterns, Shape};
 use sno_value::PatId;
 
-/// The newest point behind some steps, and how many were taken in all.
-#[derive(Clone, Copy, Drop)]
-pub(crate) struct Went {
-    pub top: Option<Held>,
-    pub steps: u32,
-}
-
-/// Takes the steps that are due, up to one that is left to the general way.
+/// Takes the steps that are due, up to one that is left to the general way: how many were taken then.
 #[inline(never)]
 pub(crate) fn take_steps(
-    records: &mut Vec<GoalRecord>,
-    pending: &mut Vec<Pending>,
-    below: &mut Vec<Held>,
-    newest: Option<Held>,
+    lists: &mut Lists,
     looks: &mut Looks,
     patterns: &Patterns,
     subject: &[u8],
     taken: u32,
     limit: u32,
-) -> Went
-    requires holds { Holds records.old.items pending.old.items newest below.old.items }
+) -> u32
+    requires holds { Holds lists.old.records.items lists.old.pending.items lists.old.top lists.old.below.items }
     requires stands { Stands patterns.now subject.now looks.old limit taken
-        (points_of records.old.items pending.old.items newest below.old.items) }
+        (points_of lists.old.records.items lists.old.pending.items lists.old.top lists.old.below.items) }
     ensures looks { AreTrue patterns.now subject.now looks.new }
-    ensures holds { Holds records.new.items pending.new.items result.top below.new.items }
+    ensures holds { Holds lists.new.records.items lists.new.pending.items lists.new.top lists.new.below.items }
     ensures leads { LeadsOn patterns.now subject.now limit
-        (points_of records.old.items pending.old.items newest below.old.items) taken
-        (points_of records.new.items pending.new.items result.top below.new.items) result.steps }
-    ensures records { length records.new.items + 2 * taken ≤ length records.old.items + 2 * result.steps }
+        (points_of lists.old.records.items lists.old.pending.items lists.old.top lists.old.below.items) taken
+        (points_of lists.new.records.items lists.new.pending.items lists.new.top lists.new.below.items) result }
+    ensures records { length lists.new.records.items + 2 * taken ≤ length lists.old.records.items + 2 * result }
 {
-    let mut top = newest;
+    let mut top = lists.top;
     let mut steps = taken;
     'steps: while steps < limit {
         let Some(point) = top else {
-            return Went { top, steps };
+            lists.top = None;
+            return steps;
         };
         if !take_step(
-            records, pending, below, &mut top, looks, patterns, subject, point,
+            &mut lists.records,
+            &mut lists.pending,
+            &mut lists.below,
+            &mut top,
+            looks,
+            patterns,
+            subject,
+            point,
         ) {
-            return Went { top, steps };
+            lists.top = top;
+            return steps;
         }
         steps += 1;
     }
-    Went { top, steps }
+    lists.top = top;
+    steps
 }
 
 /// Takes the step of this point, which is the newest.

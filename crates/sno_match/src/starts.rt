@@ -12,6 +12,9 @@ use sno_value::PatId;
 /// How deep choices may stand in one another's first sides, where it is asked whether they fail at once.
 const MOST_DEPTH: u32 = 500;
 
+/// The number of no pattern: a table doesn't come to have so many.
+pub(crate) const NO_PATTERN: PatId = PatId(4_294_967_295);
+
 /// A start whose search is exhausted, and how many steps lead there.
 #[derive(Clone, Copy, Drop)]
 pub(crate) struct Passed {
@@ -267,6 +270,50 @@ fn steps_in_vain(
         }
         _ => None,
     }
+}
+
+/// How many steps a pattern's search takes in vain from a place, where it begins with a primitive whose first bytes tell
+/// that it has no end there.
+#[inline(always)]
+pub(crate) fn head_in_vain(
+    patterns: &Patterns,
+    pattern: PatId,
+    subject: &[u8],
+    at: usize,
+    left: u32,
+) -> Option<u32>
+    requires known { pattern.0 < length patterns.now }
+    requires inside { at ≤ length subject.now }
+    ensures fails { IfSome result (λ steps. FailsAt (tree patterns.now pattern.0) subject.now steps at) }
+    ensures near { IfSome result (λ steps. steps ≤ left) }
+{
+    let head = head_of(patterns, pattern, left)?;
+    let Shape::Primitive = patterns.shape(head.id) else {
+        return None;
+    };
+    if left <= head.above || !patterns.fails_at(head.id, subject, at) {
+        return None;
+    }
+    Some(head.above + 1)
+}
+
+/// The pattern that was seen last to have no match at a first start, behind a search from a start in vain: the one in
+/// hand, where the starts behind its first one were passed for as many steps each as that one took.
+pub(crate) fn vain_behind(
+    vain: PatId,
+    pattern: PatId,
+    start: usize,
+    steps: u32,
+    passed: Passed,
+) -> PatId {
+    if start > 0 || vain.0 == pattern.0 || passed.start == 0 {
+        return vain;
+    }
+    let each = u64::from(steps) + 1;
+    if u64::from(passed.steps) != each.wrapping_mul(passed.start as u64) {
+        return vain;
+    }
+    pattern
 }
 
 /// How many of the starts behind this one there are, as far as there are steps for them at this price each.

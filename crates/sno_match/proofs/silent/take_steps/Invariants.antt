@@ -7,11 +7,11 @@ use Rattle.sno_match.proofs.silent.take_steps.Given as goal
 -- the steps so far lead to the stack with this newest point
 abbrev pub invariant-steps : goal.invariant-steps
 invariant-steps l = record {
-  holds : Holds l.records.items l.pending.items l.top l.below.items;
+  holds : Holds l.lists.records.items l.lists.pending.items l.top l.lists.below.items;
   looks : AreTrue l.patterns l.subject l.looks;
-  leads : LeadsOn l.patterns l.subject l.limit (points_of l.initial.records.items l.initial.pending.items l.fn.newest l.initial.below.items) l.taken
-      (points_of l.records.items l.pending.items l.top l.below.items) l.steps;
-  records : length l.records.items + 2 * l.taken ≤ length l.initial.records.items + 2 * l.steps;
+  leads : LeadsOn l.patterns l.subject l.limit (points_of l.initial.lists.records.items l.initial.lists.pending.items l.initial.lists.top l.initial.lists.below.items) l.taken
+      (points_of l.lists.records.items l.lists.pending.items l.top l.lists.below.items) l.steps;
+  records : length l.lists.records.items + 2 * l.taken ≤ length l.initial.lists.records.items + 2 * l.steps;
 }
 
 abbrev pub decreases-steps : goal.decreases-steps

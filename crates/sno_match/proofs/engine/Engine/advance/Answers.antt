@@ -24,7 +24,7 @@ invariant_of-self-in-Some g c =
           (g.P.Points.points c.self.inside.points) (g.P.Points.records c.self.inside.points) c.self.inside.start c.self.view_is c.self.invariant.0
           c.requires.going c.requires.on
           c.in-Some.event c.make_move.new.steps c.self.inside.start (g.P.Points.points c.make_move.new.points) c.make_move.new.way.items
-          (g.P.Points.records c.make_move.new.points) (rw c.in-Some.is at l) c.state_behind-self-inside.result c.state_behind-self-inside.ensures).0,
+          (g.P.Points.records c.make_move.new.points) (rw c.in-Some.is at l) c.go_behind.new.state c.go_behind.ensures.behind).0,
       same_looks c.self.inside.lent.value c.args.patterns.now c.self.inside.subject.bytes c.as_slice.result.now c.make_move.new.looks
           (ap (λ (x : Matching). x.nodes) c.self.view_is ∙ c.requires.table) c.as_slice.ensures.value c.in_ok-told-2.ensures.stands.looks,
       c.self.invariant.2,
@@ -43,7 +43,7 @@ returns-in-Some-clause-ok g c =
     c.self.inside.answers.items c.self.inside.told c.self.inside.steps c.self.inside.state c.self.inside.way.items (g.P.Points.points c.self.inside.points)
     (g.P.Points.records c.self.inside.points) c.self.inside.start c.self.view_is c.self.invariant.0 c.requires.going c.requires.on
     c.in-Some.event c.make_move.new.steps c.self.inside.start (g.P.Points.points c.make_move.new.points) c.make_move.new.way.items
-    (g.P.Points.records c.make_move.new.points) (rw c.in-Some.is at l) c.state_behind-self-inside.result c.state_behind-self-inside.ensures).1
+    (g.P.Points.records c.make_move.new.points) (rw c.in-Some.is at l) c.go_behind.new.state c.go_behind.ensures.behind).1
 
 pub returns-in-Some-clause-counts : goal.returns-in-Some-clause-counts
 returns-in-Some-clause-counts g c =
@@ -58,7 +58,7 @@ returns-in-Some-clause-counts g c =
     c.self.inside.answers.items c.self.inside.told c.self.inside.steps c.self.inside.state c.self.inside.way.items (g.P.Points.points c.self.inside.points)
     (g.P.Points.records c.self.inside.points) c.self.inside.start c.self.view_is c.self.invariant.0 c.requires.going c.requires.on
     c.in-Some.event c.make_move.new.steps c.self.inside.start (g.P.Points.points c.make_move.new.points) c.make_move.new.way.items
-    (g.P.Points.records c.make_move.new.points) (rw c.in-Some.is at l) c.state_behind-self-inside.result c.state_behind-self-inside.ensures).2
+    (g.P.Points.records c.make_move.new.points) (rw c.in-Some.is at l) c.go_behind.new.state c.go_behind.ensures.behind).2
 
 pub invariant_of-self-in_default-told : goal.invariant_of-self-in_default-told
 invariant_of-self-in_default-told g c =

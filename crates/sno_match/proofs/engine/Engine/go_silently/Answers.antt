@@ -10,17 +10,17 @@ invariant_of-self g c =
     c.self.inside.limit c.self.inside.answers.items c.self.inside.told c.self.inside.steps c.self.inside.state c.self.inside.way.items
     (g.P.Points.points c.self.inside.points) (g.P.Points.records c.self.inside.points) c.self.inside.start c.self.view_is c.self.invariant.0
     c.requires.going c.requires.on
-    c.args.patterns.now c.as_slice.result.now c.requires.table c.as_slice.ensures.value c.take_silent_steps.new.steps
-    (g.P.Points.points c.take_silent_steps.new.self) (g.P.Points.records c.take_silent_steps.new.self)
-    (omega (arith, c.take_silent_steps.ensures.records)) c.take_silent_steps.ensures.leads in (
+    c.args.patterns.now c.as_slice.result.now c.requires.table c.as_slice.ensures.value c.go_on.new.steps
+    (g.P.Points.points c.go_on.new.points) (g.P.Points.records c.go_on.new.points)
+    (omega (arith, c.go_on.ensures.records)) c.go_on.ensures.leads in (
       (laws.stays_all c.args.self.now c.self.inside.lent.value c.self.inside.pattern c.self.inside.subject.bytes c.self.inside.anchored
           c.self.inside.limit c.self.inside.answers.items c.self.inside.told c.self.inside.steps c.self.inside.state c.self.inside.way.items
           (g.P.Points.points c.self.inside.points) (g.P.Points.records c.self.inside.points) c.self.inside.start c.self.view_is c.self.invariant.0
           c.requires.going c.requires.on
-          c.take_silent_steps.new.steps c.self.inside.start (g.P.Points.points c.take_silent_steps.new.self) c.self.inside.way.items
-          (g.P.Points.records c.take_silent_steps.new.self) l).0,
-      same_looks c.self.inside.lent.value c.args.patterns.now c.self.inside.subject.bytes c.as_slice.result.now c.take_silent_steps.new.looks
-          (ap (λ (x : Matching). x.nodes) c.self.view_is ∙ c.requires.table) c.as_slice.ensures.value c.take_silent_steps.ensures.looks,
+          c.go_on.new.steps c.self.inside.start (g.P.Points.points c.go_on.new.points) c.self.inside.way.items
+          (g.P.Points.records c.go_on.new.points) l).0,
+      same_looks c.self.inside.lent.value c.args.patterns.now c.self.inside.subject.bytes c.as_slice.result.now c.go_on.new.looks
+          (ap (λ (x : Matching). x.nodes) c.self.view_is ∙ c.requires.table) c.as_slice.ensures.value c.go_on.ensures.looks,
       c.self.invariant.2,
     )
 
@@ -30,16 +30,16 @@ returns-clause-goes g c =
     c.self.inside.limit c.self.inside.answers.items c.self.inside.told c.self.inside.steps c.self.inside.state c.self.inside.way.items
     (g.P.Points.points c.self.inside.points) (g.P.Points.records c.self.inside.points) c.self.inside.start c.self.view_is c.self.invariant.0
     c.requires.going c.requires.on
-    c.args.patterns.now c.as_slice.result.now c.requires.table c.as_slice.ensures.value c.take_silent_steps.new.steps
-    (g.P.Points.points c.take_silent_steps.new.self) (g.P.Points.records c.take_silent_steps.new.self)
-    (omega (arith, c.take_silent_steps.ensures.records)) c.take_silent_steps.ensures.leads in
+    c.args.patterns.now c.as_slice.result.now c.requires.table c.as_slice.ensures.value c.go_on.new.steps
+    (g.P.Points.points c.go_on.new.points) (g.P.Points.records c.go_on.new.points)
+    (omega (arith, c.go_on.ensures.records)) c.go_on.ensures.leads in
     (laws.stays_all c.args.self.now c.self.inside.lent.value c.self.inside.pattern c.self.inside.subject.bytes c.self.inside.anchored
     c.self.inside.limit c.self.inside.answers.items c.self.inside.told c.self.inside.steps c.self.inside.state c.self.inside.way.items
     (g.P.Points.points c.self.inside.points) (g.P.Points.records c.self.inside.points) c.self.inside.start c.self.view_is c.self.invariant.0
     c.requires.going c.requires.on
-    c.take_silent_steps.new.steps c.self.inside.start (g.P.Points.points c.take_silent_steps.new.self) c.self.inside.way.items
-    (g.P.Points.records c.take_silent_steps.new.self) l).1
+    c.go_on.new.steps c.self.inside.start (g.P.Points.points c.go_on.new.points) c.self.inside.way.items
+    (g.P.Points.records c.go_on.new.points) l).1
 
 pub returns-clause-work : goal.returns-clause-work
 returns-clause-work g c =
-    rw (← c.self.view_is) (omega (arith, c.take_silent_steps.ensures.leads.falls, c.take_silent_steps.ensures.leads.paid))
+    rw (← c.self.view_is) (omega (arith, c.go_on.ensures.leads.falls, c.go_on.ensures.leads.paid))

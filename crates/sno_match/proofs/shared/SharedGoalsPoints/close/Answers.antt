@@ -9,7 +9,7 @@ invariant_of-self-2 c =
     let s = c.self.inside in
     let point = c.in-Some.point in
     let behind = c.behind_first.result in
-    closed_holds s.records.items s.pending.items s.top s.below.items point c.in-Some.is c.self.invariant
+    closed_holds s.lists.records.items s.lists.pending.items s.lists.top s.lists.below.items point c.in-Some.is c.self.invariant
     c.put_pending.new.pending.items c.args.assignment behind
     (subst (λ rs. goals_of rs behind ≡ rest_of (goals_of rs point.goals)) c.deref.ensures.value c.behind_first.ensures.value) c.behind_first.ensures.smaller
     c.in_ok-put_pending.ensures.ok c.in_ok-assigned.assigned c.in_ok-assigned.ensures
@@ -19,7 +19,7 @@ returns-clause-ok c =
     let s = c.self.inside in
     let point = c.in-Some.point in
     let behind = c.behind_first.result in
-    closed_points s.records.items s.pending.items s.top s.below.items point c.in-Some.is c.self.invariant
+    closed_points s.lists.records.items s.lists.pending.items s.lists.top s.lists.below.items point c.in-Some.is c.self.invariant
     c.put_pending.new.pending.items c.args.assignment behind
     (subst (λ rs. goals_of rs behind ≡ rest_of (goals_of rs point.goals)) c.deref.ensures.value c.behind_first.ensures.value) c.behind_first.ensures.smaller
     c.in_ok-put_pending.ensures.ok c.in_ok-assigned.assigned c.in_ok-assigned.ensures ∙

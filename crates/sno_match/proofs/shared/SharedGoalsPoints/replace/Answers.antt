@@ -9,12 +9,12 @@ returns-clause-ok c =
     let s = c.self.inside in
     let point = c.in-Some.point in
     let behind = c.behind_first-behind.result in
-    let within = fits s.records.items s.pending.items s.top s.below.items point c.in-Some.is c.self.invariant in
+    let within = fits s.lists.records.items s.lists.pending.items s.lists.top s.lists.below.items point c.in-Some.is c.self.invariant in
     let larger = c.larger-keep.ensures in
-    replaced_points s.records.items s.pending.items s.top s.below.items point c.in-Some.is c.self.invariant c.put_front.new.records.items c.args.front.now
+    replaced_points s.lists.records.items s.lists.pending.items s.lists.top s.lists.below.items point c.in-Some.is c.self.invariant c.put_front.new.records.items c.args.front.now
     c.in_ok-cursor.cursor behind c.larger-keep.result c.in_ok-goals.goals
     (subst (λ rs. goals_of rs behind ≡ rest_of (goals_of rs point.goals)) c.deref.ensures.value c.behind_first-behind.ensures.value) larger.first
-    (larger.least (length s.records.items) (omega (arith, c.behind_first-behind.ensures.smaller, within.0)) within.1) c.in_ok-goals.ensures.ok larger.second ∙
+    (larger.least (length s.lists.records.items) (omega (arith, c.behind_first-behind.ensures.smaller, within.0)) within.1) c.in_ok-goals.ensures.ok larger.second ∙
     ap (λ v. replaced c.args.front.now c.in_ok-cursor.cursor v.points) c.self.view_is ∙
     ap (λ at. replaced c.args.front.now at c.args.self.now.points) c.in_ok-cursor.ensures
 
@@ -23,7 +23,7 @@ invariant_of-self c =
     let s = c.self.inside in
     let point = c.in-Some.point in
     let behind = c.behind_first-behind.result in
-    first_dropped_holds s.records.items s.pending.items s.top s.below.items point c.in-Some.is c.self.invariant c.in_ok-cursor.cursor behind
+    first_dropped_holds s.lists.records.items s.lists.pending.items s.lists.top s.lists.below.items point c.in-Some.is c.self.invariant c.in_ok-cursor.cursor behind
     (subst (λ rs. goals_of rs behind ≡ rest_of (goals_of rs point.goals)) c.deref.ensures.value c.behind_first-behind.ensures.value)
     c.behind_first-behind.ensures.smaller
 
@@ -32,7 +32,7 @@ returns-then-is_empty-clause-ok c =
     let s = c.self.inside in
     let point = c.in-Some.point in
     let behind = c.behind_first-behind.result in
-    first_dropped_points s.records.items s.pending.items s.top s.below.items point c.in-Some.is c.self.invariant c.in_ok-cursor.cursor behind
+    first_dropped_points s.lists.records.items s.lists.pending.items s.lists.top s.lists.below.items point c.in-Some.is c.self.invariant c.in_ok-cursor.cursor behind
     (subst (λ rs. goals_of rs behind ≡ rest_of (goals_of rs point.goals)) c.deref.ensures.value c.behind_first-behind.ensures.value)
     c.behind_first-behind.ensures.smaller c.args.front.now (sym c.is_empty.ensures ∙ c.if-is_empty.true) ∙
     ap (λ v. replaced c.args.front.now c.in_ok-cursor.cursor v.points) c.self.view_is ∙

@@ -7,9 +7,9 @@ use Rattle.sno_match.proofs.shared.SharedGoalsPoints.top.Goals as goal
 pub returns-in-None : goal.returns-in-None
 returns-in-None c =
     let s = c.self.inside in (
-      take c.in-Some.point.assigned s.pending.items,
-      map (point_of s.records.items s.pending.items) (reverse s.below.items),
-      ap (λ v. v.points) (sym c.self.view_is) ∙ top_is s.records.items s.pending.items s.top s.below.items c.in-Some.point [] c.mark_of.result c.in-Some.is
+      take c.in-Some.point.assigned s.lists.pending.items,
+      map (point_of s.lists.records.items s.lists.pending.items) (reverse s.lists.below.items),
+      ap (λ v. v.points) (sym c.self.view_is) ∙ top_is s.lists.records.items s.lists.pending.items s.lists.top s.lists.below.items c.in-Some.point [] c.mark_of.result c.in-Some.is
           (ap (λ rs. goals_of rs c.in-Some.point.goals) (sym c.deref.ensures.value) ∙ c.in-None.ensures.none) c.mark_of.ensures,
     )
 
@@ -18,10 +18,10 @@ returns-in-Some-first_of c =
     let s = c.self.inside in
     let rest = rest_of (goals_of c.deref.result.now c.in-Some.point.goals) in (
       rest,
-      take c.in-Some.point.assigned s.pending.items,
-      map (point_of s.records.items s.pending.items) (reverse s.below.items),
+      take c.in-Some.point.assigned s.lists.pending.items,
+      map (point_of s.lists.records.items s.lists.pending.items) (reverse s.lists.below.items),
       ap (λ v. v.points) (sym c.self.view_is) ∙
-          top_is s.records.items s.pending.items s.top s.below.items c.in-Some.point (c.in-Some-first_of.goal ∷ rest)
+          top_is s.lists.records.items s.lists.pending.items s.lists.top s.lists.below.items c.in-Some.point (c.in-Some-first_of.goal ∷ rest)
           c.mark_of-in-Some-first_of.result c.in-Some.is
           (ap (λ rs. goals_of rs c.in-Some.point.goals) (sym c.deref.ensures.value) ∙ c.in-Some-first_of.ensures.some) c.mark_of-in-Some-first_of.ensures,
     )
