@@ -10,6 +10,7 @@ pub mod StandingSteps
 pub mod StringLaws
 pub mod GrowingLaws
 pub mod MakingLaws
+pub mod TakenLaws
 pub mod ToldLaws
 pub mod WholeLaws
 pub mod ExaminingLaws

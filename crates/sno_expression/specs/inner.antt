@@ -4,5 +4,6 @@ pub mod Forms
 pub mod Growing
 pub mod InPlace
 pub mod Standing
+pub mod Taken
 pub mod Told
 pub mod Tokens

@@ -56,5 +56,5 @@ pub use names::Known;
 pub use places::{only_field, only_in_plane, only_item, only_name};
 pub use quick::{Calculated, Form, Quick, attempt};
 pub use standing::nodes_of;
-pub use tokens::over_tokens;
+pub use tokens::{over_tokens, put_tokens};
 pub use told::calculate_alone;

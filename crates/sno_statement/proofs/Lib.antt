@@ -14,4 +14,5 @@ pub mod RunningLaws
 pub mod SessionLaws
 pub mod StatementLaws
 pub mod StepLaws
+pub mod TakenLaws
 pub mod TargetLaws

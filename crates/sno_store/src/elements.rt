@@ -2,6 +2,7 @@
 ghost use Rattle.std.specs.Prelude.{◌≡◌, ◌*◌, ◌<◌, ◌≤◌, [], ◌∷◌, ◌++◌, codes, Some, length, replicate, option_copied};
 ghost use Rattle.std.specs.Prelude.{option_map, slice_get, slice_set, IfOk, IfSome};
 ghost use Rattle.std.specs.Fmt.{decimal};
+ghost use Rattle.sno_value.specs.declared.value.Value.TheVariants as Stored;
 ghost use Rattle.sno_store.specs.Arrays.{dimensions_of, element_count, element_place};
 ghost use Rattle.sno_store.specs.Stored.{stored_notions};
 ghost use Rattle.sno_store.specs.Tables.{filled, rows, up_to};
@@ -9,14 +10,14 @@ ghost use Rattle.sno_store.specs.Tables.{filled, rows, up_to};
 use crate::dimension::Dimension;
 use crate::entries::Entries;
 use crate::prototype::dimensions;
-use sno_value::{Value, int_text};
+use sno_value::{Text, Value, int_text};
 use std::alloc::{AllocError, Global};
 use std::marker::Model;
 
 /// An array.
 #[derive(Drop)]
 pub(crate) struct Elements {
-    text: Vec<u8>,
+    text: Text,
     dimensions: Vec<Dimension>,
     values: Vec<Value>,
 }
@@ -29,7 +30,7 @@ impl Model for Elements {
 
     ghost Value = { Shown Stored };
 
-    ghost view = { λ a. record { prototype = a.text.items; dimensions = a.dimensions.items; values = a.values.items } };
+    ghost view = { λ a. record { prototype = a.text; dimensions = a.dimensions.items; values = a.values.items } };
 
     ghost invariant = { λ a. (length a.values.items ≡ element_count a.dimensions.items)
         × (length a.values.items ≤ 1_000_000) };
@@ -37,10 +38,10 @@ impl Model for Elements {
 
 impl Elements {
     /// An array of these dimensions and values.
-    pub(crate) fn new(text: Vec<u8>, dimensions: Vec<Dimension>, values: Vec<Value>) -> Elements
+    pub(crate) fn new(text: Text, dimensions: Vec<Dimension>, values: Vec<Value>) -> Elements
         requires count { length values.items ≡ element_count dimensions.items }
         requires few { length values.items ≤ 1_000_000 }
-        ensures { result ≡ record { prototype = text.items; dimensions = dimensions.items; values = values.items } }
+        ensures { result ≡ record { prototype = text; dimensions = dimensions.items; values = values.items } }
     {
         Elements {
             text,
@@ -102,7 +103,7 @@ pub(crate) fn uniform(
     ensures { IfOk result (λ a. (a.prototype ≡ prototype.now) × (dimensions_of prototype.now ≡ Some a.dimensions)
         × (a.values ≡ replicate count value.now)) }
 {
-    let text = Vec::from_slice(alloc, prototype)?;
+    let text = Text::from_slice(alloc, prototype)?;
     let dimensions = dimensions(alloc, prototype)?;
     let values = copies(alloc, count as usize, value)?;
     Ok(Elements::new(text, dimensions, values))
@@ -131,11 +132,34 @@ pub(crate) fn of_rows(
     dimensions.push(Dimension { low: 1, high })?;
     dimensions.push(Dimension { low: 1, high: 2 })?;
     let values = entries.rows(alloc)?;
+    let text = Text::new(alloc, text)?;
     Ok(Elements::new(text, dimensions, values))
 }
 
-/// So many copies of a value.
+/// So many copies of a value, which is mostly an integer.
 fn copies(alloc: Global, count: usize, value: &Value) -> Result<Vec<Value>, AllocError>
+    ensures { IfOk result (λ values. values.items ≡ replicate count value.now) }
+{
+    let copies = match value {
+        Value::Int(number) => numbers(alloc, count, *number)?,
+        _ => copied(alloc, count, value)?,
+    };
+    Ok(copies)
+}
+
+/// So many times a number.
+fn numbers(alloc: Global, count: usize, number: i64) -> Result<Vec<Value>, AllocError>
+    ensures { IfOk result (λ values. values.items ≡ replicate count (Stored.Int number)) }
+{
+    let mut values = Vec::with_capacity(alloc, count)?;
+    'values: for _put in 0..count {
+        values.push(Value::Int(number))?;
+    }
+    Ok(values)
+}
+
+/// So many copies of any value.
+fn copied(alloc: Global, count: usize, value: &Value) -> Result<Vec<Value>, AllocError>
     ensures { IfOk result (λ values. values.items ≡ replicate count value.now) }
 {
     let mut values = Vec::with_capacity(alloc, count)?;

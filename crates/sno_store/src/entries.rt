@@ -3,6 +3,7 @@ ghost use Rattle.std.specs.Prelude.{◌≡◌, ◌<◌, ◌≤◌, ◌↔◌, �
 ghost use Rattle.std.specs.Prelude.{slice_get, Some, ◌⊎◌, IfNone, IfOk, IfSome, OnOk, OnErr};
 ghost use Rattle.sno_store.specs.Objects.{with_value_at};
 ghost use Rattle.sno_store.specs.inner.Doubles.{key_place, Stay};
+ghost use Rattle.sno_store.specs.inner.Hashes.{key_hash};
 ghost use Rattle.sno_store.specs.inner.Indexed.{IsAnswer, IsAt, IsNoDouble, keys_of};
 ghost use Rattle.sno_store.specs.inner.Paths.{IsOn, Keeps};
 ghost use Rattle.sno_store.specs.inner.Seen.{IsEntry};
@@ -71,7 +72,17 @@ impl Entries {
         requires { is_key key.now ≡ true }
         ensures { result ≡ entry_place stored_notions key.now self.now }
     {
-        if let Some(place) = self.index.find(key_hash(key)) {
+        self.find_by(key, key_hash(key))
+    }
+
+    /// The entry with a key, which has this hash.
+    #[inline(always)]
+    fn find_by(&self, key: &Value, hash: u64) -> Option<u32>
+        requires key { is_key key.now ≡ true }
+        requires hash { hash ≡ key_hash key.now }
+        ensures { result ≡ entry_place stored_notions key.now self.now }
+    {
+        if let Some(place) = self.index.find(hash) {
             if is_at(&self.entries, place, key) {
                 return Some(place);
             }
@@ -80,9 +91,10 @@ impl Entries {
         Some(place)
     }
 
-    /// A key that has no entry gets one, which is the last.
-    pub(crate) fn push(&mut self, key: Value, value: Value) -> Result<u32, AllocError>
+    /// A key that has no entry gets one, which is the last. The key has this hash.
+    fn push(&mut self, key: Value, hash: u64, value: Value) -> Result<u32, AllocError>
         requires key { is_key key ≡ true }
+        requires hash { hash ≡ key_hash key }
         requires new { entry_place stored_notions key self.old ≡ None }
         requires room { length self.old < 1_000_000 }
         ensures place { IfOk result (λ place. place ≡ length self.old) }
@@ -91,7 +103,6 @@ impl Entries {
     {
         let place = self.entries.len() as u32;
         self.entries.reserve(1)?;
-        let hash = key_hash(&key);
         settle(&mut self.index, &mut self.doubles, &key, hash, place)?;
         self.index.push(hash)?;
         self.entries.push((key, value))?;
@@ -195,13 +206,14 @@ pub(crate) fn entry_in(entries: &mut Entries, key: Value) -> Result<u32, StoreEr
     requires { is_key key ≡ true }
     ensures { IsEntry key entries.old entries.new result }
 {
-    if let Some(place) = entries.find(&key) {
+    let hash = key_hash(&key);
+    if let Some(place) = entries.find_by(&key, hash) {
         return Ok(place);
     }
     if entries.len() == MOST_ENTRIES {
         return Err(StoreError::Full);
     }
-    let place = entries.push(key, Value::null())?;
+    let place = entries.push(key, hash, Value::null())?;
     Ok(place)
 }
 

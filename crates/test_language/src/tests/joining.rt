@@ -29,12 +29,18 @@ const INTEGERS: &str = r"
  A = DUPL('a',999998)\n N = -12\n B = N A\nEND\n => status 1: snobol4: error 8 in statement 3\n
 ";
 
-/// Strings of 22 bytes and more, and of as many as a string may have.
+/// Strings of 22 bytes and more, which are joined in one block, and of as many as a string may have.
 const LENGTHS: &str = r"
  A = '12345678901'\n B = A A\n OUTPUT = SIZE(B) ' ' B 'x'\n C = B 'x' B\n OUTPUT = SIZE(C) C\nEND\n => 22 1234567890112345678901x\n451234567890112345678901x1234567890112345678901\n
  A = DUPL('a',500000)\n B = A A\n OUTPUT = SIZE(B)\n C = B 'a'\nEND\n => 1000000\nstatus 1: snobol4: error 8 in statement 4\n
  A = DUPL('a',999999)\n B = A 'b'\n OUTPUT = SIZE(B)\n C = 'x' A 'b'\nEND\n => 1000000\nstatus 1: snobol4: error 8 in statement 4\n
  A = DUPL('a',1000000)\n B = A N\n OUTPUT = SIZE(B)\n B = N A\n OUTPUT = SIZE(B)\nEND\n => 1000000\n1000000\n
+ A = '12345678901'\n B = A ',' A ',' A ';' A\n OUTPUT = B\nEND\n => 12345678901,12345678901,12345678901;12345678901\n
+ A = DUPL('a',30)\n N = -7\n OUTPUT = A N '' M N 'x' A\n OUTPUT = A '' M\n OUTPUT = N A N\nEND\n => \<30:a\>-7-7x\<30:a\>\n\<30:a\>\n-7\<30:a\>-7\n
+ A = DUPL('a',499999)\n B = A 'b' A 'c'\n OUTPUT = SIZE(B)\n C = A 'b' A 'c' 'd'\nEND\n => 1000000\nstatus 1: snobol4: error 8 in statement 4\n
+ A = DUPL('a',499999)\n N = 12\n B = A 'b' A N\nEND\n => status 1: snobol4: error 8 in statement 3\n
+ A = DUPL('a',30)\n P = LEN(1)\n B = A 'b' A P\n OUTPUT = DATATYPE(B)\n B = A 'b' A TABLE()\nEND\n => PATTERN\nstatus 1: snobol4: error 1 in statement 5\n
+ A = DUPL('a',30)\n B = A ',' A\n C = B\n B = B 'x' A\n OUTPUT = C\n OUTPUT = B\nEND\n => \<30:a\>,\<30:a\>\n\<30:a\>,\<30:a\>x\<30:a\>\n
 ";
 
 /// Strings that are long enough to grow where they lie, when tokens are joined to them: what else has their bytes keeps

@@ -17,7 +17,7 @@ pub returns : goal.returns
 returns c =
     let read = read_whole (slice_split is_comma c.args.prototype.now) c.in_ok-dimensions.dimensions.items c.args.count c.in_ok-dimensions.ensures
     c.requires.prototype in (
-      ap (λ (a : Elements Value). a.prototype) c.new.ensures ∙ c.in_ok-text.ensures.items,
+      ap (λ (a : Elements Value). a.prototype) c.new.ensures ∙ c.in_ok-text.ensures,
       read.0 ∙ ap (λ (a : Elements Value). Some a.dimensions) (sym c.new.ensures),
       ap (λ (a : Elements Value). a.values) c.new.ensures ∙ c.in_ok-values.ensures,
     )

@@ -52,8 +52,8 @@ invariant_of-self-2 c =
     c.settle.ensures.keeps c.settle.ensures.others c.self.invariant in
     let place : c.len-place.result ≡ length entries = search rules in
     let last : IsOn slots (key_hash key) (length entries) ⊎ (key_place doubles key ≡ Some (length entries)) =
-    subst (λ h. IsOn slots h (length entries) ⊎ (key_place doubles key ≡ Some (length entries))) c.key_hash-hash.ensures
-    (subst (λ n. IsOn slots c.key_hash-hash.result n ⊎ (key_place doubles key ≡ Some n)) place c.in_ok-settle.ensures.leads) in
+    subst (λ h. IsOn slots h (length entries) ⊎ (key_place doubles key ≡ Some (length entries))) c.requires.hash
+    (subst (λ n. IsOn slots c.args.hash n ⊎ (key_place doubles key ≡ Some n)) place c.in_ok-settle.ensures.leads) in
     subst (λ es. Stands es c.push.new.self.0 c.push.new.self.1 doubles) (sym items)
     (subst (λ hs. Stands (entries ++ (key, c.args.value) ∷ []) hs c.push.new.self.1 doubles) (sym hashes)
     (subst (λ ss. Stands (entries ++ (key, c.args.value) ∷ []) (old.0 ++ key_hash key ∷ []) ss doubles) (sym c.push.ensures.slots)
