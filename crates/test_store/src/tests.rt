@@ -334,8 +334,7 @@ fn check_steps(
 fn check_new(rt: &impl Abort, alloc: Global, name: &str, steps: &[Step]) -> Result<(), AllocError> {
     let mut patterns = Patterns::new(alloc);
     let mut store = Store::new(alloc, &mut patterns)?;
-    check_steps(rt, alloc, &mut store, name, steps)?;
-    Ok(())
+    check_steps(rt, alloc, &mut store, name, steps)
 }
 
 /// The same of several lists of calls, each with its name.

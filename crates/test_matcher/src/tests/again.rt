@@ -54,8 +54,7 @@ fn told_once<P: Points>(
     lent: bool,
 ) -> Result<String, Fail> {
     let mut m = left_match::<P>(alloc, before)?;
-    let text = told_next(alloc, &mut m, after, lent)?;
-    Ok(text)
+    told_next(alloc, &mut m, after, lent)
 }
 
 /// The events of a search by a match that begins again.
@@ -67,8 +66,7 @@ fn told_next<P: Points>(
 ) -> Result<String, Fail> {
     let (s, words) = search_of(after)?;
     let (table, pattern) = table_of_words(alloc, words)?;
-    let text = drawn_again(alloc, m, &table, pattern, s, lent)?;
-    Ok(text)
+    drawn_again(alloc, m, &table, pattern, s, lent)
 }
 
 fn drawn_again<P: Points>(
@@ -78,7 +76,7 @@ fn drawn_again<P: Points>(
     pattern: PatId,
     s: Search<'_>,
     lent: bool,
-) -> Result<String, AllocError>
+) -> Result<String, Fail>
     requires { pattern.0 < length table.now }
 {
     let told = events_again(alloc, m, table, pattern, s, lent, 100)?;
@@ -99,8 +97,7 @@ fn events_again<P: Points>(
     requires { pattern.0 < length table.now }
 {
     begin_search(alloc, m, table, pattern, s, lent)?;
-    let told = events_of(alloc, m, table, s.answers, most)?;
-    Ok(told)
+    events_of(alloc, m, table, s.answers, most)
 }
 
 /// A match that has told some events, as `COUNT of SEARCH` has it.
@@ -108,9 +105,17 @@ fn left_match<P: Points>(alloc: Global, text: &'static str) -> Result<Engine<P>,
     let (count, search) = parts(text, " of ")?;
     let count: usize = count.parse()?;
     let (s, words) = search_of(search)?;
+    left_by_words::<P>(alloc, words, s, count)
+}
+
+fn left_by_words<P: Points>(
+    alloc: Global,
+    words: &'static str,
+    s: Search<'_>,
+    count: usize,
+) -> Result<Engine<P>, Fail> {
     let (table, pattern) = table_of_words(alloc, words)?;
-    let m = left_over::<P>(alloc, &table, pattern, s, count)?;
-    Ok(m)
+    left_over::<P>(alloc, &table, pattern, s, count)
 }
 
 fn left_over<P: Points>(
@@ -119,7 +124,7 @@ fn left_over<P: Points>(
     pattern: PatId,
     s: Search<'_>,
     count: usize,
-) -> Result<Engine<P>, AllocError>
+) -> Result<Engine<P>, Fail>
     requires { pattern.0 < length table.now }
 {
     let mut m = begin::<P>(alloc, table, pattern, s.subject, s.anchored, s.limit)?;
@@ -199,8 +204,7 @@ fn compare<P: Points>(
     m: &mut Engine<P>,
 ) -> Result<usize, Fail> {
     let forms = chance.forms(alloc)?;
-    let events = compare_forms(rt, alloc, chance, m, &forms)?;
-    Ok(events)
+    compare_forms(rt, alloc, chance, m, &forms)
 }
 
 fn compare_forms<P: Points>(
@@ -211,8 +215,7 @@ fn compare_forms<P: Points>(
     forms: &[Form],
 ) -> Result<usize, Fail> {
     let (table, pattern) = table_of(alloc, forms)?;
-    let events = compare_answered(rt, alloc, chance, m, forms, &table, pattern)?;
-    Ok(events)
+    compare_answered(rt, alloc, chance, m, forms, &table, pattern)
 }
 
 fn compare_answered<P: Points>(
@@ -223,7 +226,7 @@ fn compare_answered<P: Points>(
     forms: &[Form],
     table: &Patterns,
     pattern: PatId,
-) -> Result<usize, AllocError>
+) -> Result<usize, Fail>
     requires { pattern.0 < length table.now }
 {
     let answers = chance.answers(alloc, forms.len())?;
@@ -279,8 +282,7 @@ fn check_again<P: Points>(
 /// Begins one match over a stack of this type again and again, and gives the number of events.
 fn compare_all<P: Points>(rt: &impl Abort, alloc: Global, seed: u64) -> Result<usize, Fail> {
     let mut m = left_match::<P>(alloc, "0 of floating 9 A: TEXT:A")?;
-    let events = compare_with(rt, alloc, &mut m, seed)?;
-    Ok(events)
+    compare_with(rt, alloc, &mut m, seed)
 }
 
 fn compare_with<P: Points>(

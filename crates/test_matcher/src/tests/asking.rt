@@ -21,8 +21,7 @@ impl Question for FirstEvents {
     fn answer(alloc: Global, text: &'static str) -> Result<String, Fail> {
         let (s, words) = search_of(text)?;
         let (table, pattern) = table_of_words(alloc, words)?;
-        let text = first_events(alloc, &table, pattern, s)?;
-        Ok(text)
+        first_events(alloc, &table, pattern, s)
     }
 }
 
@@ -31,12 +30,11 @@ fn first_events(
     table: &Patterns,
     pattern: PatId,
     s: Search<'_>,
-) -> Result<String, AllocError>
+) -> Result<String, Fail>
     requires { pattern.0 < length table.now }
 {
     let mut m = match_over(alloc, table, pattern, s)?;
-    let text = next_events(alloc, &mut m, table)?;
-    Ok(text)
+    next_events(alloc, &mut m, table)
 }
 
 fn match_over(
@@ -55,7 +53,7 @@ fn match_over(
 }
 
 /// The next event, and behind a value the one after it.
-fn next_events(alloc: Global, m: &mut Matcher, table: &Patterns) -> Result<String, AllocError>
+fn next_events(alloc: Global, m: &mut Matcher, table: &Patterns) -> Result<String, Fail>
     requires table { m.old.nodes ≡ table.now }
     requires asked { m.old.waits ≡ false }
     requires some { 0 < length table.now }
@@ -111,8 +109,7 @@ impl Question for Answered {
     fn answer(alloc: Global, text: &'static str) -> Result<String, Fail> {
         let mut table = Patterns::new(alloc);
         let part = table.defer(ExprId(4))?;
-        let text = answered_by_new_node(alloc, &mut table, part, text.as_bytes())?;
-        Ok(text)
+        answered_by_new_node(alloc, &mut table, part, text.as_bytes())
     }
 }
 
@@ -125,8 +122,7 @@ fn answered_by_new_node(
     requires { part.0 < length table.old }
 {
     let mut m: Matcher = begin(alloc, table, part, subject, true, 10)?;
-    let text = told_behind_value(alloc, &mut m, table)?;
-    Ok(text)
+    told_behind_value(alloc, &mut m, table)
 }
 
 /// What is told behind a value that a node answers which the table got meanwhile.
@@ -140,8 +136,7 @@ fn told_behind_value(alloc: Global, m: &mut Matcher, table: &mut Patterns) -> Re
     }
     let a = table.text(b"A")?;
     give_new(m, table, a)?;
-    let text = told_behind(alloc, m, table, a)?;
-    Ok(text)
+    told_behind(alloc, m, table, a)
 }
 
 /// What is told behind an answer, the first.
@@ -178,8 +173,7 @@ impl Question for Ended {
     fn answer(alloc: Global, text: &'static str) -> Result<String, Fail> {
         let mut table = Patterns::new(alloc);
         let none = table.fail()?;
-        let text = told_twice(alloc, &table, none, text.as_bytes())?;
-        Ok(text)
+        told_twice(alloc, &table, none, text.as_bytes())
     }
 }
 
@@ -187,8 +181,7 @@ fn told_twice(alloc: Global, table: &Patterns, none: PatId, subject: &[u8]) -> R
     requires { none.0 < length table.now }
 {
     let mut m: Matcher = begin(alloc, table, none, subject, true, 10)?;
-    let text = told_again(alloc, &mut m, table)?;
-    Ok(text)
+    told_again(alloc, &mut m, table)
 }
 
 fn told_again(alloc: Global, m: &mut Matcher, table: &Patterns) -> Result<String, Fail>
@@ -222,12 +215,7 @@ fn has_part(m: &Matcher, start: usize, end: usize, part: &[u8]) -> bool {
     start <= end && end <= m.subject().len() && m.part(start, end) == part
 }
 
-fn check_parts(
-    rt: &impl Abort,
-    alloc: Global,
-    table: &Patterns,
-    pattern: PatId,
-) -> Result<(), AllocError>
+fn check_parts(rt: &impl Abort, alloc: Global, table: &Patterns, pattern: PatId) -> Result<(), Fail>
     requires { pattern.0 < length table.now }
 {
     let m: Matcher = begin(alloc, table, pattern, b"AB", true, 10)?;
@@ -240,6 +228,5 @@ fn check_parts(
 fn parts_of_the_subject(rt: HostRuntime) -> Result<(), Fail> {
     let mut table = Patterns::new(rt.alloc());
     let none = table.fail()?;
-    check_parts(&rt, rt.alloc(), &table, none)?;
-    Ok(())
+    check_parts(&rt, rt.alloc(), &table, none)
 }

@@ -9,7 +9,7 @@ use super::rows::check_blocks;
 use super::searches::{Search, all_events, check_same, check_stacks, table_of_words};
 use sno_match::SharedGoals;
 use sno_value::PatId;
-use std::alloc::{AllocError, Global};
+use std::alloc::Global;
 use std::process::Abort;
 use std::test::Fail;
 
@@ -128,8 +128,7 @@ fn compare_with(
 ) -> Result<(), Fail> {
     let (table, pattern) = table_of(alloc, forms)?;
     check_stacks(rt, alloc, &table, pattern, s, want)?;
-    check_plain(rt, alloc, forms, pattern, s, want)?;
-    Ok(())
+    check_plain(rt, alloc, forms, pattern, s, want)
 }
 
 /// Compares what the plain search tells with the events that are wanted.
@@ -140,7 +139,7 @@ fn check_plain(
     pattern: PatId,
     s: Search<'_>,
     want: &[Told],
-) -> Result<(), AllocError> {
+) -> Result<(), Fail> {
     let told = search_events(
         alloc, forms, pattern, s.subject, s.anchored, s.limit, s.answers,
     )?;

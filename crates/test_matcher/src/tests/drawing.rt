@@ -43,8 +43,7 @@ pub fn drawn_with(alloc: Global, event: Event, facts: &[usize]) -> Result<String
 
 /// The head of a pattern, as `ARBNO 0` or `. 0 7`.
 pub fn push_head(alloc: Global, text: &mut String, shape: Shape) -> Result<(), AllocError> {
-    push_facts(alloc, text, facts_of_shape(shape))?;
-    Ok(())
+    push_facts(alloc, text, facts_of_shape(shape))
 }
 
 fn push_pending(alloc: Global, text: &mut String, told: &Told) -> Result<(), AllocError> {
@@ -63,8 +62,7 @@ fn push_facts(alloc: Global, text: &mut String, facts: Facts) -> Result<(), Allo
     text.push_str(facts.word)?;
     push_number(alloc, text, facts.first)?;
     push_number(alloc, text, facts.second)?;
-    push_number(alloc, text, facts.third)?;
-    Ok(())
+    push_number(alloc, text, facts.third)
 }
 
 /// Adds a blank and a number, if there is one.

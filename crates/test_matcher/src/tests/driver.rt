@@ -7,6 +7,7 @@ use sno_pattern::Patterns;
 use sno_value::{PatId, Text};
 use std::alloc::{AllocError, Global};
 use std::process::Abort;
+use std::test::Fail;
 
 /// An event, how many steps were taken when it was told, and the pending list of the last way.
 #[derive(Drop)]
@@ -168,7 +169,7 @@ pub fn check_last<P: Points>(
     m: &mut Engine<P>,
     table: &Patterns,
     steps: u32,
-) -> Result<(), AllocError>
+) -> Result<(), Fail>
     requires table { m.old.nodes ≡ table.now }
     requires asked { m.old.waits ≡ false }
 {

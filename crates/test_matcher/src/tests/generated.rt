@@ -129,8 +129,7 @@ impl Chance {
 /// Compares what a match over either stack and the plain search tell of one pattern, and gives the number of events.
 fn compare(rt: &impl Abort, alloc: Global, chance: &mut Chance) -> Result<usize, Fail> {
     let forms = chance.forms(alloc)?;
-    let events = compare_answered(rt, alloc, chance, &forms)?;
-    Ok(events)
+    compare_answered(rt, alloc, chance, &forms)
 }
 
 /// The same of the last of some forms, in a search that looks like chance.
@@ -149,8 +148,7 @@ fn compare_answered(
         limit,
         answers: &answers,
     };
-    let events = compare_forms(rt, alloc, forms, s)?;
-    Ok(events)
+    compare_forms(rt, alloc, forms, s)
 }
 
 #[test]

@@ -7,7 +7,7 @@ use super::searches::{Search, table_of_words};
 use sno_match::{CopiedGoals, Engine, Event, Matcher, Points, SharedGoals};
 use sno_pattern::{BuildError, Patterns};
 use sno_value::{ExprId, PatId};
-use std::alloc::{AllocError, Global};
+use std::alloc::Global;
 use std::process::Abort;
 use std::test::Fail;
 
@@ -33,7 +33,7 @@ fn check_chain<P: Points>(
     alloc: Global,
     table: &Patterns,
     chain: PatId,
-) -> Result<(), AllocError>
+) -> Result<(), Fail>
     requires { chain.0 < length table.now }
 {
     let s = Search {
@@ -54,19 +54,14 @@ fn a_long_chain(rt: HostRuntime) -> Result<(), Fail> {
     let mut table = Patterns::new(rt.alloc());
     let chain = add_chain(&mut table)?;
     check_chain::<SharedGoals>(&rt, rt.alloc(), &table, chain)?;
-    check_chain::<CopiedGoals>(&rt, rt.alloc(), &table, chain)?;
-    Ok(())
+    check_chain::<CopiedGoals>(&rt, rt.alloc(), &table, chain)
 }
 
 /// How many bytes a long run has.
 const RUN: usize = 50_000;
 
 /// The first way is found in the whole run, and leaves few points and records.
-fn check_way<P: Points>(
-    rt: &impl Abort,
-    m: &mut Engine<P>,
-    table: &Patterns,
-) -> Result<(), AllocError>
+fn check_way<P: Points>(rt: &impl Abort, m: &mut Engine<P>, table: &Patterns) -> Result<(), Fail>
     requires table { m.old.nodes ≡ table.now }
     requires asked { m.old.waits ≡ false }
 {
@@ -82,13 +77,12 @@ fn check_cuts<P: Points>(
     alloc: Global,
     table: &Patterns,
     pattern: PatId,
-) -> Result<(), AllocError>
+) -> Result<(), Fail>
     requires { pattern.0 < length table.now }
 {
     let run = vec![in alloc; b'A'; RUN]?;
     let mut m = begin::<P>(alloc, table, pattern, &run, true, 1_000_000)?;
-    check_way(rt, &mut m, table)?;
-    Ok(())
+    check_way(rt, &mut m, table)
 }
 
 /// ARBNO(FENCE('A' | 'AA')) RPOS(0): a cut that was closed leaves no point, so that the stack doesn't grow with the
@@ -100,8 +94,7 @@ fn cuts_that_were_closed_leave_no_point(rt: HostRuntime) -> Result<(), Fail> {
         "TEXT:A TEXT:AA |:0,1 CUT:2 ARBNO:3 RPOS:0 &:4,5",
     )?;
     check_cuts::<SharedGoals>(&rt, rt.alloc(), &table, pattern)?;
-    check_cuts::<CopiedGoals>(&rt, rt.alloc(), &table, pattern)?;
-    Ok(())
+    check_cuts::<CopiedGoals>(&rt, rt.alloc(), &table, pattern)
 }
 
 /// How many times a pattern names itself.
@@ -149,8 +142,7 @@ fn name_itself(rt: &impl Abort, alloc: Global, table: &Patterns, pattern: PatId)
     requires { pattern.0 < length table.now }
 {
     let mut m: Matcher = begin(alloc, table, pattern, b"A", true, 3 * LEVELS)?;
-    check_levels(rt, &mut m, table, pattern)?;
-    Ok(())
+    check_levels(rt, &mut m, table, pattern)
 }
 
 /// Adds P = *P 'A' | 'A'.

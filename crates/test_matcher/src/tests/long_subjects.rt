@@ -36,8 +36,7 @@ fn check_ways<P: Points>(rt: &impl Abort, m: &mut Engine<P>, table: &Patterns) -
             return Err(Fail::from("a value is wanted"));
         }
     }
-    check_last(rt, m, table, STEPS_OF_REPETITIONS)?;
-    Ok(())
+    check_last(rt, m, table, STEPS_OF_REPETITIONS)
 }
 
 fn check_repetitions<P: Points>(

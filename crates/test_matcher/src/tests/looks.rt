@@ -8,7 +8,7 @@ use super::searches::{Search, compare_words, table_of_words};
 use sno_match::{Event, Matcher};
 use sno_pattern::{Arg, Looks, Patterns, Shape};
 use sno_value::{ExprId, PatId, Prim};
-use std::alloc::{AllocError, Global};
+use std::alloc::Global;
 use std::process::Abort;
 use std::test::Fail;
 
@@ -132,7 +132,7 @@ fn check_no_way(
     pattern: PatId,
     subject: &[u8],
     steps: u32,
-) -> Result<(), AllocError>
+) -> Result<(), Fail>
     requires { pattern.0 < length table.now }
 {
     let mut m: Matcher = begin(alloc, table, pattern, subject, false, 1_000_000)?;
@@ -148,8 +148,7 @@ fn check_long_run(
     steps: u32,
 ) -> Result<(), Fail> {
     let (table, pattern) = table_of_words(alloc, words)?;
-    check_no_way(rt, alloc, &table, pattern, subject, steps)?;
-    Ok(())
+    check_no_way(rt, alloc, &table, pattern, subject, steps)
 }
 
 /// Forms, and the steps by which they are found to have no way. At each start within the run three goals are entered:
@@ -197,7 +196,7 @@ fn check_ends(
     Ok(())
 }
 
-fn look(
+pub fn look(
     patterns: &Patterns,
     looks: &mut Looks,
     id: PatId,

@@ -20,8 +20,7 @@ pub fn events_over<P: Points>(
     requires { pattern.0 < length table.now }
 {
     let told = all_events::<P>(alloc, table, pattern, s)?;
-    let text = drawn_events(alloc, &told)?;
-    Ok(text)
+    drawn_events(alloc, &told)
 }
 
 /// The events of a pattern, which either stack tells.
@@ -49,8 +48,7 @@ impl Question for Matches {
     fn answer(alloc: Global, text: &'static str) -> Result<String, Fail> {
         let (s, words) = search_of(text)?;
         let (table, pattern) = table_of_words(alloc, words)?;
-        let text = events_of_both(alloc, &table, pattern, s)?;
-        Ok(text)
+        events_of_both(alloc, &table, pattern, s)
     }
 }
 

@@ -21,8 +21,7 @@ impl Question for Ends {
         let (at, subject) = parts(rest, " of ")?;
         let at: usize = at.parse()?;
         let (patterns, id) = table_of_words(alloc, words)?;
-        let text = ends_from(alloc, &patterns, id, subject.as_bytes(), at)?;
-        Ok(text)
+        ends_from(alloc, &patterns, id, subject.as_bytes(), at)
     }
 }
 
@@ -84,8 +83,7 @@ fn push_end(
         text.push_str(" but")?;
         push_number(alloc, text, behind)?;
     }
-    push_number(alloc, text, end)?;
-    Ok(())
+    push_number(alloc, text, end)
 }
 
 const COUNTS: &str = r"
@@ -167,8 +165,7 @@ impl Question for Places {
         let from: usize = from.parse()?;
         let until: usize = until.parse()?;
         let (patterns, id) = table_of_words(alloc, words)?;
-        let text = place_from(alloc, &patterns, id, subject.as_bytes(), from, until)?;
-        Ok(text)
+        place_from(alloc, &patterns, id, subject.as_bytes(), from, until)
     }
 }
 

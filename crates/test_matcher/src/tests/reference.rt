@@ -136,8 +136,7 @@ impl Search<'_> {
             return Ok(Verdict::Limit);
         }
         self.left -= 1;
-        let verdict = self.enter(first, rest, at, pending, depth - 1)?;
-        Ok(verdict)
+        self.enter(first, rest, at, pending, depth - 1)
     }
 
     #[cycle(reference)]
@@ -282,8 +281,7 @@ impl Search<'_> {
         depth: u32,
     ) -> Result<Verdict, AllocError> {
         let goals = joined(self.alloc, front, rest)?;
-        let verdict = self.search(&goals, at, pending, depth)?;
-        Ok(verdict)
+        self.search(&goals, at, pending, depth)
     }
 
     #[cycle(reference)]
@@ -300,8 +298,7 @@ impl Search<'_> {
         if let Some(stop) = self.next_try(verdict) {
             return Ok(stop);
         }
-        let verdict = self.search_behind(second, rest, at, pending, depth)?;
-        Ok(verdict)
+        self.search_behind(second, rest, at, pending, depth)
     }
 
     /// A cut, whose mark is the number of steps left behind its own.

@@ -318,9 +318,13 @@ fn count_growths(
 #[test]
 fn each_growth_is_refused_once(rt: HostRuntime) -> Result<(), Fail> {
     let mut table = Patterns::new(rt.alloc());
-    let choice = add_choice(&mut table)?;
+    check_each(&rt, &mut table, rt.alloc())
+}
+
+fn check_each(rt: &impl Abort, table: &mut Patterns, alloc: Global) -> Result<(), Fail> {
+    let choice = add_choice(table)?;
     let _third = table.arbno(choice)?;
-    let growths = count_growths(&rt, &mut table, choice, rt.alloc())?;
+    let growths = count_growths(rt, table, choice, alloc)?;
     assert_eq!(rt; growths, GROWTHS);
     Ok(())
 }

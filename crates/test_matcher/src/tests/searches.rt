@@ -59,8 +59,7 @@ pub fn all_events<P: Points>(
     requires { pattern.0 < length table.now }
 {
     let mut m = begin::<P>(alloc, table, pattern, s.subject, s.anchored, s.limit)?;
-    let told = events_of(alloc, &mut m, table, s.answers, 100_000)?;
-    Ok(told)
+    events_of(alloc, &mut m, table, s.answers, 100_000)
 }
 
 /// Whether two events are equal, with their counts and pending lists.
@@ -117,7 +116,7 @@ fn compare_over(
     pattern: PatId,
     forms: &[Form],
     s: Search<'_>,
-) -> Result<usize, AllocError>
+) -> Result<usize, Fail>
     requires { pattern.0 < length table.now }
 {
     let want = search_events(
@@ -135,8 +134,7 @@ pub fn compare_forms(
     s: Search<'_>,
 ) -> Result<usize, Fail> {
     let (table, pattern) = table_of(alloc, forms)?;
-    let events = compare_over(rt, alloc, &table, pattern, forms, s)?;
-    Ok(events)
+    compare_over(rt, alloc, &table, pattern, forms, s)
 }
 
 /// The same of the last form for which words stand.
@@ -147,6 +145,5 @@ pub fn compare_words(
     s: Search<'_>,
 ) -> Result<usize, Fail> {
     let forms = forms_of(alloc, words)?;
-    let events = compare_forms(rt, alloc, &forms, s)?;
-    Ok(events)
+    compare_forms(rt, alloc, &forms, s)
 }

@@ -173,7 +173,12 @@ const LARGE_EXPONENTS: &str = r"
 -9223372036854775808 ** 9223372036854775807 => overflow
 ";
 
+/// All blocks: behind a call a test is proved without their bytes.
+fn blocks() -> [&'static str; 3] {
+    [WORKED, EXTREMES, LARGE_EXPONENTS]
+}
+
 #[test]
 fn rows(rt: HostRuntime) -> Result<(), Fail> {
-    check_blocks::<Operations, _>(&rt, &[WORKED, EXTREMES, LARGE_EXPONENTS])
+    check_blocks::<Operations, _>(&rt, &blocks())
 }

@@ -89,40 +89,47 @@ impl Drawing {
         }
         self.nodes = self.nodes.saturating_add(1);
         match program.node(id) {
-            Node::Variable(name) => self.write_bytes(program.text(*name))?,
-            Node::Integer(value) => {
-                let digits = format!(in alloc; "{value}")?;
-                self.write(digits.as_str())?;
-            }
-            Node::Literal(text) => {
-                self.write("'")?;
-                self.write_bytes(program.text(*text))?;
-                self.write("'")?;
-            }
-            Node::Keyword(name) => {
-                self.write("&")?;
-                self.write_bytes(program.text(*name))?;
-            }
+            Node::Variable(name) => self.write_leaf("", program.text(*name), ""),
+            Node::Integer(value) => self.write_integer(alloc, *value),
+            Node::Literal(text) => self.write_leaf("'", program.text(*text), "'"),
+            Node::Keyword(name) => self.write_leaf("&", program.text(*name), ""),
             Node::Unary(operator, operand) => {
-                self.write(unary_sign(*operator))?;
-                self.plan(&[*operand])?;
+                self.begin_operands(unary_sign(*operator), b"", &[*operand])
             }
             Node::Binary(operator, left, right) => {
-                self.write(sign(*operator))?;
-                self.plan(&[*left, *right])?;
+                self.begin_operands(sign(*operator), b"", &[*left, *right])
             }
             Node::Call(name, arguments) => {
-                self.write("(call ")?;
-                self.write_bytes(program.text(*name))?;
-                self.plan(arguments.as_slice())?;
+                self.begin_operands("(call ", program.text(*name), arguments.as_slice())
             }
             Node::Item(name, subscripts) => {
-                self.write("(item ")?;
-                self.write_bytes(program.text(*name))?;
-                self.plan(subscripts.as_slice())?;
+                self.begin_operands("(item ", program.text(*name), subscripts.as_slice())
             }
         }
-        Ok(())
+    }
+
+    /// Writes a leaf between two signs.
+    fn write_leaf(&mut self, before: &str, bytes: &[u8], behind: &str) -> Result<(), AllocError> {
+        self.write(before)?;
+        self.write_bytes(bytes)?;
+        self.write(behind)
+    }
+
+    fn write_integer(&mut self, alloc: Global, value: i64) -> Result<(), AllocError> {
+        let digits = format!(in alloc; "{value}")?;
+        self.write(digits.as_str())
+    }
+
+    /// Writes a sign and a name, and plans the operands behind them.
+    fn begin_operands(
+        &mut self,
+        sign: &str,
+        name: &[u8],
+        operands: &[ExprId],
+    ) -> Result<(), AllocError> {
+        self.write(sign)?;
+        self.write_bytes(name)?;
+        self.plan(operands)
     }
 
     /// Writes the tree of an expression.
@@ -134,16 +141,27 @@ impl Drawing {
     ) -> Result<(), AllocError> {
         self.begin_node(alloc, program, root)?;
         'tasks: for _ in 0..100_000 {
-            match self.tasks.pop() {
-                None => break,
-                Some(Task::Close) => self.write(")")?,
-                Some(Task::Operand(id)) => {
-                    self.write(" ")?;
-                    self.begin_node(alloc, program, id)?;
-                }
-            }
+            let Some(task) = self.tasks.pop() else {
+                break;
+            };
+            self.write_task(alloc, program, task)?;
         }
         Ok(())
+    }
+
+    fn write_task(
+        &mut self,
+        alloc: Global,
+        program: &Program,
+        task: Task,
+    ) -> Result<(), AllocError> {
+        match task {
+            Task::Close => self.write(")"),
+            Task::Operand(id) => {
+                self.write(" ")?;
+                self.begin_node(alloc, program, id)
+            }
+        }
     }
 
     /// Writes a word and a tree, where there is one.
@@ -191,8 +209,7 @@ impl Drawing {
         if core.equals {
             self.write(" =")?;
         }
-        self.write_part(alloc, program, " object ", core.object)?;
-        Ok(())
+        self.write_part(alloc, program, " object ", core.object)
     }
 
     fn write_target(

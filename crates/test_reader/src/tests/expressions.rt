@@ -275,17 +275,19 @@ fn texts_of_no_expression(rt: HostRuntime) -> Result<(), Fail> {
     check_texts::<Expressions, _>(&rt, "snobol4: syntax 3 at line 1", TEXTS_OF_NO_EXPRESSION)
 }
 
+/// All blocks: behind a call a test is proved without their bytes.
+fn blocks() -> [&'static str; 6] {
+    [
+        PRIMARIES,
+        PARENTHESES_AND_BLANKS,
+        UNARY_OPERATORS,
+        SIGNS_BEHIND_A_BLANK,
+        GROUPING,
+        PRECEDENCE,
+    ]
+}
+
 #[test]
 fn rows(rt: HostRuntime) -> Result<(), Fail> {
-    check_blocks::<Expressions, _>(
-        &rt,
-        &[
-            PRIMARIES,
-            PARENTHESES_AND_BLANKS,
-            UNARY_OPERATORS,
-            SIGNS_BEHIND_A_BLANK,
-            GROUPING,
-            PRECEDENCE,
-        ],
-    )
+    check_blocks::<Expressions, _>(&rt, &blocks())
 }

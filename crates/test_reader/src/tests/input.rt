@@ -3,7 +3,7 @@ ghost use Rattle.std.specs.Prelude.{◌≡◌, None, false, true};
 
 use super::rows::{Question, check_rows};
 use sno_io::{Device, LineError, Lines, Source};
-use std::alloc::Global;
+use std::alloc::{AllocError, Global};
 use std::io::{self, ErrorKind, Read};
 use std::process::Abort;
 use std::test::Fail;
@@ -41,26 +41,27 @@ fn reader_of<'a>(rest: &'a [u8], at_once: usize, reads: usize) -> Device<Pieces<
     })
 }
 
-/// Tells the next line in brackets, `-` at the end, or the error; and what is held then in parentheses, where wanted.
-fn tell_next(
+/// The next line in brackets, `-` at the end, or the error.
+fn next_line(
     alloc: Global,
-    told: &mut String,
     lines: &mut Lines,
     device: &mut Device<Pieces<'_>>,
-    tells_held: bool,
-) -> Result<(), Fail>
+) -> Result<String, Fail>
     requires sound { lines.old.stopped ≡ None → device.old.has_failed ≡ false }
     requires same { lines.old.stopped ≡ None → lines.old.told_end ≡ true → device.old.told_end ≡ true }
     ensures sound { lines.new.stopped ≡ None → device.new.has_failed ≡ false }
     ensures same { lines.new.stopped ≡ None → lines.new.told_end ≡ true → device.new.told_end ≡ true }
 {
-    let line = line_text(alloc, lines.next(device))?;
-    told.push_str(line.as_str())?;
-    if tells_held {
-        told.push_str("(")?;
-        told.push_str(str::from_utf8(lines.held())?)?;
-        told.push_str(")")?;
-    }
+    let line = lines.next(device);
+    let text = line_text(alloc, line);
+    text
+}
+
+/// Adds what is held behind a line, in parentheses.
+fn push_held(told: &mut String, held: &[u8]) -> Result<(), Fail> {
+    told.push_str("(")?;
+    told.push_str(str::from_utf8(held)?)?;
+    told.push_str(")")?;
     Ok(())
 }
 
@@ -72,7 +73,8 @@ fn line_text(alloc: Global, line: Result<Option<Vec<u8>>, LineError>) -> Result<
     }
 }
 
-/// What is told of the first four calls, and how often the reader was asked; behind that `!` where it has failed.
+/// What is told of the first four calls, where wanted with what is held behind each, and how often the reader was asked;
+/// behind that `!` where it has failed.
 fn four_calls(
     alloc: Global,
     text: &[u8],
@@ -93,8 +95,7 @@ fn tell_lines(
     requires { device.old.has_failed ≡ false }
 {
     let mut lines = Lines::new(alloc);
-    let told = tell_four(alloc, &mut lines, device, tells_held)?;
-    Ok(told)
+    tell_four(alloc, &mut lines, device, tells_held)
 }
 
 fn tell_four(
@@ -108,7 +109,11 @@ fn tell_four(
 {
     let mut told = String::new(alloc);
     'calls: for _ in 0..4 {
-        tell_next(alloc, &mut told, lines, device, tells_held)?;
+        let line = next_line(alloc, lines, device)?;
+        told.push_str(line.as_str())?;
+        if tells_held {
+            push_held(&mut told, lines.held())?;
+        }
     }
     if Source::failed(device) {
         told.push_str("!")?;
@@ -123,14 +128,10 @@ struct Inputs;
 
 impl Question for Inputs {
     fn answer(alloc: Global, text: &[u8]) -> Result<String, Fail> {
-        let Some((sizes, text)) = str::from_utf8(text)?.split_once("|") else {
-            return Err(Fail::from("no sizes"));
-        };
+        let (sizes, text) = str::from_utf8(text)?.split_once("|").ok_or("no sizes")?;
         let mut told = String::new(alloc);
         for size in sizes.split_whitespace() {
-            let size: usize = size.parse()?;
-            let reads = text.len().div_ceil(size.clamp(1, 100)).saturating_add(1);
-            let (lines, _) = four_calls(alloc, text.as_bytes(), size, reads, false)?;
+            let lines = lines_at_once(alloc, text.as_bytes(), size)?;
             if !told.is_empty() && told != lines {
                 return Err(Fail::from("other lines"));
             }
@@ -138,6 +139,14 @@ impl Question for Inputs {
         }
         Ok(told)
     }
+}
+
+/// What is told where so many bytes come at once.
+fn lines_at_once(alloc: Global, text: &[u8], size: &str) -> Result<String, Fail> {
+    let size: usize = size.parse()?;
+    let reads = text.len().div_ceil(size.clamp(1, 100)).saturating_add(1);
+    let (lines, _) = four_calls(alloc, text, size, reads, false)?;
+    Ok(lines)
 }
 
 /// Gives lines.
@@ -156,16 +165,30 @@ const LINES: &str = r"
 ";
 
 /// What is told of `size` letters of which that at the place is a line feed, or none where the place is behind them.
-fn two_lines(alloc: Global, size: usize, place: usize) -> Result<String, Fail> {
+fn two_lines(alloc: Global, size: usize, place: usize) -> Result<String, AllocError> {
+    let mut told = String::new(alloc);
     if size == 0 {
-        return Ok(String::from_str(alloc, "----")?);
+        told.push_str("----")?;
+        return Ok(told);
     }
-    let first = "x".repeat(alloc, place.min(size))?;
+    push_line(&mut told, place.min(size))?;
     if place.saturating_add(1) >= size {
-        return Ok(format!(in alloc; "[{first}]---")?);
+        told.push_str("---")?;
+        return Ok(told);
     }
-    let second = "x".repeat(alloc, size.saturating_sub(place).saturating_sub(1))?;
-    Ok(format!(in alloc; "[{first}][{second}]--")?)
+    push_line(&mut told, size.saturating_sub(place).saturating_sub(1))?;
+    told.push_str("--")?;
+    Ok(told)
+}
+
+/// Adds a line of so many letters.
+fn push_line(told: &mut String, letters: usize) -> Result<(), AllocError> {
+    told.push_str("[")?;
+    for _ in 0..letters {
+        told.push_str("x")?;
+    }
+    told.push_str("]")?;
+    Ok(())
 }
 
 /// A line feed at each place of so many letters, and none, where so many bytes come at once.
@@ -198,13 +221,22 @@ struct Reads;
 
 impl Question for Reads {
     fn answer(alloc: Global, text: &[u8]) -> Result<String, Fail> {
-        let mut words = str::from_utf8(text)?.split("|");
-        let at_once: usize = words.next().unwrap_or("").parse()?;
-        let reads: usize = words.next().unwrap_or("").parse()?;
-        let text = words.next().unwrap_or("").as_bytes();
-        let (told, asked) = four_calls(alloc, text, at_once, reads, true)?;
-        Ok(format!(in alloc; "{told} {asked}")?)
+        let (at_once, rest) = str::from_utf8(text)?.split_once("|").ok_or("no size")?;
+        let (reads, text) = rest.split_once("|").ok_or("no number of reads")?;
+        let at_once: usize = at_once.parse()?;
+        let reads: usize = reads.parse()?;
+        told_and_asked(alloc, text.as_bytes(), at_once, reads)
     }
+}
+
+fn told_and_asked(
+    alloc: Global,
+    text: &[u8],
+    at_once: usize,
+    reads: usize,
+) -> Result<String, Fail> {
+    let (told, asked) = four_calls(alloc, text, at_once, reads, true)?;
+    Ok(format!(in alloc; "{told} {asked}")?)
 }
 
 /// Holds what was read.

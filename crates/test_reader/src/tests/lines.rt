@@ -116,17 +116,19 @@ L OUTPUT = INPUT :S(L)F(END)\nEND => 2 statements, 2 nodes
 L OUTPUT = INPUT :S(L)F(END)\nEND\n => 2 statements, 2 nodes
 ";
 
+/// All blocks: behind a call a test is proved without their bytes.
+fn blocks() -> [&'static str; 5] {
+    [
+        SKIPPED_LINES,
+        CONTINUED_LINES,
+        CUT_LINES,
+        REFUSED_LINES,
+        OPEN_LITERALS,
+    ]
+}
+
 #[test]
 fn rows(rt: HostRuntime) -> Result<(), Fail> {
-    check_blocks::<Programs, _>(
-        &rt,
-        &[
-            SKIPPED_LINES,
-            CONTINUED_LINES,
-            CUT_LINES,
-            REFUSED_LINES,
-            OPEN_LITERALS,
-        ],
-    )?;
+    check_blocks::<Programs, _>(&rt, &blocks())?;
     check_rows::<Sizes, _>(&rt, CUT_PROGRAMS)
 }

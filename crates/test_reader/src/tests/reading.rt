@@ -3,7 +3,7 @@ use super::drawing::Drawing;
 use super::rows::Question;
 use sno_text::{Program, ReadError, read_expression, read_program};
 use sno_value::ExprId;
-use std::alloc::{AllocError, Global};
+use std::alloc::Global;
 use std::test::Fail;
 
 /// The tree of an expression. No statement is written behind it, since its program has none.
@@ -13,13 +13,13 @@ pub struct Expressions;
 impl Question for Expressions {
     fn answer(alloc: Global, text: &[u8]) -> Result<String, Fail> {
         match read_expression(alloc, text) {
-            Ok((program, root)) => Ok(drawn_expression(alloc, &program, root)?),
+            Ok((program, root)) => drawn_expression(alloc, &program, root),
             Err(error) => refusal(alloc, error),
         }
     }
 }
 
-fn drawn_expression(alloc: Global, program: &Program, root: ExprId) -> Result<String, AllocError> {
+fn drawn_expression(alloc: Global, program: &Program, root: ExprId) -> Result<String, Fail> {
     let mut drawing = Drawing::new(alloc);
     drawing.write_tree(alloc, program, root)?;
     drawing.write_program(alloc, program)?;
@@ -33,13 +33,13 @@ pub struct Programs;
 impl Question for Programs {
     fn answer(alloc: Global, text: &[u8]) -> Result<String, Fail> {
         match read_program(alloc, text) {
-            Ok(program) => Ok(drawn_program(alloc, &program)?),
+            Ok(program) => drawn_program(alloc, &program),
             Err(error) => refusal(alloc, error),
         }
     }
 }
 
-fn drawn_program(alloc: Global, program: &Program) -> Result<String, AllocError> {
+fn drawn_program(alloc: Global, program: &Program) -> Result<String, Fail> {
     let mut drawing = Drawing::new(alloc);
     drawing.write_program(alloc, program)?;
     Ok(drawing.text)

@@ -267,20 +267,22 @@ fn no_memory(rt: HostRuntime) -> Result<(), Fail> {
     Ok(())
 }
 
+/// All blocks: behind a call a test is proved without their bytes.
+fn blocks() -> [&'static str; 8] {
+    [
+        SINGLE_REFUSALS,
+        PAIRS_IN_ONE_STATEMENT,
+        REFUSALS_WITHOUT_END,
+        PAIRS_OF_STATEMENTS,
+        STATEMENT_AND_SHAPE,
+        STATEMENT_AND_LABELS,
+        LAST_STATEMENT_ALLOWED,
+        LAST_BYTE_ALLOWED,
+    ]
+}
+
 #[test]
 fn rows(rt: HostRuntime) -> Result<(), Fail> {
-    check_blocks::<Sizes, _>(
-        &rt,
-        &[
-            SINGLE_REFUSALS,
-            PAIRS_IN_ONE_STATEMENT,
-            REFUSALS_WITHOUT_END,
-            PAIRS_OF_STATEMENTS,
-            STATEMENT_AND_SHAPE,
-            STATEMENT_AND_LABELS,
-            LAST_STATEMENT_ALLOWED,
-            LAST_BYTE_ALLOWED,
-        ],
-    )?;
+    check_blocks::<Sizes, _>(&rt, &blocks())?;
     check_rows::<Nodes, _>(&rt, PAIRS_IN_ONE_EXPRESSION)
 }

@@ -277,7 +277,12 @@ fn labels_and_spans(rt: HostRuntime) -> Result<(), Fail> {
     Ok(())
 }
 
+/// All blocks: behind a call a test is proved without their bytes.
+fn blocks() -> [&'static str; 3] {
+    [LABELS_AND_CORES, GOTOS, ENDS]
+}
+
 #[test]
 fn rows(rt: HostRuntime) -> Result<(), Fail> {
-    check_blocks::<Programs, _>(&rt, &[LABELS_AND_CORES, GOTOS, ENDS])
+    check_blocks::<Programs, _>(&rt, &blocks())
 }

@@ -3,6 +3,7 @@ use super::integers::integer;
 use super::rows::{Question, check_blocks};
 use sno_value::{TextError, dupl, lgt, replace, trim};
 use std::alloc::{AllocError, Global};
+use std::process::Abort;
 use std::test::Fail;
 
 /// What a function gives of the texts behind its name, with `|` between them: a text in brackets, or none, how it is
@@ -140,19 +141,28 @@ LGT|\<65:A\>|\<65:A\> => false
 #[test]
 fn every_byte(rt: HostRuntime) -> Result<(), Fail> {
     for byte in 0..=u8::MAX {
-        let kept = if byte == 32 { 0 } else { 1 };
-        assert!(rt;
-            trim(&[byte]).len() == kept && trim(&[byte, 32]).len() == kept,
-            "byte {byte}"
-        );
+        check_trimmed(&rt, byte);
         assert!(rt; lgt(&[byte], &[127]) == (byte > 127), "byte {byte}");
-        let other = byte ^ 255;
-        let replaced = replace(rt.alloc(), &[byte, other], &[byte], &[7])?;
-        assert!(rt;
-            replaced.as_deref() == Some([7, other].as_slice()),
-            "byte {byte}"
-        );
+        check_replaced(&rt, rt.alloc(), byte)?;
     }
+    Ok(())
+}
+
+fn check_trimmed(rt: &impl Abort, byte: u8) {
+    let kept = if byte == 32 { 0 } else { 1 };
+    assert!(rt;
+        trim(&[byte]).len() == kept && trim(&[byte, 32]).len() == kept,
+        "byte {byte}"
+    );
+}
+
+fn check_replaced(rt: &impl Abort, alloc: Global, byte: u8) -> Result<(), TextError> {
+    let other = byte ^ 255;
+    let replaced = replace(alloc, &[byte, other], &[byte], &[7])?;
+    assert!(rt;
+        replaced.as_deref() == Some([7, other].as_slice()),
+        "byte {byte}"
+    );
     Ok(())
 }
 
@@ -164,7 +174,12 @@ fn no_memory(rt: HostRuntime) -> Result<(), Fail> {
     Ok(())
 }
 
+/// All blocks: behind a call a test is proved without their bytes.
+fn blocks() -> [&'static str; 4] {
+    [TRIMMED, COPIES, REPLACED, COMPARED]
+}
+
 #[test]
 fn rows(rt: HostRuntime) -> Result<(), Fail> {
-    check_blocks::<Calls, _>(&rt, &[TRIMMED, COPIES, REPLACED, COMPARED])
+    check_blocks::<Calls, _>(&rt, &blocks())
 }

@@ -17,22 +17,32 @@ fn is_equal(a: &Value, b: &Value) -> bool
 
 #[test]
 fn compares_values(rt: HostRuntime) -> Result<(), Fail> {
-    let one = Value::Str(Text::from_slice(rt.alloc(), b"1")?);
-    let null = Value::null();
-    let values = [
-        one,
-        null,
-        Value::Int(1),
-        Value::Int(0),
-        Value::Pat(PatId(1)),
-        Value::Array(ObjId(1)),
-        Value::Table(ObjId(1)),
-    ];
-    for (i, a) in values.iter().enumerate() {
-        for (j, b) in values.iter().enumerate() {
-            assert!(rt; is_equal(a, b) == (i == j), "{i} {j}");
+    for i in 0..7u32 {
+        for j in 0..7u32 {
+            check_equal(&rt, rt.alloc(), i, j)?;
         }
     }
+    Ok(())
+}
+
+/// One of seven different values.
+fn value(alloc: Global, number: u32) -> Result<Value, AllocError> {
+    let value = match number {
+        0 => Value::Str(Text::from_slice(alloc, b"1")?),
+        1 => Value::null(),
+        2 => Value::Int(1),
+        3 => Value::Int(0),
+        4 => Value::Pat(PatId(1)),
+        5 => Value::Array(ObjId(1)),
+        _ => Value::Table(ObjId(1)),
+    };
+    Ok(value)
+}
+
+fn check_equal(rt: &impl Abort, alloc: Global, i: u32, j: u32) -> Result<(), AllocError> {
+    let a = value(alloc, i)?;
+    let b = value(alloc, j)?;
+    assert!(rt; is_equal(&a, &b) == (i == j), "{i} {j}");
     Ok(())
 }
 
@@ -52,16 +62,18 @@ fn copies_names(rt: HostRuntime) -> Result<(), Fail> {
 
 #[test]
 fn copies_numbers(rt: HostRuntime) -> Result<(), Fail> {
-    let values = [
-        Value::Int(i64::MIN),
-        Value::Pat(PatId(7)),
-        Value::Expr(ExprId(8)),
-        Value::Array(ObjId(0)),
-        Value::Table(ObjId(0)),
-    ];
-    for value in &values {
-        assert_eq!(rt; value.copy()?, *value);
-    }
+    check_value(&rt, &Value::Int(i64::MIN))?;
+    check_value(&rt, &Value::Pat(PatId(7)))?;
+    check_value(&rt, &Value::Expr(ExprId(8)))?;
+    check_value(&rt, &Value::Array(ObjId(0)))?;
+    check_value(&rt, &Value::Table(ObjId(0)))?;
+    Ok(())
+}
+
+/// Compares a value with its copy.
+fn check_value(rt: &impl Abort, value: &Value) -> Result<(), AllocError> {
+    let copy = value.copy()?;
+    assert_eq!(rt; copy, *value);
     Ok(())
 }
 
@@ -210,8 +222,14 @@ const LETTERS: &[u8] = b"abcdefghijklmnopqrstuvwxyzabcdef";
 fn appends_to_one_of_many(rt: HostRuntime) -> Result<(), Fail> {
     let mut whole = Text::from_slice(rt.alloc(), LETTERS)?;
     whole.append(rt.alloc(), b"gh")?;
+    check_copied(&rt, rt.alloc(), &mut whole)
+}
+
+fn check_copied(rt: &impl Abort, alloc: Global, whole: &mut Text) -> Result<(), Fail>
+    requires { 34 ≤ length whole.old }
+{
     let copy = whole.copy()?;
-    check_first(&rt, rt.alloc(), &mut whole)?;
+    check_first(rt, alloc, whole)?;
     assert!(rt; copy.as_slice() == b"abcdefghijklmnopqrstuvwxyzabcdefgh".as_slice());
     Ok(())
 }
