@@ -6,31 +6,18 @@
 #![tactic(auto)]
 
 ghost use Rattle.std.specs.Borrow.{Bor};
-ghost use Rattle.std.specs.Prelude.{◌≡◌, ◌≤◌, ◌<◌, [], List, ℕ, true, false, Option, None, Some, IfSome, IsSome};
+ghost use Rattle.std.specs.Prelude.{◌≡◌, ◌≤◌, ◌<◌, [], List, ℕ, true, false, None};
 ghost use Rattle.std.specs.Str.{IsUtf8};
 ghost use Rattle.sno_io.specs.declared.jobs.Job.TheVariants as job;
-ghost use Rattle.snobol4_c.specs.Calls.{IsDoneIn, IsListedIn, IsRefusedIn};
-ghost use Rattle.snobol4_c.specs.Searches.{GivesIn, IsBegunIn, IsNotBegunIn, IsNothingIn};
+ghost use Rattle.sno_calls.specs.Calls.{IsDoneIn, IsListedIn, IsRefusedIn};
+ghost use Rattle.sno_calls.specs.Searches.{GivesIn, IsBegunIn, IsNotBegunIn, IsNothingIn};
 
-mod handle;
-mod input;
-mod listing;
-mod loose;
-mod room;
-mod search;
 #[cfg(test)]
 mod tests;
-mod work;
 
-pub use handle::Handle;
-use listing::tell_listing;
-use loose::Loose;
-pub use search::Search;
-use search::begin;
+use sno_calls::{Matcher, Told, begin, obey, refuse, tell_listing};
 use snobol::{Job, Limits};
 use std::alloc::Global;
-use std::mem::replace;
-use work::{obey, refuse};
 
 /// The most statements of a run.
 const MOST_STATEMENTS: u64 = 1_000_000_000_000;
@@ -40,64 +27,6 @@ const MOST_STEPS: u32 = 1_000_000_000;
 
 /// The greatest number of a statement.
 const MOST_NUMBER: u32 = 100_000;
-
-/// How a call ended.
-#[repr(C)]
-#[derive(Drop)]
-pub struct Told {
-    /// The status of the program whose job was done, 64 for a call that was given what it may not be given.
-    pub status: u32,
-    /// How many bytes of the output were written.
-    pub written: usize,
-    /// How many bytes were written of the line that tells what went wrong.
-    pub told: usize,
-}
-
-/// A listing that stays from call to call, or none: before the first call it is all zeros. It isn't `Drop`, so no call can
-/// let go of a listing but by taking it out.
-#[repr(C)]
-pub struct Matcher {
-    /// The listing's address.
-    handle: Handle,
-    /// Whether there is one.
-    held: bool,
-    ghost live: { held ≡ true → IsSome handle.value },
-    ghost free: { held ≡ false → handle.value ≡ None },
-}
-
-impl Matcher {
-    /// Takes the listing out, which leaves none.
-    fn take(&mut self, alloc: Global) -> Option<Box<Search>>
-        ensures none { result ≡ None → self.old.held ≡ false }
-        ensures some { IfSome result (λ search. (self.old.held ≡ true) × (self.old.handle.value ≡ Some search.value)) }
-        ensures left { self.new.held ≡ false }
-    {
-        let none = Matcher {
-            handle: Handle::none(),
-            held: false,
-        };
-        let Matcher { handle, held } = replace(self, none);
-        if !held {
-            handle.gone();
-            return None;
-        }
-        Some(handle.into_loose(alloc).into_box())
-    }
-
-    /// Puts a listing in the place of none.
-    fn put(&mut self, search: Box<Search>)
-        requires { self.old.held ≡ false }
-        ensures held { self.new.held ≡ true }
-        ensures value { self.new.handle.value ≡ Some search.value }
-    {
-        let some = Matcher {
-            handle: Handle::of(Loose::of(search)),
-            held: true,
-        };
-        let Matcher { handle, held: _ } = replace(self, some);
-        handle.gone();
-    }
-}
 
 /// Begins a listing that stays, of what `snobol4_ways` lists. Status 0 where there is one, which `snobol4_matcher_next` tells
 /// and `snobol4_matcher_free` lets go; else the matcher holds none. What it held before is let go.

@@ -1,7 +1,8 @@
 //! Calls with ample room, with little and with none.
 mod matchers;
 
-use crate::{Told, snobol4_check, snobol4_list, snobol4_run, snobol4_ways};
+use crate::{snobol4_check, snobol4_list, snobol4_run, snobol4_ways};
+use sno_calls::Told;
 use std::alloc::Global;
 use std::process::Abort;
 

@@ -1,5 +1,5 @@
 use Rattle.std.proofs.Common.{rules}
-use Rattle.snobol4_c.specs.Searches.{begun_is, ended_is}
+use Rattle.sno_calls.specs.Searches.{begun_is, ended_is}
 use Rattle.snobol4_c.proofs.snobol4_matcher_new.Goals as goal
 
 -- the listing that was begun

@@ -1,6 +1,6 @@
 use Rattle.std.proofs.Common.{rules, subst}
-use Rattle.snobol4_c.specs.Searches.{Gives}
-use Rattle.snobol4_c.specs.declared.search.Search.{Search}
+use Rattle.sno_calls.specs.Searches.{Gives}
+use Rattle.sno_calls.specs.declared.search.Search.{Search}
 use Rattle.snobol4_c.proofs.snobol4_matcher_next.Goals as goal
 
 -- what the listing gave that is held

@@ -2,7 +2,8 @@
 ghost use Rattle.std.specs.Prelude.{◌≤◌};
 
 use super::{AMPLE, UNTOUCHED, check, unasked};
-use crate::{Handle, Matcher, snobol4_matcher_free, snobol4_matcher_new, snobol4_matcher_next};
+use crate::{snobol4_matcher_free, snobol4_matcher_new, snobol4_matcher_next};
+use sno_calls::{Handle, Matcher};
 use std::alloc::Global;
 use std::process::Abort;
 
