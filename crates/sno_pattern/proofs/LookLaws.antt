@@ -17,6 +17,9 @@ use Rattle.sno_pattern.specs.inner.Kinds.{node_of, nodes_of, IsTable}
 use Rattle.sno_pattern.specs.declared.kind.Entry.{Entry}
 use Rattle.sno_pattern.specs.declared.kind.Kind.{Kind}
 use Rattle.sno_pattern.specs.declared.kind.Kind.TheVariants as K
+use Rattle.sno_pattern.specs.declared.comparisons.Comparison.{Comparison}
+use Rattle.sno_pattern.specs.Compared.{Compared, AreCompared, IsTrueComparison}
+use Rattle.sno_pattern.specs.inner.Compared.{none_compared}
 use Rattle.sno_pattern.specs.Looks.{IsTrueRun, Found, AreTrueRuns, AreTrue}
 use Rattle.sno_pattern.specs.inner.Looks.{found_of, AreEarlier, AreBefore, HaveNoCursor}
 use Rattle.sno_pattern.specs.declared.looks.Run.{Run}
@@ -125,6 +128,18 @@ grown_run nodes more s run is = record {
 grown_runs : (nodes more : List Node) (s : List ℕ) (turn : ℕ) (runs : List Run) → AreTrueRuns nodes s turn runs → AreTrueRuns (nodes ++ more) s turn runs
 grown_runs nodes more s turn runs are = record { each = λ place other h told. grown_run nodes more s (get_or runs place other) (are.each place other h told) }
 
+grown_comparison : (nodes more : List Node) (s : List ℕ) (told : Comparison) → IsTrueComparison nodes s told → IsTrueComparison (nodes ++ more) s told
+grown_comparison nodes more s told is = record {
+  known = λ some. omega (arith, length-append nodes more, is.known some);
+  agrees = λ some text stands. is.agrees some text (sym (tree-append nodes more told.id.0 (is.known some)) ∙ stands);
+}
+
+grown_compared : (nodes more : List Node) (s : List ℕ) (compared : Compared) → AreCompared nodes s compared → AreCompared (nodes ++ more) s compared
+grown_compared nodes more s compared are = record {
+  texts = record { each = λ place other h. grown_comparison nodes more s (get_or compared.texts place other) (are.texts.each place other h) };
+  periods = are.periods;
+}
+
 pub true_grown : (nodes more : List Node) (s : List ℕ) (found : Found) → AreTrue nodes s found → AreTrue (nodes ++ more) s found
 true_grown nodes more s found are = record {
   places = are.places;
@@ -132,20 +147,29 @@ true_grown nodes more s found are = record {
   more = grown_runs nodes more s found.turn found.more are.more;
   balance = are.balance;
   present = are.present;
+  compared = grown_compared nodes more s found.compared are.compared;
 }
 
 -- where nothing is told of the subject, all that is remembered is true
 earlier_true : (nodes : List Node) (s : List ℕ) (turn : ℕ) (runs : List Run) → AreEarlier turn runs → AreTrueRuns nodes s turn runs
 earlier_true nodes s turn runs earlier = record { each = λ place other h told. absurd (omega (arith, told, earlier.each place other h)) }
 
-pub empty_true : (runs more : List Run) (turn : ℕ) (first_ends : List ℕ) (present : List (List (List ℕ))) → AreBefore turn runs → AreEarlier turn more
-    → first_ends ≡ [] → present ≡ [] → (nodes : List Node) (s : List ℕ) → AreTrue nodes s (found_of runs more turn first_ends present)
-empty_true runs more turn first_ends present before earlier none absent nodes s = record {
+pub none_true : (compared : Compared) → compared ≡ none_compared → (nodes : List Node) (s : List ℕ) → AreCompared nodes s compared
+none_true compared none nodes s = record {
+  texts = record { each = λ place other h. absurd (omega (arith, h, ap (λ (c : Compared). length c.texts) none)) };
+  periods = record { each = λ place other h. absurd (omega (arith, h, ap (λ (c : Compared). length c.periods) none)) };
+}
+
+pub empty_true : (runs more : List Run) (turn : ℕ) (first_ends : List ℕ) (present : List (List (List ℕ))) (compared : Compared) → AreBefore turn runs
+    → AreEarlier turn more → first_ends ≡ [] → present ≡ [] → compared ≡ none_compared →
+    (nodes : List Node) (s : List ℕ) → AreTrue nodes s (found_of runs more turn first_ends present compared)
+empty_true runs more turn first_ends present compared before earlier none absent fresh nodes s = record {
   places = before.places;
   runs = earlier_true nodes s turn runs before.earlier;
   more = earlier_true nodes s turn more earlier;
   balance = record { made = λ some. absurd (omega (arith, some, ap length none)) };
   present = record { each = λ level h. absurd (omega (arith, h, ap length absent)) };
+  compared = none_true compared fresh nodes s;
 }
 
 pub still_earlier : (turn : ℕ) (runs : List Run) → AreEarlier turn runs → AreEarlier (turn + 1) runs
@@ -170,7 +194,7 @@ no_cursor_true nodes s turn runs have = record {
 pub no_cursor_earlier : (turn : ℕ) (runs : List Run) → HaveNoCursor runs → AreEarlier (turn + 1) runs
 no_cursor_earlier turn runs have = record { each = λ place other h. omega (arith, have.turn place other h) }
 
-same_or_not : (i j : ℕ) → (i ≡ j) ⊎ (i ≢ j)
+pub same_or_not : (i j : ℕ) → (i ≡ j) ⊎ (i ≢ j)
 same_or_not zero zero = inl refl
 same_or_not zero (suc j) = inr (λ e. omega arith)
 same_or_not (suc i) zero = inr (λ e. omega arith)
@@ -207,23 +231,24 @@ runs_put nodes s runs turn place run are is = record {
       (same_or_not place at);
 }
 
-pub true_put : (nodes : List Node) (s first_ends : List ℕ) (present : List (List (List ℕ))) (runs more : List Run) (turn place : ℕ) (run : Run) →
-    AreTrue nodes s (found_of runs more turn first_ends present) → IsTrueRun nodes s run →
-    AreTrue nodes s (found_of (slice_set runs place run) more turn first_ends present)
-true_put nodes s first_ends present runs more turn place run are is = record {
+pub true_put : (nodes : List Node) (s first_ends : List ℕ) (present : List (List (List ℕ))) (compared : Compared) (runs more : List Run) (turn place : ℕ)
+    (run : Run) → AreTrue nodes s (found_of runs more turn first_ends present compared) → IsTrueRun nodes s run →
+    AreTrue nodes s (found_of (slice_set runs place run) more turn first_ends present compared)
+true_put nodes s first_ends present compared runs more turn place run are is = record {
   places = length-set runs place run ∙ are.places;
   runs = runs_put nodes s runs turn place run are.runs is;
   more = are.more;
   balance = are.balance;
   present = are.present;
+  compared = are.compared;
 }
 
 -- other runs that are true in the place of more
-pub true_more : (nodes : List Node) (s first_ends : List ℕ) (present : List (List (List ℕ))) (runs more others : List Run) (turn : ℕ) →
-    AreTrue nodes s (found_of runs more turn first_ends present) → AreTrueRuns nodes s turn others
-    → AreTrue nodes s (found_of runs others turn first_ends present)
-true_more nodes s first_ends present runs more others turn are is =
-    record { places = are.places; runs = are.runs; more = is; balance = are.balance; present = are.present }
+pub true_more : (nodes : List Node) (s first_ends : List ℕ) (present : List (List (List ℕ))) (compared : Compared) (runs more others : List Run) (turn : ℕ) →
+    AreTrue nodes s (found_of runs more turn first_ends present compared) → AreTrueRuns nodes s turn others
+    → AreTrue nodes s (found_of runs others turn first_ends present compared)
+true_more nodes s first_ends present compared runs more others turn are is =
+    record { places = are.places; runs = are.runs; more = is; balance = are.balance; present = are.present; compared = are.compared }
 
 -- a run is as true of whatever subject it is told, and by whatever key it is looked up
 pub told_now : (nodes : List Node) (s : List ℕ) (run : Run) (turn key : ℕ) → IsTrueRun nodes s run
@@ -236,11 +261,11 @@ pub runs_tell : (nodes : List Node) (s : List ℕ) (runs : List Run) (turn place
     (get_or runs place other).end ≡ end_of (tree nodes (get_or runs place other).id.0) s at 0
 runs_tell nodes s runs turn place other at are h told low high = sym ((are.each place other h told).ends at low high)
 
-pub run_tells : (nodes : List Node) (s first_ends : List ℕ) (present : List (List (List ℕ))) (runs more : List Run) (turn : ℕ) (found : Found)
-    (place : ℕ) (other : Run) (at : ℕ) → found_of runs more turn first_ends present ≡ found → AreTrue nodes s found → place < 32 → (get_or runs place other).turn ≡ turn →
+pub run_tells : (nodes : List Node) (s first_ends : List ℕ) (present : List (List (List ℕ))) (compared : Compared) (runs more : List Run) (turn : ℕ)
+    (found : Found) (place : ℕ) (other : Run) (at : ℕ) → found_of runs more turn first_ends present compared ≡ found → AreTrue nodes s found → place < 32 → (get_or runs place other).turn ≡ turn →
     (get_or runs place other).from ≤ at → at ≤ (get_or runs place other).until → (get_or runs place other).end
     ≡ end_of (tree nodes (get_or runs place other).id.0) s at 0
-run_tells nodes s first_ends present runs more turn found place other at is are h told low high =
+run_tells nodes s first_ends present compared runs more turn found place other at is are h told low high =
     let known = subst (AreTrue nodes s) (sym is) are in
     runs_tell nodes s runs turn place other at known.runs (omega (arith, known.places, h)) told low high
 

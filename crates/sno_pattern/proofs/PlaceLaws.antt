@@ -120,6 +120,25 @@ pub first_byte : (text s : List ℕ) (c : ℕ) → (length text == 0) ≡ false 
 first_byte [] s c some h = absurd (true_or_false (sym (eq-eqb 0 0 refl) ∙ some))
 first_byte (byte ∷ rest) s c some h = text_begins byte rest s c h
 
+-- a text of one byte stands where that byte does
+module _ (byte : ℕ) where
+  one_stands : (s : List ℕ) (c k : ℕ) → is_some (slice_get (end_after (λ b. b == byte) (slice_get s c) k) 0) ≡ starts_with nat_eq (drop c s) (byte ∷ [])
+  one_stands [] zero k = refl
+  one_stands [] (suc c) k = refl
+  one_stands (x ∷ s) zero k = end_if-some (x == byte) (k + 1) ∙ go (x == byte) refl
+    where
+      go : (t : Bool) → (x == byte) ≡ t → t ≡ starts_with nat_eq (x ∷ s) (byte ∷ [])
+      go true is = let same : nat_eq byte x ≡ true = turned byte x ∙ is in rw same refl
+      go false is =
+          let apart : nat_eq byte x ≡ false = ne_eqb byte x (λ e. true_or_false (sym (eq-eqb x byte (sym e)) ∙ is)) in
+          rw apart refl
+  one_stands (x ∷ s) (suc c) k = one_stands s c k
+
+pub one_byte : (text s : List ℕ) (c : ℕ) → length text ≡ 1 → byte_passes (λ b. b == slice_index text 0) s c ≡ leaf_has_end (Text text) s c
+one_byte [] s c one = absurd (omega arith)
+one_byte (byte ∷ []) s c one = one_stands byte s c c ∙ sym (end_if-some (starts_with nat_eq (drop c s) (byte ∷ [])) (c + 1))
+one_byte (byte ∷ next ∷ rest) s c one = absurd (omega arith)
+
 module _ (text s : List ℕ) (some : (length text == 0) ≡ false) (until : ℕ) where
   -- before the first place of its first byte there stands no text
   pub text_first : (from next : ℕ) → IsFirstPlace (byte_passes (λ b. b == slice_index text 0) s) from until next → (c : ℕ) → from ≤ c → c < next

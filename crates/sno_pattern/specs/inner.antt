@@ -1,3 +1,4 @@
+pub mod Compared
 pub mod Kinds
 pub mod Lanes
 pub mod Looks

@@ -42,7 +42,9 @@ impl Balance {
     pub(crate) fn clear(&mut self)
         ensures { self.new ≡ [] }
     {
-        self.table = Vec::new(self.alloc);
+        if !self.table.is_empty() {
+            self.table = Vec::new(self.alloc);
+        }
         self.looked = 0;
     }
 

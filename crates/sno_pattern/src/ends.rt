@@ -1,5 +1,5 @@
 //! Where a primitive ends.
-ghost use Rattle.std.specs.Prelude.{◌≡◌, ℕ, ◌≤◌, ◌+◌, length, slice_get, IsTrue, List, None, Some, nat_eq};
+ghost use Rattle.std.specs.Prelude.{◌≡◌, ℕ, ◌≤◌, ◌<◌, ◌+◌, length, slice_get, IsTrue, List, None, Some, false, nat_eq};
 ghost use Rattle.std.specs.List.{starts_with};
 ghost use Rattle.sno_pattern.specs.Pattern.{Text};
 ghost use Rattle.sno_pattern.specs.Ends.{ends};
@@ -81,6 +81,47 @@ pub(crate) fn first_end(kind: &Kind, subject: &[u8], at: usize) -> Option<usize>
     }
 }
 
+/// From how many bytes on a text is long: how far it agrees with a subject is remembered.
+const LONG: usize = 4_096;
+
+/// How many bytes at the beginning of a long text are looked at before it is asked how far it agrees.
+const BEGINNING: usize = 64;
+
+/// Whether a text is long.
+#[inline(always)]
+pub(crate) fn is_long(text: &[u8]) -> bool
+    ensures long { IsTrue result → 4096 ≤ length text.now }
+    ensures short { result ≡ false → length text.now < 4096 }
+{
+    text.len() >= LONG
+}
+
+/// As many bytes of a text as are looked at before it is asked how far it agrees: all but those of a long one.
+#[inline(always)]
+pub(crate) fn beginning(text: &[u8]) -> &[u8]
+    ensures none { (bytes : List ℕ) → starts_with nat_eq bytes result.now ≡ false
+        → starts_with nat_eq bytes text.now ≡ false }
+    ensures short { length text.now < 4096 → result.now ≡ text.now }
+{
+    if is_long(text) {
+        return &text[..BEGINNING];
+    }
+    text
+}
+
+/// A text of one byte: the place behind it, if it stands at the cursor.
+#[inline(always)]
+pub(crate) fn byte_end(text: &[u8], subject: &[u8], at: usize) -> Option<usize>
+    requires { length text.now ≡ 1 }
+    ensures { result ≡ slice_get (ends (Text text.now) subject.now at) 0 }
+{
+    if at < subject.len() && subject[at] == text[0] {
+        Some(at + 1)
+    } else {
+        None
+    }
+}
+
 /// A text: the place behind it, if it stands at the cursor.
 #[inline(always)]
 pub(crate) fn text_end(text: &[u8], subject: &[u8], at: usize) -> Option<usize>
@@ -106,4 +147,20 @@ pub(crate) fn begins_with(bytes: &[u8], text: &[u8]) -> bool
         return false;
     }
     bytes.starts_with(text)
+}
+
+/// Whether bytes may begin with a text, by its length, its last byte and its beginning: of one that isn't long, whether
+/// they do.
+#[inline(always)]
+pub(crate) fn may_begin_with(bytes: &[u8], text: &[u8]) -> bool
+    ensures none { result ≡ false → starts_with nat_eq bytes.now text.now ≡ false }
+    ensures short { length text.now < 4096 → result ≡ starts_with nat_eq bytes.now text.now }
+{
+    if text.len() > bytes.len() {
+        return false;
+    }
+    if text.len() > 1 && bytes[text.len() - 1] != text[text.len() - 1] {
+        return false;
+    }
+    begins_with(bytes, beginning(text))
 }

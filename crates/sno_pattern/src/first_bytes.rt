@@ -8,7 +8,7 @@ ghost use Rattle.sno_pattern.specs.Places.{IsAmong, BeginsWith, stands_at};
 ghost use Rattle.sno_pattern.specs.Table.{tree};
 
 use crate::byte_set::ByteSet;
-use crate::ends::text_end;
+use crate::ends::may_begin_with;
 use crate::kind::{Entry, Kind};
 use crate::sets::any_end;
 use sno_value::{PatId, Prim};
@@ -150,7 +150,7 @@ pub(crate) fn kind_fails_at(kind: &Kind, subject: &[u8], at: usize) -> bool
     ensures { IsTrue result → node_has_end (node_of kind.now) subject.now at ≡ false }
 {
     match kind {
-        Kind::Text(text) => text_end(text.as_slice(), subject, at).is_none(),
+        Kind::Text(text) => !may_begin_with(&subject[at..], text.as_slice()),
         Kind::Among(prim, members) => match prim {
             Prim::Any => any_end(members, subject, at).is_none(),
             Prim::Span => any_end(members, subject, at).is_none(),

@@ -6,7 +6,7 @@ ghost use Rattle.sno_pattern.specs.inner.Shape.{IsHead};
 ghost use Rattle.sno_pattern.specs.inner.Kinds.{node_of};
 
 use crate::counts::count_end;
-use crate::ends::text_end;
+use crate::ends::{byte_end, is_long, text_end};
 use crate::kind::{Kind, shape_of_kind};
 use crate::sets::{any_end, not_any_end};
 use crate::shape::Shape;
@@ -32,7 +32,15 @@ pub(crate) fn head_of_kind(kind: &Kind, subject: &[u8], at: usize) -> Head
 {
     match kind {
         Kind::Text(text) => {
-            let first = text_end(text.as_slice(), subject, at);
+            let text = text.as_slice();
+            if text.len() == 1 {
+                let first = byte_end(text, subject, at);
+                return Head::Ends { first, next: None };
+            }
+            if is_long(text) {
+                return Head::Other(Shape::Primitive);
+            }
+            let first = text_end(text, subject, at);
             Head::Ends { first, next: None }
         }
         Kind::Counted(prim, n) => {

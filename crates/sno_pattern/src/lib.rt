@@ -4,14 +4,16 @@
 //! pattern, and `head` what it comes to at a cursor. `argument` is what a primitive takes: a count or a set of bytes
 //! (`byte_set`). `ends` says where a primitive ends behind a cursor, by `counts`, `sets` and `balance` (with its
 //! `balance_table`), and `places` where the next end is; `first_bytes` are the bytes with which it begins. `looks` keeps
-//! what the looks through one subject have found out, `present` which bytes stand in its parts, and `lanes` looks at 32
-//! bytes at a time.
+//! what the looks through one subject have found out, `present` which bytes stand in its parts, `comparisons` how far long
+//! texts agreed with it (by `agreement`), and `lanes` looks at 32 bytes at a time.
 #![tactic(auto)]
 
+mod agreement;
 mod argument;
 mod balance;
 mod balance_table;
 mod byte_set;
+mod comparisons;
 mod counts;
 mod ends;
 mod first_bytes;

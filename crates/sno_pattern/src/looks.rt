@@ -1,6 +1,8 @@
 //! What the looks through a subject have found out, so that a later look need not repeat them.
-ghost use Rattle.std.specs.Prelude.{◌≡◌, ℕ, List, ◌<◌, ◌≤◌, ◌+◌, length, slice_get, IfSome};
+ghost use Rattle.std.specs.Prelude.{◌≡◌, ℕ, List, ◌<◌, ◌≤◌, ◌+◌, drop, length, slice_get, IfSome};
 ghost use Rattle.sno_pattern.specs.BalanceTable.{IsTableIfMade};
+ghost use Rattle.sno_pattern.specs.Agreement.{AreSame, Agree};
+ghost use Rattle.sno_pattern.specs.Compared.{ArePeriods, IsTrueComparison};
 ghost use Rattle.sno_pattern.specs.Ends.{ends};
 ghost use Rattle.sno_pattern.specs.inner.Kinds.{node_of};
 ghost use Rattle.sno_pattern.specs.inner.Looks.{AreBefore, AreEarlier};
@@ -14,6 +16,8 @@ ghost use Rattle.sno_pattern.specs.inner.Shape.{end_of_node};
 ghost use Rattle.sno_pattern.specs.Table.{Node, tree};
 
 use crate::balance_table::Balance;
+use crate::comparisons::{Comparison, Comparisons};
+use crate::ends::is_long;
 use crate::kind::Kind;
 use crate::more_runs::MoreRuns;
 use crate::present::Present;
@@ -54,7 +58,7 @@ pub(crate) const NO_RUN: Run = Run {
 };
 
 /// What the looks through one subject have found out: the last runs that SPAN, BREAK and BREAKX looked through, and
-/// BAL's first ends, and which bytes are present in its parts.
+/// BAL's first ends, which bytes are present in its parts, and how far long texts agreed with it.
 #[derive(Drop)]
 pub struct Looks {
     runs: [Run; RUNS],
@@ -64,6 +68,7 @@ pub struct Looks {
     turn: u32,
     balance: Balance,
     present: Present,
+    compared: Comparisons,
     /// Whether anything may have been kept since they were cleared.
     used: bool,
 }
@@ -76,10 +81,10 @@ impl Model for Looks {
 
     ghost Value = { Found };
 
-    ghost view = { λ looks. found_of looks.runs looks.more looks.turn looks.balance looks.present };
+    ghost view = { λ looks. found_of looks.runs looks.more looks.turn looks.balance looks.present looks.compared };
 
     ghost invariant = { λ looks. AreBefore (looks.turn + 1) looks.runs × (AreEarlier (looks.turn + 1) looks.more × (looks.used ≡ false
-        → (nodes : List Node) (s : List ℕ) → AreTrue nodes s (found_of looks.runs looks.more looks.turn looks.balance looks.present))) };
+        → (nodes : List Node) (s : List ℕ) → AreTrue nodes s (found_of looks.runs looks.more looks.turn looks.balance looks.present looks.compared))) };
 }
 
 impl Looks {
@@ -93,6 +98,7 @@ impl Looks {
             turn: 1,
             balance: Balance::new(alloc),
             present: Present::new(alloc),
+            compared: Comparisons::new(alloc),
             used: false,
         }
     }
@@ -105,6 +111,7 @@ impl Looks {
             self.turn = next_turn(&mut self.runs, &mut self.more, self.turn);
             self.balance.clear();
             self.present.clear();
+            self.compared.clear();
             self.used = false;
         }
     }
@@ -163,6 +170,45 @@ impl Looks {
         }
         let cursor = cursor_by_masks(&self.present, kind, subject, at);
         cursor
+    }
+
+    /// How far the text of a node agreed with the subject from some cursor, if some bytes did.
+    pub(crate) fn find_comparison(&self, id: PatId) -> Option<Comparison>
+        ensures id { IfSome result (λ before. before.id.0 ≡ id.0) }
+        ensures some { IfSome result (λ before. 0 < before.count) }
+        ensures told { (nodes : List Node) (s : List ℕ) → AreTrue nodes s self.now
+            → IfSome result (λ before. IsTrueComparison nodes s before) }
+    {
+        let before = self.compared.find(id);
+        before
+    }
+
+    /// Remembers how far a text agreed.
+    pub(crate) fn remember_comparison(&mut self, told: Comparison)
+        ensures { (nodes : List Node) (s : List ℕ) → AreTrue nodes s self.old → IsTrueComparison nodes s told
+            → AreTrue nodes s self.new }
+    {
+        self.used = true;
+        self.compared.remember(told);
+    }
+
+    /// How many bytes of the subject from one cursor on are the same as at a distance. It stops behind `most`.
+    pub(crate) fn repeated(
+        &mut self,
+        subject: &[u8],
+        from: usize,
+        distance: usize,
+        most: usize,
+    ) -> usize
+        requires inside { from + distance ≤ length subject.now }
+        requires periods { ArePeriods subject.now self.old.compared.periods }
+        ensures looks { (nodes : List Node) → AreTrue nodes subject.now self.old → AreTrue nodes subject.now self.new }
+        ensures same { AreSame (drop from subject.now) (drop (from + distance) subject.now) result }
+        ensures apart { result < most → Agree (drop from subject.now) (drop (from + distance) subject.now) result }
+    {
+        self.used = true;
+        let count = self.compared.repeated(subject, from, distance, most);
+        count
     }
 
     /// BAL's first end from a cursor.
@@ -254,10 +300,12 @@ pub(crate) fn is_far(kind: &Kind) -> bool {
 
 /// Whether the first end of a primitive is found at once, so that nothing is looked up or remembered for it.
 pub(crate) fn is_near(kind: &Kind) -> bool {
-    !matches!(
-        kind,
-        Kind::Bal | Kind::Among(Prim::Span | Prim::Break | Prim::BreakX, _)
-    )
+    match kind {
+        Kind::Text(text) => !is_long(text.as_slice()),
+        Kind::Bal => false,
+        Kind::Among(prim, _set) => !matches!(prim, Prim::Span | Prim::Break | Prim::BreakX),
+        _ => true,
+    }
 }
 
 /// A cursor from which SPAN, BREAK or BREAKX has the same first end, found by masks.

@@ -1,5 +1,5 @@
 //! The next place at which a primitive has an end.
-ghost use Rattle.std.specs.Prelude.{◌≡◌, ◌≤◌, ◌+◌, ◌==◌, ◌-◌, length, take, drop, position};
+ghost use Rattle.std.specs.Prelude.{◌≡◌, ◌≤◌, ◌<◌, ℕ, false, ◌+◌, ◌==◌, ◌-◌, length, take, drop, position};
 ghost use Rattle.sno_value.specs.declared.kind.PrimitiveKind.TheVariants.{NotAny, Break};
 ghost use Rattle.sno_pattern.specs.Pattern.{Text, Among};
 ghost use Rattle.sno_pattern.specs.inner.Kinds.{node_of};
@@ -7,7 +7,7 @@ ghost use Rattle.sno_pattern.specs.Places.{IsFirstPlace, stands_at};
 ghost use Rattle.sno_pattern.specs.inner.Places.{leaf_has_end, node_has_end, byte_passes};
 
 use crate::byte_set::{ByteSet, FEW};
-use crate::ends::{begins_with, first_end};
+use crate::ends::{beginning, begins_with, first_end};
 use crate::kind::Kind;
 use crate::lanes::first_in;
 use crate::sets::break_end;
@@ -36,6 +36,7 @@ pub(crate) fn first_place_of_kind(kind: &Kind, subject: &[u8], from: usize, unti
 }
 
 /// The first place at which a text stands.
+#[inline(always)]
 fn place_of_text(text: &[u8], subject: &[u8], from: usize, until: usize) -> usize
     requires start { from ≤ length subject.now }
     requires range { from ≤ until }
@@ -47,9 +48,25 @@ fn place_of_text(text: &[u8], subject: &[u8], from: usize, until: usize) -> usiz
     }
     let first = text[0];
     let mut place = place_of_byte(first, subject, from, until);
+    if text.len() == 1 {
+        return place;
+    }
     'places: while place < until && !begins_with(&subject[place..], text) {
         place = place_of_byte(first, subject, place + 1, until);
     }
+    place
+}
+
+/// The first place at which the beginning of a text stands: from no place before that the text has an end.
+pub(crate) fn place_of_beginning(text: &[u8], subject: &[u8], from: usize, until: usize) -> usize
+    requires start { from ≤ length subject.now }
+    requires range { from ≤ until }
+    requires inside { until ≤ length subject.now + 1 }
+    ensures behind { from ≤ result }
+    ensures within { result ≤ until }
+    ensures none { (c : ℕ) → from ≤ c → c < result → leaf_has_end (Text text.now) subject.now c ≡ false }
+{
+    let place = place_of_text(beginning(text), subject, from, until);
     place
 }
 

@@ -111,7 +111,9 @@ impl Present {
     pub(crate) fn clear(&mut self)
         ensures { self.new ≡ [] }
     {
-        self.levels = Vec::new(self.alloc);
+        if !self.levels.is_empty() {
+            self.levels = Vec::new(self.alloc);
+        }
         self.looked = 0;
     }
 

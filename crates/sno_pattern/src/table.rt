@@ -11,6 +11,7 @@ ghost use Rattle.sno_pattern.specs.Arguments.{IsArgOf, IsNullSet, IsBadCount, Is
 ghost use Rattle.sno_pattern.specs.Built.{Appends, Builds};
 ghost use Rattle.sno_pattern.specs.inner.Kinds.{nodes_of, node_of, IsBegun, IsTable};
 
+mod long_texts;
 mod lookups;
 mod same;
 

@@ -8,6 +8,7 @@ mod forms;
 mod generated;
 mod long_patterns;
 mod long_subjects;
+mod long_texts;
 mod looks;
 mod matches;
 mod notation;

@@ -3,11 +3,12 @@ use Rattle.std.specs.Prelude.{ℕ, ◌≡◌, ◌<◌, List, length, get_or}
 use Rattle.sno_pattern.specs.declared.looks.Run.{Run}
 use Rattle.sno_value.specs.declared.kind.PrimitiveKind.TheVariants.{BreakX}
 use Rattle.sno_pattern.specs.Pattern.{Pattern, Bal, Leaf, Among}
+use Rattle.sno_pattern.specs.Compared.{Compared}
 use Rattle.sno_pattern.specs.Looks.{Found}
 
-abbrev pub found_of : List Run → List Run → ℕ → List ℕ → List (List (List ℕ)) → Found
-found_of runs more turn first_ends present =
-    record { runs = runs; more = more; turn = turn; first_ends = first_ends; present = present }
+abbrev pub found_of : List Run → List Run → ℕ → List ℕ → List (List (List ℕ)) → Compared → Found
+found_of runs more turn first_ends present compared =
+    record { runs = runs; more = more; turn = turn; first_ends = first_ends; present = present; compared = compared }
 
 -- the runs are told of subjects before this one
 pub record AreEarlier (turn : ℕ) (runs : List Run) : Type 0 where

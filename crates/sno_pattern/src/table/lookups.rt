@@ -229,6 +229,10 @@ impl Patterns {
             let place = looks.balanced_place(subject, from, until);
             return place;
         }
+        if self.is_long_text(id) {
+            let place = self.place_of_text(looks, id, subject, from, until);
+            return place;
+        }
         if is_far(&self.entries[id.0 as usize].kind)
             && self.look(looks, id, subject, from).is_some()
         {
@@ -323,7 +327,7 @@ impl Patterns {
         }
         let kind = &self.entries[id.0 as usize].kind;
         if !is_far(kind) {
-            let end = self.end_at(id, subject, at, 0);
+            let end = self.end_of_text(looks, id, subject, at);
             return end;
         }
         if let Some(end) = self.recall(looks, key, id, at) {

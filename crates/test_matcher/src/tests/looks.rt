@@ -214,7 +214,7 @@ pub fn look(
 }
 
 /// The first place from one on at which a primitive has an end, or one more than the length of the subject.
-fn place(
+pub fn place(
     patterns: &Patterns,
     looks: &mut Looks,
     id: PatId,

@@ -4,9 +4,15 @@ use Rattle.sno_pattern.specs.Pattern.{Text, Arb, Rem, Fail}
 use Rattle.sno_pattern.proofs.ShapeLaws.{arb_end, one_text_end, one_count_end, one_any_end, one_not_any_end}
 use Rattle.sno_pattern.proofs.head.head_of_kind.Goals as goal
 
-pub returns-in-Text : goal.returns-in-Text
-returns-in-Text c =
-    let first = subst (λ bytes. slice_get (ends (Text bytes) c.args.subject.now c.args.at) 0 ≡ c.text_end-first.result) c.as_slice.ensures
+pub returns-then-text-eq1 : goal.returns-then-text-eq1
+returns-then-text-eq1 c =
+    let first = subst (λ bytes. slice_get (ends (Text bytes) c.args.subject.now c.args.at) 0 ≡ c.byte_end-first.result) c.as_slice-text.ensures
+    (sym c.byte_end-first.ensures) in
+    rw c.in-Text.is (_, refl, first, one_text_end _ c.args.subject.now c.args.at)
+
+pub returns-else-is_long : goal.returns-else-is_long
+returns-else-is_long c =
+    let first = subst (λ bytes. slice_get (ends (Text bytes) c.args.subject.now c.args.at) 0 ≡ c.text_end-first.result) c.as_slice-text.ensures
     (sym c.text_end-first.ensures) in
     rw c.in-Text.is (_, refl, first, one_text_end _ c.args.subject.now c.args.at)
 

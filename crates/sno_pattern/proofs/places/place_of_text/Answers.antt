@@ -1,6 +1,14 @@
 use Rattle.std.proofs.Common.{◌==◌, slice_index, sym, ◌∙◌, arith}
-use Rattle.sno_pattern.proofs.PlaceLaws.{byte_inside, text_first, text_next, not_there}
+use Rattle.sno_pattern.specs.Pattern.{Text}
+use Rattle.sno_pattern.specs.inner.Places.{leaf_has_end, byte_passes}
+use Rattle.sno_pattern.proofs.PlaceLaws.{byte_inside, one_byte, same_place, text_first, text_next, not_there}
 use Rattle.sno_pattern.proofs.places.place_of_text.Goals as goal
+
+pub returns-then-text-eq1 : goal.returns-then-text-eq1
+returns-then-text-eq1 c =
+    same_place (byte_passes (λ b. b == slice_index c.args.text.now 0) c.args.subject.now) (leaf_has_end (Text c.args.text.now) c.args.subject.now)
+    c.args.from c.args.until c.place_of_byte-place.result (λ at. one_byte c.args.text.now c.args.subject.now at (omega (arith, c.if-text-eq1.true)))
+    c.place_of_byte-place.ensures
 
 pub places-init : goal.places-init
 places-init c = record {

@@ -12,9 +12,9 @@ invariant_of-self c = (
   still_before _ _ c.next_turn-self-inside.ensures.runs,
   (
     still_earlier _ _ c.next_turn-self-inside.ensures.more,
-    λ _. empty_true _ _ _ _ _ c.next_turn-self-inside.ensures.runs c.next_turn-self-inside.ensures.more c.clear.ensures c.clear-then-self.ensures,
+    λ _. empty_true _ _ _ _ _ _ c.next_turn-self-inside.ensures.runs c.next_turn-self-inside.ensures.more c.clear.ensures c.clear-then-self.ensures c.clear-then-self-2.ensures,
   ),
 )
 
 pub returns-then-self : goal.returns-then-self
-returns-then-self c = empty_true _ _ _ _ _ c.next_turn-self-inside.ensures.runs c.next_turn-self-inside.ensures.more c.clear.ensures c.clear-then-self.ensures
+returns-then-self c = empty_true _ _ _ _ _ _ c.next_turn-self-inside.ensures.runs c.next_turn-self-inside.ensures.more c.clear.ensures c.clear-then-self.ensures c.clear-then-self-2.ensures

@@ -6,9 +6,9 @@ invariant_of-result c = (
   still_before 1 _ c.no_runs.ensures,
   (
     none_earlier 2 _ c.new.ensures,
-    λ _. empty_true _ _ 1 _ _ c.no_runs.ensures (none_earlier 1 _ c.new.ensures) c.new-2.ensures c.new-3.ensures,
+    λ _. empty_true _ _ 1 _ _ _ c.no_runs.ensures (none_earlier 1 _ c.new.ensures) c.new-2.ensures c.new-3.ensures c.new-4.ensures,
   ),
 )
 
 pub returns : goal.returns
-returns c = empty_true _ _ 1 _ _ c.no_runs.ensures (none_earlier 1 _ c.new.ensures) c.new-2.ensures c.new-3.ensures
+returns c = empty_true _ _ 1 _ _ _ c.no_runs.ensures (none_earlier 1 _ c.new.ensures) c.new-2.ensures c.new-3.ensures c.new-4.ensures
