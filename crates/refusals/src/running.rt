@@ -76,10 +76,17 @@ const IN_LINE: Row = (
     Outcome::Ended,
 );
 
+/// A string that grows where it lies, by a literal, by a string of a variable, by digits, and by several of them.
+const GROWN: Row = (
+    b" X = DUPL('a',70)\n S = 'bcdefghijklmnopqrstuvwxyz'\n N = 5\n X = X 'b'\n X = X S\n X = X N\n X = X ',' S N\n X LEN(70) =\n OUTPUT = X\nEND\n",
+    b"bbcdefghijklmnopqrstuvwxyz5,bcdefghijklmnopqrstuvwxyz5\n",
+    Outcome::Ended,
+);
+
 /// Whether each program writes what it must and ends as it must, also where it is run again behind a refusal.
 pub(crate) fn holds(alloc: Global) -> Result<bool, AllocError> {
     for row in [
-        BRACKETS, FACTORIAL, INNER, RESTORED, ELEMENT, OBJECTS, LENT, IN_LINE,
+        BRACKETS, FACTORIAL, INNER, RESTORED, ELEMENT, OBJECTS, LENT, IN_LINE, GROWN,
     ] {
         if !runs(alloc, row)? {
             return Ok(false);

@@ -48,7 +48,7 @@ pub use compile::Compiler;
 pub use entries::{named_entry, names_item};
 pub use flat::{Flat, Roots};
 pub use forms::{Part, Wanted, name_of, value_of};
-pub use growing::{begins_with, joined_behind};
+pub use growing::{begins_with, joined_behind, joins_literal, literal_behind};
 pub use in_place::{instruction_at, run_in_place};
 pub use instruction::{Failing, Instruction};
 pub use joined::only_joined;

@@ -68,6 +68,7 @@ impl Entries {
     }
 
     /// The entry with a key.
+    #[inline(never)]
     pub(crate) fn find(&self, key: &Value) -> Option<u32>
         requires { is_key key.now ≡ true }
         ensures { result ≡ entry_place stored_notions key.now self.now }

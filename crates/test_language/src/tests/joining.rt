@@ -61,6 +61,16 @@ const GROWING: &str = r"
  X = DUPL('a',70)\n Y = X 'b'\n X = Y 'c'\n OUTPUT = X\n X = 'd' X\n OUTPUT = X\nEND\n => \<70:a\>bc\nd\<70:a\>bc\n
 ";
 
+/// What is one token that is joined to a string that grows: a literal, a string of a variable, null, or digits.
+const GROWING_BY_ONE: &str = r"
+ X = DUPL('a',70)\n S = 'bc'\n N = -7\n X = X S\n X = X N\n X = X M\n X = X ''\n X = X 5\n X = X S S N\n OUTPUT = X\nEND\n => \<70:a\>bc-75bcbc-7\n
+ X = DUPL('a',70)\n S = DUPL('b',30)\n X = X S\n S = S 'c'\n X = X S ',' S\n S = 'd'\n OUTPUT = X\nEND\n => \<70:a\>\<30:b\>\<30:b\>c,\<30:b\>c\n
+ X = DUPL('a',70)\n LONGNAMED = 'b'\n X = X LONGNAMED\n X = X 'cdefghijklmnopqrstuvwxyz0123456789'\n OUTPUT = X\nEND\n => \<70:a\>bcdefghijklmnopqrstuvwxyz0123456789\n
+ S = DUPL('b',30)\n X = DUPL('a',999970)\n X = X S\n OUTPUT = SIZE(X)\n X = X M\n OUTPUT = SIZE(X)\n X = X S\nEND\n => 1000000\n1000000\nstatus 1: snobol4: error 8 in statement 7\n
+ P = LEN(1)\n X = DUPL('a',70)\n X = X P\n OUTPUT = DATATYPE(X)\nEND\n => PATTERN\n
+ DEFINE('F(X)') :(M)\nF F = X :(RETURN)\nM S = 'ab'\n T = 'cd'\n OUTPUT = F(S T)\n OUTPUT = F('' 5)\n OUTPUT = F(S 5 T) + 1 :F(END)\nEND\n => abcd\n5\nstatus 1: snobol4: error 1 in statement 7\n
+";
+
 /// What grows elsewhere, or not at all.
 const NOT_GROWING: &str = r"
  X = 5\n X = X 'a'\n OUTPUT = X\n Y = Y 'b'\n OUTPUT = Y\nEND\n => 5a\nb\n
@@ -88,6 +98,14 @@ const ARGUMENTS: &str = r"
 fn rows(rt: HostRuntime) -> Result<(), Fail> {
     check_blocks::<Programs, _>(
         &rt,
-        &[INTEGERS, OPERANDS, LENGTHS, GROWING, NOT_GROWING, ARGUMENTS],
+        &[
+            INTEGERS,
+            OPERANDS,
+            LENGTHS,
+            GROWING,
+            GROWING_BY_ONE,
+            NOT_GROWING,
+            ARGUMENTS,
+        ],
     )
 }
