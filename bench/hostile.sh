@@ -49,6 +49,13 @@ time_sets() {
     run_row "$same" "$1 alternatives of $2, each with another set"
 }
 
+# time_texts COUNT: so many alternatives, each a literal of another length from 100,000 bytes on
+time_texts() {
+    printf ' I = %s\n P = FAIL\nMORE P = P | DUPL("A",100000 + I)\n I = GT(I,1) I - 1 :S(MORE)\n' "$1" >"$work/program"
+    printf ' S = %s\n S P ANY("B") :S(YES)F(NO)\nYES OUTPUT = "found" :(END)\nNO OUTPUT = "none"\nEND\n' "$same" >>"$work/program"
+    run_row "$same" "$1 alternatives, each another literal of 100,000 bytes and more"
+}
+
 same="DUPL('A',1000000)" mixed="DUPL('AB',500000)" open="DUPL('(',1000000)"
 nested="DUPL('(',500000) DUPL(')',500000)" unclosed="DUPL('(A',500000)"
 time_row "$same" "BREAK(',')"
@@ -93,6 +100,13 @@ for count in 33 64 200 2000 16000 50000; do
     time_sets $count BREAKX ""
     time_sets $count "*SPAN" A
 done
+time_row "$same" "DUPL('A',500000) ANY('B')"
+time_row "$same" "DUPL('A',60000) 'B'"
+time_row "$same" "(DUPL('A',250000) 'C' DUPL('A',250000)) ANY('B')"
+time_row "$mixed" "(DUPL('AB',200000) | DUPL('AB',100000) 'C' DUPL('AB',100000)) 'C'"
+time_row "DUPL(DUPL('A',5000) 'B',199)" "(DUPL(DUPL('A',5000) 'B',30) | LEN(1) DUPL('A',4999)) 'C'"
+time_row "DUPL('A',200000)" "ARB DUPL('A',100000) 'B'"
+time_texts 1000
 time_row "DUPL('A',389990) 'B' DUPL('A',309999) 'B' DUPL('A',299999)" "BREAKX('B') 'C'"
 time_row "DUPL(DUPL('A',9990) 'B',100)" "BREAKX('B') 'C'"
 time_row "$same" "*SPAN('A') 'B'"
