@@ -1,5 +1,5 @@
 //! The functions on values that take memory.
-use sno_value::{Text, TextError, Value, dupl, int_text, replace};
+use sno_value::{Text, TextError, Value, dupl, dupl_text, int_text, replace, replace_text};
 use std::alloc::{AllocError, Global};
 
 /// Whether each gives what it must, or that memory was refused and then what it must.
@@ -12,7 +12,9 @@ pub(crate) fn hold(alloc: Global) -> Result<bool, AllocError> {
             && integer_holds(alloc, -9_223_372_036_854_775_808, b"-9223372036854775808")
             && integer_holds(alloc, 0, b"0")
             && copies_hold(alloc)
-            && replacement_holds(alloc),
+            && replacement_holds(alloc)
+            && text_of_copies_holds(alloc)
+            && text_of_replacement_holds(alloc),
     )
 }
 
@@ -45,6 +47,28 @@ fn replacement_holds(alloc: Global) -> bool {
     };
     match replaced {
         Ok(Some(replaced)) => replaced.as_slice() == b"bonono".as_slice(),
+        _ => false,
+    }
+}
+
+fn text_of_copies_holds(alloc: Global) -> bool {
+    let copies = match dupl_text(alloc, b"abc", 8) {
+        Err(TextError::NoMemory) => dupl_text(alloc, b"abc", 8),
+        copies => copies,
+    };
+    match copies {
+        Ok(Some(copies)) => copies.as_slice() == b"abcabcabcabcabcabcabcabc".as_slice(),
+        _ => false,
+    }
+}
+
+fn text_of_replacement_holds(alloc: Global) -> bool {
+    let replaced = match replace_text(alloc, b"bananabananabananabanana", b"an", b"on") {
+        Err(_) => replace_text(alloc, b"bananabananabananabanana", b"an", b"on"),
+        replaced => replaced,
+    };
+    match replaced {
+        Ok(Some(replaced)) => replaced.as_slice() == b"bononobononobononobonono".as_slice(),
         _ => false,
     }
 }

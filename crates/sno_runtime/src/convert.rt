@@ -1,5 +1,6 @@
 //! The number, the text and the pattern of a value.
 ghost use Rattle.std.specs.Prelude.{◌≡◌, ◌≤◌, List, [], length, IfOk};
+ghost use Rattle.std.specs.Fmt.{signed_decimal};
 ghost use Rattle.sno_pattern.specs.Table.{Node};
 ghost use Rattle.sno_runtime.specs.Values.{shown, IsValueOf, is_null};
 ghost use Rattle.sno_runtime.specs.Operators.{as_pattern, is_patternable};
@@ -13,8 +14,8 @@ ghost use Rattle.sno_runtime.specs.inner.Runtime.{Does};
 use crate::errors::DATA_TYPE;
 use crate::runtime::Runtime;
 use crate::stops::{Exit, error};
-use sno_value::{PatId, Text, Value, int_text, to_int};
-use std::alloc::Global;
+use sno_value::{Digits, PatId, Text, Value, to_int};
+use std::alloc::{AllocError, Global};
 
 /// The number of an integer, or of a string that writes one.
 pub fn number(value: &Value) -> Option<i64>
@@ -45,12 +46,22 @@ pub fn text_of(alloc: Global, value: Value) -> Result<Text, Exit>
     match value {
         Value::Str(text) => Ok(text),
         Value::Int(number) => {
-            let digits = int_text(alloc, number)?;
-            let text = Text::new(alloc, digits)?;
+            let text = digits_of(alloc, number)?;
             Ok(text)
         }
         _ => Err(error(DATA_TYPE)),
     }
+}
+
+/// The digits of an integer as a string. They stand here alone, so that `text_of` stays small.
+#[inline(never)]
+fn digits_of(alloc: Global, number: i64) -> Result<Text, AllocError>
+    ensures digits { IfOk result (λ text. text ≡ signed_decimal number) }
+    ensures short { length (signed_decimal number) ≤ 20 }
+{
+    let digits = Digits::of(number);
+    let text = Text::from_slice(alloc, digits.as_slice())?;
+    Ok(text)
 }
 
 /// Whether a value is a string or an integer.
@@ -105,8 +116,8 @@ pub fn as_pattern(runtime: &mut Runtime, value: Value) -> Result<PatId, Exit>
             Ok(id)
         }
         Value::Int(number) => {
-            let text = int_text(runtime.alloc(), number)?;
-            let id = runtime.text(&text)?;
+            let digits = Digits::of(number);
+            let id = runtime.text(digits.as_slice())?;
             Ok(id)
         }
         Value::Pat(id) => Ok(id),

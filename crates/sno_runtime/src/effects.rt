@@ -13,8 +13,7 @@ use crate::runtime::{Runtime, is_output};
 use crate::stops::Stop;
 use sno_io::{DeviceFault, Sink, put};
 use sno_match::{Event, Matcher};
-use sno_value::{Name, Text, Value, int_text};
-use std::alloc::Global;
+use sno_value::{Digits, Name, Text, Value};
 
 /// What an event does: `$` sets its target to a part of the subject, and `@` to the cursor.
 pub fn take_effect<W: Sink>(
@@ -108,13 +107,13 @@ fn assign_output<W: Sink>(
     ensures sound { OnOk result ((W.drain writer.new).broken ≡ false) }
     ensures fault { result ≡ Err Stop.WriteFault → (W.drain writer.new).broken ≡ true }
 {
-    write_value(runtime.alloc(), &value, writer)?;
+    write_value(&value, writer)?;
     runtime.set(target, value);
     Ok(())
 }
 
 /// Writes the text of a value as a line. The text is whole before its first byte is written.
-fn write_value<W: Sink>(alloc: Global, value: &Value, writer: &mut W) -> Result<(), Stop>
+fn write_value<W: Sink>(value: &Value, writer: &mut W) -> Result<(), Stop>
     requires { (W.drain writer.old).broken ≡ false }
     ensures line { (nodes : List Node) → WritesLine (text_of (shown nodes value.now))
         (W.drain writer.old).taken (W.drain writer.new).taken result }
@@ -124,8 +123,8 @@ fn write_value<W: Sink>(alloc: Global, value: &Value, writer: &mut W) -> Result<
     match value {
         Value::Str(text) => write_line(text.as_slice(), writer)?,
         Value::Int(number) => {
-            let digits = int_text(alloc, *number)?;
-            write_line(&digits, writer)?
+            let digits = Digits::of(*number);
+            write_line(digits.as_slice(), writer)?
         }
         _ => return Err(Stop::Error(DATA_TYPE)),
     }

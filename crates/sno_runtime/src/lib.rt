@@ -43,7 +43,7 @@ pub use limits::MOST_BYTES;
 pub use lines::line_of;
 pub use numbers::stands;
 pub use operators::operation;
-pub use runtime::Runtime;
+pub use runtime::{Runtime, is_input};
 pub use stops::{Exit, Stop, error};
 pub use types::same;
 pub use unary_operators::{unary, unary_name};

@@ -7,7 +7,7 @@ ghost use Rattle.sno_runtime.specs.inner.Runtime.{Does};
 use crate::convert::{null_where, number_of, text_of};
 use crate::errors::TOO_LONG;
 use crate::stops::{Exit, Stop, error};
-use sno_value::{Text, TextError, Value, dupl, lgt, replace, trim};
+use sno_value::{TextError, Value, dupl_text, lgt, replace_text, trim};
 use std::alloc::Global;
 
 /// LGT: null where the first text is after the second in byte order.
@@ -42,11 +42,8 @@ pub fn copies(alloc: Global, x: Value, y: &Value) -> Result<Value, Exit>
 {
     let text = text_of(alloc, x)?;
     let count = number_of(y)?;
-    match dupl(alloc, text.as_slice(), count) {
-        Ok(Some(copied)) => {
-            let copied = Text::new(alloc, copied)?;
-            Ok(Value::Str(copied))
-        }
+    match dupl_text(alloc, text.as_slice(), count) {
+        Ok(Some(copied)) => Ok(Value::Str(copied)),
         Ok(None) => Err(Exit::Failure),
         Err(TextError::TooLong) => Err(error(TOO_LONG)),
         Err(TextError::NoMemory) => Err(Exit::Halt(Stop::NoMemory)),
@@ -62,11 +59,8 @@ pub fn replaced(alloc: Global, x: Value, y: Value, z: Value) -> Result<Value, Ex
     let text = text_of(alloc, x)?;
     let from = text_of(alloc, y)?;
     let to = text_of(alloc, z)?;
-    match replace(alloc, text.as_slice(), from.as_slice(), to.as_slice())? {
-        Some(bytes) => {
-            let text = Text::new(alloc, bytes)?;
-            Ok(Value::Str(text))
-        }
+    match replace_text(alloc, text.as_slice(), from.as_slice(), to.as_slice())? {
+        Some(text) => Ok(Value::Str(text)),
         None => Err(Exit::Failure),
     }
 }

@@ -1,13 +1,15 @@
 -- Decimal texts, read and written.
 use Rattle.std.proofs.Common.{◌≡◌, ℕ, zero, suc, ◌^◌, ◌<◌, ◌≤◌, ℤ, pos, negsuc, neg_ℤ, List, [], ◌∷◌, length, Bool, true, false, ◌&&◌, nat_lt, ◌==◌, cond, Some}
 use Rattle.std.proofs.Common.{None, Result, Ok, Err, OkIff, refl, sym, ◌∙◌, ap, arith, rules, decimal, IsUtf8, IsAscii, w64}
+use Rattle.std.proofs.Common.{◌+◌, ◌-◌, ◌/◌, ◌%◌, ◌++◌, drop, set, unsigned_abs, int_lt, append_assoc, length-append}
 use Rattle.std.specs.Fmt.{signed_decimal}
 use Rattle.std.specs.Prelude.{FitsSigned}
 use Rattle.std.specs.Int.{IsInRange}
 use Rattle.std.specs.Result.{result_ok}
 use Rattle.std.specs.Str.{all_ascii_digits}
 use Rattle.std.specs.Str.Parse.{ParsesSigned}
-use Rattle.std.proofs.lemmas.Fmt.{IsAscii-from_digits, digits_decimal, digits_value-decimal, decimal_nonempty, length_signed_le}
+use Rattle.std.proofs.lemmas.Fmt.{IsAscii-from_digits, digits_decimal, digits_value-decimal, decimal_nonempty, length_signed_le, decimal_digit, decimal_step}
+use Rattle.std.proofs.lemmas.List.{drop-set}
 use Rattle.std.proofs.lemmas.Bool.Decides.{nat_tests}
 use Rattle.std.proofs.lemmas.Str.{IsUtf8-from_ascii}
 use Rattle.std.proofs.lemmas.Str.Parse.{IsNumeralModel, numerals_by_weight, parse_signed_minus, parse_signed_plus, parse_signed_plain, digit_at}
@@ -129,6 +131,39 @@ reads_back (negsuc n) f =
   where
     small : suc n < 2 ^ 64
     small = omega (arith, f.sfits)
+
+-- a number of two digits or more has one more than its tenth
+pub one_longer : (n : ℕ) → 10 ≤ n → n < 2 ^ 64 → length (decimal n) ≡ length (decimal (n / 10)) + 1
+one_longer n tens fits = ap length (decimal_step n tens fits) ∙ length-append (decimal (n / 10)) ((48 + n % 10) ∷ [])
+
+-- a last digit is written before those that were
+pub step_written : (n at : ℕ) (bytes : List ℕ) → 10 ≤ n → n < 2 ^ 64 → 1 ≤ at → at ≤ length bytes
+    → decimal (n / 10) ++ drop (at - 1) (set bytes (at - 1) (48 + n % 10)) ≡ decimal n ++ drop at bytes
+step_written n at bytes tens fits some within =
+    let e : at - 1 + 1 ≡ at = omega arith in
+    rw (drop-set bytes (at - 1) (48 + n % 10) (omega arith), e, decimal_step n tens fits, append_assoc) refl
+
+-- the first digit is written before all others
+pub first_written : (n at : ℕ) (bytes : List ℕ) → n < 10 → 1 ≤ at → at ≤ length bytes
+    → drop (at - 1) (set bytes (at - 1) (48 + n)) ≡ decimal n ++ drop at bytes
+first_written n at bytes one some within =
+    let e : at - 1 + 1 ≡ at = omega arith in
+    rw (drop-set bytes (at - 1) (48 + n) (omega arith), e, decimal_digit n one) refl
+
+-- a minus is written before the digits
+pub minus_written : (at : ℕ) (bytes : List ℕ) → 1 ≤ at → at ≤ length bytes → drop (at - 1) (set bytes (at - 1) 45) ≡ 45 ∷ drop at bytes
+minus_written at bytes some within =
+    let e : at - 1 + 1 ≡ at = omega arith in
+    rw (drop-set bytes (at - 1) 45 (omega arith), e) refl
+
+-- a negative integer has a minus before the digits, and no other has one
+pub minus_first : (z : ℤ) → int_lt z (pos 0) ≡ true → 45 ∷ decimal (unsigned_abs z) ≡ signed_decimal z
+minus_first (pos n) below = absurd (grind (arith, nat_tests))
+minus_first (negsuc n) below = refl
+
+pub no_minus : (z : ℤ) → int_lt z (pos 0) ≡ false → decimal (unsigned_abs z) ≡ signed_decimal z
+no_minus (pos n) below = refl
+no_minus (negsuc n) below = absurd (grind (arith, nat_tests))
 
 pub short_text : (z : ℤ) → FitsSigned w64 z → length (signed_decimal z) ≤ 20
 short_text z f = length_signed_le 19 z (omega (arith, f.sfits)) f.sfits

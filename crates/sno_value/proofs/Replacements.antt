@@ -1,6 +1,6 @@
 -- What stands for a byte, as the pairs are read one after another: the later pair counts.
-use Rattle.std.proofs.Common.{◌≡◌, ℕ, ◌+◌, ◌<◌, List, [], ◌∷◌, ◌++◌, length, take, get_or, Bool, true, false, ◌||◌, ◌==◌, cond, refl, sym, ◌∙◌, ap₂, arith}
-use Rattle.std.proofs.Common.{length-take-le, set}
+use Rattle.std.proofs.Common.{◌≡◌, ℕ, zero, suc, ◌+◌, ◌<◌, List, [], ◌∷◌, ◌++◌, length, take, get_or, Bool, true, false, ◌||◌, ◌==◌, cond, refl, sym, ◌∙◌, ap, ap₂, arith}
+use Rattle.std.proofs.Common.{length-take-le, set, map, drop}
 use Rattle.std.specs.List.{list_any}
 use Rattle.std.proofs.lemmas.Bool.Decides.{nat_tests}
 use Rattle.std.proofs.lemmas.Grind.{common_steps}
@@ -45,3 +45,21 @@ table_step table froms tos k from to long same h e f so_far byte small =
     let next = replacement_next froms tos k from to byte same h e f in
     let old = so_far byte small in
     grind (arith, common_steps, nat_tests)
+
+-- a text whose first bytes are replaced where they stand
+mapped-next : (f : ℕ → ℕ) (text : List ℕ) (i : ℕ) → i < length text
+    → set (map f (take i text) ++ drop i text) i (f (get_or (map f (take i text) ++ drop i text) i 0)) ≡ map f (take (suc i) text) ++ drop (suc i) text
+mapped-next f [] i h = absurd (omega arith)
+mapped-next f (b ∷ text) zero h = refl
+mapped-next f (b ∷ text) (suc i) h = ap (λ xs. f b ∷ xs) (mapped-next f text i (omega arith))
+
+-- one more byte of it
+pub mapped_step : (f : ℕ → ℕ) (text items : List ℕ) (i y : ℕ) → i < length text
+    → items ≡ map f (take i text) ++ drop i text → y ≡ f (get_or items i 0)
+    → set items i y ≡ map f (take (i + 1) text) ++ drop (i + 1) text
+mapped_step f text items i y h is to =
+    let next : suc i ≡ i + 1 = omega arith in
+    ap (set items i) to
+    ∙ ap (λ xs. set xs i (f (get_or xs i 0))) is
+    ∙ mapped-next f text i h
+    ∙ ap (λ n. map f (take n text) ++ drop n text) next

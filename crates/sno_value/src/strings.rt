@@ -1,10 +1,11 @@
 //! The functions TRIM, DUPL, REPLACE and LGT on strings (the book, chapter 3).
-ghost use Rattle.std.specs.Prelude.{◌≡◌, ◌↔◌, ◌<ℤ◌, ◌<◌, ◌≤◌, ◌*◌, ℕ, pos, length, Ok, Err, Some, None, unsigned_abs};
+ghost use Rattle.std.specs.Prelude.{◌≡◌, ◌↔◌, ◌<ℤ◌, ◌<◌, ◌≤◌, ◌*◌, ℕ, pos, length, map, Ok, Err, Some, None, unsigned_abs};
 ghost use Rattle.std.specs.Prelude.{IfOk, IsOk, IsNone, IsOkAnd, slice_index};
 ghost use Rattle.sno_value.specs.Strings.{trimmed, copies, duplicate, replacement, replaced, is_after, items_of};
 ghost use Rattle.sno_value.specs.Strings.{message_of};
 ghost use Rattle.sno_value.specs.declared.strings.TextError.TheVariants.{NoMemory};
 
+use crate::text::{MOST_HERE, Text};
 use std::alloc::{AllocError, Global};
 use std::error::Error;
 use std::fmt;
@@ -76,6 +77,47 @@ pub fn dupl(alloc: Global, text: &[u8], count: i64) -> Result<Option<Vec<u8>>, T
     }
 }
 
+/// DUPL as a string: the same as `dupl` gives. Copies that a string holds in itself take no memory.
+pub fn dupl_text(alloc: Global, text: &[u8], count: i64) -> Result<Option<Text>, TextError>
+    ensures ok { IfOk result (λ answer. Ok answer ≡ duplicate text.now count) }
+    ensures too_long { (result ≡ Err TextError.TooLong) ↔ (duplicate text.now count ≡ Err TextError.TooLong) }
+    ensures negative { count <ℤ pos 0 → IsOkAnd result IsNone }
+{
+    if 0 < count && count <= MOST_HERE as i64 && text.len() <= MOST_HERE {
+        let count = count as usize;
+        if count * text.len() <= MOST_HERE {
+            return Ok(Some(short_copies(text, count)));
+        }
+    }
+    match dupl(alloc, text, count)? {
+        Some(copied) => {
+            let copied = Text::new(alloc, copied)?;
+            Ok(Some(copied))
+        }
+        None => Ok(None),
+    }
+}
+
+// Copies that a string holds in itself: behind the first one each byte is that which stands a text's length before it.
+#[inline(always)]
+fn short_copies(text: &[u8], count: usize) -> Text
+    requires some { 1 ≤ count }
+    requires few { count ≤ 22 }
+    requires short { count * length text.now ≤ 22 }
+    ensures { result ≡ copies count text.now }
+{
+    if let [byte] = text {
+        return Text::first_of([*byte; MOST_HERE], count);
+    }
+    let total = count * text.len();
+    let mut bytes = [0; MOST_HERE];
+    bytes[..text.len()].copy_from_slice(text);
+    for k in text.len()..total {
+        bytes[k] = bytes[k - text.len()];
+    }
+    Text::first_of(bytes, total)
+}
+
 // So many copies of the text. Where they are null, they take no time and no memory. Each turn doubles them, so that a
 // short text is not copied for itself each time.
 #[tactic(auto, using(crate::proofs::Copies::copying))]
@@ -117,14 +159,54 @@ pub fn replace(
     }
     let table = replacement_table(from, to);
     let mut output = Vec::with_capacity(alloc, text.len())?;
-    for byte in text {
-        output.push(table[*byte as usize])?;
+    output.extend_from_slice(text)?;
+    for byte in output.iter_mut() {
+        *byte = table[*byte as usize];
     }
     Ok(Some(output))
 }
 
+/// REPLACE as a string: the same as `replace` gives. A string that holds its bytes in itself takes no memory.
+#[tactic(auto, unfolding(crate::specs::Strings::replaced))]
+pub fn replace_text(
+    alloc: Global,
+    text: &[u8],
+    from: &[u8],
+    to: &[u8],
+) -> Result<Option<Text>, AllocError>
+    ensures ok { IfOk result (λ answer. answer ≡ replaced text.now from.now to.now) }
+    ensures refused { replaced text.now from.now to.now ≡ None → IsOkAnd result IsNone }
+{
+    if text.len() <= MOST_HERE && !from.is_empty() && from.len() == to.len() {
+        return Ok(Some(short_replaced(text, from, to)));
+    }
+    match replace(alloc, text, from, to)? {
+        Some(bytes) => {
+            let text = Text::new(alloc, bytes)?;
+            Ok(Some(text))
+        }
+        None => Ok(None),
+    }
+}
+
+// A text that a string holds in itself, with each byte replaced.
+#[inline(always)]
+fn short_replaced(text: &[u8], from: &[u8], to: &[u8]) -> Text
+    requires short { length text.now ≤ 22 }
+    requires pairs { length from.now ≡ length to.now }
+    ensures { result ≡ map (replacement from.now to.now) text.now }
+{
+    let table = replacement_table(from, to);
+    let mut bytes = [0; MOST_HERE];
+    for (k, byte) in text.iter().enumerate() {
+        bytes[k] = table[*byte as usize];
+    }
+    Text::first_of(bytes, text.len())
+}
+
 // What stands for each byte: a later place in `from` overwrites an earlier one.
 #[tactic(auto, unfolding(crate::specs::Strings::replacement))]
+#[inline(always)]
 fn replacement_table(from: &[u8], to: &[u8]) -> [u8; 256]
     requires { length from.now ≡ length to.now }
     ensures { (byte : ℕ) → byte < 256 → slice_index result byte ≡ replacement from.now to.now byte }

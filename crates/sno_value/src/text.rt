@@ -7,7 +7,7 @@ use std::marker::Model;
 use std::rc::Rc;
 
 /// The most bytes of a string that lies in its value: with their count they leave a value at 32 bytes.
-const MOST_HERE: usize = 22;
+pub(crate) const MOST_HERE: usize = 22;
 
 /// A string of bytes, which contracts see as a list. A short one lies in the value itself and takes no memory; a longer
 /// one is a part of a block, which it shares with its copies and with other parts.
@@ -94,6 +94,17 @@ impl Text {
         Ok(Text {
             held: Held::Shared(block, 0, end),
         })
+    }
+
+    /// The string of the first ones of these bytes. It takes no memory.
+    #[inline(always)]
+    pub(crate) fn first_of(bytes: [u8; MOST_HERE], count: usize) -> Text
+        requires { count ≤ 22 }
+        ensures { result ≡ take count bytes }
+    {
+        Text {
+            held: Held::Here(count as u8, bytes),
+        }
     }
 
     /// The string of these bytes, which are copied.

@@ -222,8 +222,8 @@ fn string(value: &Value) -> Option<&Text>
     }
 }
 
-/// Whether a name is that of INPUT.
-pub(crate) fn is_input(name: Name) -> bool
+/// Whether a name is that of INPUT, which reads a line where its value is asked for.
+pub fn is_input(name: Name) -> bool
     ensures { result ≡ is_input name }
 {
     match name {

@@ -1,6 +1,6 @@
 //! Integers and their decimal texts.
 use super::rows::{Question, check_rows, check_texts};
-use sno_value::{int_text, to_int};
+use sno_value::{Digits, int_text, to_int};
 use std::alloc::Global;
 use std::test::Fail;
 
@@ -85,12 +85,30 @@ fn single_bytes(rt: HostRuntime) {
     }
 }
 
-const DECIMALS: [(i64, &str); 6] = [
+const DECIMALS: [(i64, &str); 24] = [
     (0, "0"),
-    (-10, "-10"),
+    (1, "1"),
     (7, "7"),
+    (9, "9"),
+    (10, "10"),
+    (11, "11"),
+    (42, "42"),
+    (99, "99"),
+    (100, "100"),
+    (101, "101"),
+    (999, "999"),
+    (1_000, "1000"),
+    (65_536, "65536"),
     (1_000_000, "1000000"),
+    (1_234_567_890, "1234567890"),
+    (999_999_999_999_999_999, "999999999999999999"),
+    (1_000_000_000_000_000_000, "1000000000000000000"),
     (i64::MAX, "9223372036854775807"),
+    (-1, "-1"),
+    (-9, "-9"),
+    (-10, "-10"),
+    (-100, "-100"),
+    (-9_223_372_036_854_775_807, "-9223372036854775807"),
     (i64::MIN, "-9223372036854775808"),
 ];
 
@@ -99,6 +117,8 @@ fn decimal_texts(rt: HostRuntime) -> Result<(), Fail> {
     for (number, text) in &DECIMALS {
         let written = int_text(rt.alloc(), *number)?;
         assert_eq!(rt; written.as_slice(), text.as_bytes(), "{number}");
+        let digits = Digits::of(*number);
+        assert_eq!(rt; digits.as_slice(), text.as_bytes(), "{number}");
     }
     Ok(())
 }

@@ -23,6 +23,6 @@ returns-in_err-count c s =
 pub returns-in-Ok-Some : goal.returns-in-Ok-Some
 returns-in-Ok-Some c s =
     let fits : SFits w64 c.in_ok-count.count = search rules in
-    let made : Ok (Some c.in-Ok-Some.copied.items) ≡ duplicate c.in_ok-text.text c.in_ok-count.count = search rules in
-    rw (c.in_ok-text.ensures.text s.nodes, c.in_ok-count.ensures s.nodes, ← made, c.in_ok-copied-in-Ok-Some.ensures)
-    (gives_does shown IsValueOf s (stored.Str c.in-Ok-Some.copied.items) (Str c.in-Ok-Some.copied.items) refl (length-duplicate _ _ _ (sym made)))
+    let made : Ok (Some c.in-Ok-Some.copied) ≡ duplicate c.in_ok-text.text c.in_ok-count.count = search rules in
+    rw (c.in_ok-text.ensures.text s.nodes, c.in_ok-count.ensures s.nodes, ← made)
+    (gives_does shown IsValueOf s (stored.Str c.in-Ok-Some.copied) (Str c.in-Ok-Some.copied) refl (length-duplicate _ _ _ (sym made)))

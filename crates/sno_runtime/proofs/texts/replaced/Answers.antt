@@ -26,8 +26,8 @@ returns-in_err-to c s k =
 
 pub returns-in-Some : goal.returns-in-Some
 returns-in-Some c s k =
-    let made : Some c.in-Some.bytes.items ≡ replaced c.in_ok-text.text c.in_ok-from.from c.in_ok-to.to = search rules in
+    let made : Some c.in-Some.text ≡ replaced c.in_ok-text.text c.in_ok-from.from c.in_ok-to.to = search rules in
     let long = length-replaced _ _ _ _ (sym made) in
     let short = c.in_ok-text.ensures.short s.nodes k in
-    rw (c.in_ok-text.ensures.text s.nodes, c.in_ok-from.ensures.text s.nodes, c.in_ok-to.ensures.text s.nodes, ← made, c.in_ok-text-in-Some.ensures)
-    (gives_does shown IsValueOf s (stored.Str c.in-Some.bytes.items) (Str c.in-Some.bytes.items) refl (rw long short))
+    rw (c.in_ok-text.ensures.text s.nodes, c.in_ok-from.ensures.text s.nodes, c.in_ok-to.ensures.text s.nodes, ← made)
+    (gives_does shown IsValueOf s (stored.Str c.in-Some.text) (Str c.in-Some.text) refl (rw long short))
