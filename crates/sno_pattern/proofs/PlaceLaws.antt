@@ -1,6 +1,6 @@
 -- The next place at which a primitive has an end.
 use Rattle.std.proofs.Common.{◌≡◌, ℕ, zero, suc, ◌+◌, ◌-◌, ◌<◌, ◌≤◌, ◌==◌, nat_eq, Bool, true, false, not, ◌||◌, cond, if◌then◌else◌, Some, None, List, [], ◌∷◌}
-use Rattle.std.proofs.Common.{length, min, take, drop, get_or, position, slice_get, slice_index, refl, sym, ◌∙◌, ap, arith, ◌⊎◌, inl, inr, ⊎_elim}
+use Rattle.std.proofs.Common.{length, min, take, drop, get_or, position, slice_get, slice_index, refl, sym, ◌∙◌, ap, arith, ◌⊎◌, inl, inr, ⊎_elim, rules}
 use Rattle.std.specs.Cmp.Lexicographic.{same_text}
 use Rattle.std.specs.Option.{is_some}
 use Rattle.std.specs.List.{position_from, starts_with}
@@ -245,3 +245,7 @@ one_differs text bytes i below apart = go (starts_with nat_eq bytes text) refl
     go true e =
         let same : text ≡ take (length text) bytes = same_text text (take (length text) bytes) (sym e) in
         absurd (apart (sym (ap (λ (xs : List ℕ). get_or xs i 0) same ∙ get_or-take (length text) bytes i 0 below)))
+
+-- so many bytes are left behind one place alone
+pub before_end : (c n end place : ℕ) → place + n ≡ end → (c + n == end) ≡ (c == place)
+before_end c n end place e = search rules

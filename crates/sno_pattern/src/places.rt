@@ -1,12 +1,13 @@
 //! The next place at which a primitive has an end.
-ghost use Rattle.std.specs.Prelude.{◌≡◌, ◌≤◌, ◌<◌, ℕ, false, ◌+◌, ◌==◌, ◌-◌, length, take, drop, position};
+ghost use Rattle.std.specs.Prelude.{◌≡◌, ◌≤◌, ◌<◌, ℕ, Bool, false, ◌+◌, ◌==◌, ◌-◌, length, take, drop, position};
 ghost use Rattle.sno_value.specs.declared.kind.PrimitiveKind.TheVariants.{NotAny, Break};
-ghost use Rattle.sno_pattern.specs.Pattern.{Text, Among};
+ghost use Rattle.sno_pattern.specs.Pattern.{Text, Counted, Among};
 ghost use Rattle.sno_pattern.specs.inner.Kinds.{node_of};
 ghost use Rattle.sno_pattern.specs.Places.{IsFirstPlace, stands_at};
 ghost use Rattle.sno_pattern.specs.inner.Places.{leaf_has_end, node_has_end, byte_passes};
 
 use crate::byte_set::{ByteSet, FEW};
+use crate::counts::count_end;
 use crate::ends::{beginning, begins_with, first_end};
 use crate::kind::Kind;
 use crate::lanes::first_in;
@@ -23,6 +24,7 @@ pub(crate) fn first_place_of_kind(kind: &Kind, subject: &[u8], from: usize, unti
 {
     match kind {
         Kind::Text(text) => place_of_text(text.as_slice(), subject, from, until),
+        Kind::Counted(prim, n) => place_of_count(*prim, *n, subject, from, until),
         Kind::Among(prim, set) => match prim {
             Prim::Any => place_in_set(set, subject, from, until),
             Prim::NotAny => place_outside_set(set, subject, from, until),
@@ -32,6 +34,40 @@ pub(crate) fn first_place_of_kind(kind: &Kind, subject: &[u8], from: usize, unti
             _ => place_of_end(kind, subject, from, until),
         },
         _ => place_of_end(kind, subject, from, until),
+    }
+}
+
+/// The first place at which a primitive with a count has an end. POS and RPOS have one at a place alone; where another
+/// has none, it has none behind that.
+fn place_of_count(prim: Prim, n: u64, subject: &[u8], from: usize, until: usize) -> usize
+    requires start { from ≤ length subject.now }
+    requires range { from ≤ until }
+    requires inside { until ≤ length subject.now + 1 }
+    ensures { IsFirstPlace (leaf_has_end (Counted prim n) subject.now) from until result }
+{
+    match prim {
+        Prim::Pos => place_between(n, from, until),
+        Prim::Rpos => match (subject.len() as u64).checked_sub(n) {
+            Some(place) => place_between(place, from, until),
+            None => until,
+        },
+        _ => match count_end(prim, n, subject, from) {
+            Some(_first) => from,
+            None => until,
+        },
+    }
+}
+
+/// A place, if it is between two, and else the second of them.
+#[inline(always)]
+fn place_between(place: u64, from: usize, until: usize) -> usize
+    requires { from ≤ until }
+    ensures { (test : ℕ → Bool) → ((c : ℕ) → test c ≡ (c == place)) → IsFirstPlace test from until result }
+{
+    if from as u64 <= place && place < until as u64 {
+        place as usize
+    } else {
+        until
     }
 }
 

@@ -27,6 +27,7 @@ impl Patterns {
 
     /// Whether a number is that of a node for this primitive with this argument. It is false for a number that the
     /// table doesn't have.
+    #[inline(always)]
     pub fn is_prim(&self, id: PatId, prim: Prim, arg: Arg<'_>) -> bool
         ensures { IsTrue result → StandsFor self.now id (Leaf (primitive_of prim arg.entry)) }
     {
@@ -38,6 +39,7 @@ impl Patterns {
 }
 
 /// Whether a node is this primitive with this argument.
+#[inline(always)]
 fn is_prim_of(kind: &Kind, prim: Prim, arg: Arg<'_>) -> bool
     ensures { IsTrue result → node_of kind.now ≡ LeafNode (primitive_of prim arg.entry) }
 {
