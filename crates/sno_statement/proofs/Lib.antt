@@ -14,5 +14,6 @@ pub mod RunningLaws
 pub mod SessionLaws
 pub mod StatementLaws
 pub mod StepLaws
+pub mod StringNodeLaws
 pub mod TakenLaws
 pub mod TargetLaws

@@ -3,4 +3,5 @@ pub mod Calling
 pub mod Given
 pub mod Naming
 pub mod Operands
+pub mod StringNodes
 pub mod Targets

@@ -5,14 +5,15 @@
 //! one statement and finds the next one (`gotos`); `statements` does the parts of one, and `naming` finds what its subject
 //! names. `evaluation` gives the value of an expression, by a loop over `instructions` and a list of values where `unlisted`
 //! and `operands` can't do without, `patterns` that of one which mostly makes a pattern, and `made` calls the functions
-//! that the program has made. `matching` runs a match up to its first way, `answers` gives it what its deferred parts stand
-//! for, and `replacement` puts a text in the place of what matched. How a call of a function that the program defines is
+//! that the program has made. `matching` runs a match up to its first way, `deferred` and `answers` give it what its deferred
+//! parts stand for (`string_nodes` keeps those for long strings), and `replacement` puts a text in the place of what matched. How a call of a function that the program defines is
 //! done comes from above (`calls`), since it performs statements in its turn.
 #![tactic(auto)]
 
 mod answers;
 mod calls;
 mod code;
+mod deferred;
 mod evaluation;
 mod gotos;
 mod growing;
@@ -26,6 +27,7 @@ mod perform;
 mod replacement;
 mod statements;
 mod steps;
+mod string_nodes;
 mod targets;
 mod unlisted;
 

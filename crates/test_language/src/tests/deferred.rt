@@ -105,9 +105,33 @@ const VARIABLES_IN_MATCHES: &str = r"
  N = -1\n 'AB' LEN(*N)\nEND\n => status 1: snobol4: error 7 in statement 2\n
 ";
 
+/// A long string's pattern is made once in a match, as long as nothing changes what is held under its name.
+const LONG_STRINGS_IN_MATCHES: &str = r"
+ X = DUPL('A',300)\n S = X 'B' X 'C'\n S *X 'C' @N\n OUTPUT = N\nEND\n => 602\n
+ X = DUPL('A',300)\n S = X DUPL('B',600)\n S POS(0) *X LEN(300) $ X *X RPOS(0) :F(END)\n OUTPUT = 'yes'\nEND\n => yes\n
+ X = DUPL('A',300)\n S = X 'B' X\n S POS(0) *X LEN(1) $ Y *X RPOS(0) :F(END)\n OUTPUT = Y\nEND\n => B\n
+ X = DUPL('A',300)\n S = X '300'\n S POS(0) *X @X *X RPOS(0) :F(END)\n OUTPUT = X\nEND\n => 300\n
+ A = ARRAY(2)\n A<1> = DUPL('A',300)\n S = A<1> DUPL('B',600)\n S POS(0) *A<1> LEN(300) $ A<1> *A<1> RPOS(0) :F(END)\n OUTPUT = 'yes'\nEND\n => yes\n
+ A = ARRAY(2)\n A<1> = DUPL('A',300)\n S = A<1> 'B' A<1>\n S POS(0) *A<1> LEN(1) $ A<2> *A<1> RPOS(0) :F(END)\n OUTPUT = A<2>\nEND\n => B\n
+ A = ARRAY(2)\n B = A\n A<1> = DUPL('A',300)\n S = A<1> DUPL('B',600)\n S POS(0) *A<1> LEN(300) $ B<1> *A<1> RPOS(0) :F(END)\n OUTPUT = 'yes'\nEND\n => yes\n
+ A = ARRAY(1)\n A<1> = DUPL('A',300)\n S = A<1> 'B' A<1>\n S POS(0) *A<1> LEN(1) $ A *A<1>\nEND\n => status 1: snobol4: error 1 in statement 4\n
+ K = 'K'\n T = TABLE()\n T<K> = DUPL('A',300)\n S = T<K> DUPL('B',600)\n S POS(0) *T<K> LEN(300) $ T<K> *T<K> RPOS(0) :F(END)\n OUTPUT = 'yes'\nEND\n => yes\n
+ K = 'K'\n T = TABLE()\n T<K> = DUPL('A',300)\n T<'L'> = DUPL('B',300)\n S = T<K> 'L' T<'L'>\n S POS(0) *T<K> LEN(1) $ K *T<K> RPOS(0) :F(END)\n OUTPUT = K\nEND\n => L\n
+ DEFINE('F()') :(M)\nF X = DUPL('B',300) :(RETURN)\nM X = DUPL('A',300)\n S = X DUPL('B',300)\n S POS(0) *X *F() *X RPOS(0) :F(END)\n OUTPUT = 'yes'\nEND\n => yes\n
+ X = DUPL('A',300)\n 'BAAC' SPAN(*X) REM . Y\n OUTPUT = Y\nEND\n => C\n
+ X = DUPL('1',300)\n 'BA' LEN(*X)\nEND\n => status 1: snobol4: error 1 in statement 2\n
+";
+
 #[test]
 fn rows(rt: HostRuntime) -> Result<(), Fail> {
     check_blocks::<Ways, _>(&rt, &[EXPRESSIONS_IN_MATCHES, ARGUMENTS_IN_MATCHES])?;
     check_rows::<Values, _>(&rt, EXPRESSIONS_AS_VALUES)?;
-    check_blocks::<Programs, _>(&rt, &[VARIABLES_IN_MATCHES, PROGRAMS_WITH_EXPRESSIONS])
+    check_blocks::<Programs, _>(
+        &rt,
+        &[
+            VARIABLES_IN_MATCHES,
+            LONG_STRINGS_IN_MATCHES,
+            PROGRAMS_WITH_EXPRESSIONS,
+        ],
+    )
 }

@@ -1,4 +1,4 @@
-use Rattle.sno_statement.proofs.matching.answered_apart.Goals as goal
+use Rattle.sno_statement.proofs.deferred.answered_apart.Goals as goal
 
 pub answer_of-requires : goal.answer_of-requires
 answer_of-requires g c = c.evaluate-value.ensures.answer
