@@ -53,7 +53,7 @@ pub use in_place::{instruction_at, run_in_place};
 pub use instruction::{Failing, Instruction};
 pub use joined::only_joined;
 pub use names::Known;
-pub use places::{only_field, only_in_plane, only_item, only_name};
+pub use places::{only_field, only_in_plane, only_item, only_name, only_place};
 pub use quick::{Calculated, Form, Quick, attempt};
 pub use standing::nodes_of;
 pub use tokens::{over_tokens, put_tokens};
