@@ -56,6 +56,19 @@ time_texts() {
     run_row "$same" "$1 alternatives, each another literal of 100,000 bytes and more"
 }
 
+# time_held PATTERN: T, U and A<1> hold long strings
+time_held() {
+    printf ' S = %s\n T = DUPL("A",500000)\n U = DUPL("A",400000)\n A = ARRAY(1)\n A<1> = T\n' "$same" >"$work/program"
+    printf ' S %s :S(YES)F(NO)\nYES OUTPUT = "found" :(END)\nNO OUTPUT = "none"\nEND\n' "$1" >>"$work/program"
+    run_row "$same" "$1, T and U of 500,000 and 400,000 bytes"
+}
+
+# time_again COUNT PATTERN: so many statements that look for it in 300,000 bytes, none of which is looked at
+time_again() {
+    printf ' S = DUPL("A",300000)\nLOOK S %s :S(END)\n I = LT(I,%s) I + 1 :S(LOOK)\n OUTPUT = "none"\nEND\n' "$2" "$1" >"$work/program"
+    run_row "300,000 times A" "$2, $1 times"
+}
+
 same="DUPL('A',1000000)" mixed="DUPL('AB',500000)" open="DUPL('(',1000000)"
 nested="DUPL('(',500000) DUPL(')',500000)" unclosed="DUPL('(A',500000)"
 time_row "$same" "BREAK(',')"
@@ -111,9 +124,17 @@ time_row "DUPL('A',389990) 'B' DUPL('A',309999) 'B' DUPL('A',299999)" "BREAKX('B
 time_row "DUPL(DUPL('A',9990) 'B',100)" "BREAKX('B') 'C'"
 time_row "$same" "*SPAN('A') 'B'"
 time_row "$same" "SPAN(*T) 'B'"
+time_held "*T 'B'"
+time_held "(*T | *U) 'B'"
+time_held "*T \$ X *U 'B'"
+time_held "*A<1> 'B'"
 time_row "$same" "REM \$ X 'B'"
 time_row "$same" "SPAN('A') \$ X 'B'"
 time_row "$same" "ARB \$ X 'B'"
+time_again 2000 "POS(0) 'B'"
+time_again 2000 "RPOS(300001)"
+time_again 2000 "TAB(0) 'B'"
+time_again 2000 "LEN(300001)"
 
 # seconds PROGRAM INPUT, the least of three
 seconds() {
