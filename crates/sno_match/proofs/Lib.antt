@@ -10,6 +10,7 @@ pub mod MoveLaws
 pub mod PartLaws
 pub mod EntryLaws
 pub mod StartLaws
+pub mod StraightLaws
 pub mod SessionLaws
 pub mod CountLaws
 pub mod EngineLaws

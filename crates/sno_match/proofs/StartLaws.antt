@@ -204,7 +204,7 @@ way_same p s c = record {
       ap (λ n. search s start (Match p ∷ rest) c pending answers n) is;
 }
 
-alt_gives_way : (p q : Pattern) (s : List ℕ) (before c : ℕ) → FailsAt p s before c → GivesWay (Alt p q) q s (before + 2) c
+pub alt_gives_way : (p q : Pattern) (s : List ℕ) (before c : ℕ) → FailsAt p s before c → GivesWay (Alt p q) q s (before + 2) c
 alt_gives_way p q s before c first = record {
   gives_way = λ start rest pending answers due left e.
       let is : due ≡ suc (suc left + before) = omega (arith, e) in

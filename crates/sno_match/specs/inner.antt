@@ -7,4 +7,5 @@ pub mod Scopes
 pub mod Shared
 pub mod Starts
 pub mod State
+pub mod Straight
 pub mod Subject

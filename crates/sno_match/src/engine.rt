@@ -11,6 +11,7 @@ ghost use Rattle.sno_match.specs.inner.Running.{Advances, GoesOn, work};
 mod lookups;
 mod parts;
 
+use crate::doubt::Doubts;
 use crate::event::{Event, Pending};
 use crate::goal::{Goal, Top};
 use crate::moves::{go_on, make_move, put_answer};
@@ -55,6 +56,7 @@ pub struct Engine<P: Points> {
     told: u64,
     /// The pattern that was seen last to have no match at a first start, or none.
     vain: PatId,
+    doubts: Doubts,
     /// The pending list of the last way.
     way: Vec<Pending>,
     answers: Vec<Option<PatId>>,
@@ -130,6 +132,7 @@ impl<P: Points> Engine<P> {
             steps: 0,
             told: 0,
             vain: NO_PATTERN,
+            doubts: Doubts::none(),
             way: Vec::new(alloc),
             answers: Vec::new(alloc),
             state: State::Going,
@@ -317,6 +320,7 @@ impl<P: Points> Engine<P> {
         let passed = pass_failing_starts(
             patterns,
             &mut self.looks,
+            &mut self.doubts,
             self.pattern,
             subject,
             self.anchored,

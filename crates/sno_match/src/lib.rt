@@ -10,6 +10,7 @@
 
 mod bytes;
 mod copied;
+mod doubt;
 mod engine;
 mod event;
 mod goal;
@@ -19,10 +20,12 @@ mod moves;
 mod plan;
 mod points;
 mod shared;
+mod sides;
 mod silent;
 mod snapshot;
 mod starts;
 mod steps;
+mod straight;
 mod subject;
 
 pub use copied::CopiedGoals;

@@ -4,13 +4,13 @@ ghost use Rattle.sno_pattern.specs.Pattern.{Pattern};
 ghost use Rattle.sno_pattern.specs.Shape.{IsPrimitive};
 ghost use Rattle.sno_pattern.specs.Looks.{AreTrue};
 ghost use Rattle.sno_pattern.specs.Table.{tree};
-ghost use Rattle.sno_match.specs.inner.Starts.{Passes, FailsAt, FailsWith, FailsOutside, GivesWay};
+ghost use Rattle.sno_match.specs.inner.Starts.{Passes, FailsAt, FailsWith, FailsOutside};
 
+use crate::doubt::Doubts;
+use crate::sides::{MOST_DEPTH, sides_in_vain, steps_in_vain};
+use crate::straight::straight_in_vain;
 use sno_pattern::{ByteSet, Looks, Patterns, Shape, place_in_set};
 use sno_value::PatId;
-
-/// How deep choices may stand in one another's first sides, where it is asked whether they fail at once.
-const MOST_DEPTH: u32 = 500;
 
 /// The number of no pattern: a table doesn't come to have so many.
 pub(crate) const NO_PATTERN: PatId = PatId(4_294_967_295);
@@ -30,19 +30,14 @@ struct Head {
     above: u32,
 }
 
-/// What is left of a choice, and the steps of the sides before it.
-#[derive(Clone, Copy, Drop)]
-pub(crate) struct Sides {
-    pub id: PatId,
-    pub steps: u32,
-}
-
 /// The last of the starts behind this one that fail at once, one after another, as far as there are steps for them: the
-/// pattern begins with a primitive that has no end there, or with a choice none of whose first bytes stands there. Such
-/// a start costs a step to take it up, and one for each goal that is tried in vain.
+/// pattern begins with a primitive that has no end there, or with a choice none of whose first bytes stands there, or
+/// its search goes one way alone and is in vain. Such a start costs a step to take it up, and those of its search.
+#[inline(always)]
 pub(crate) fn pass_failing_starts(
     patterns: &Patterns,
     looks: &mut Looks,
+    doubts: &mut Doubts,
     pattern: PatId,
     subject: &[u8],
     anchored: bool,
@@ -64,6 +59,40 @@ pub(crate) fn pass_failing_starts(
     let Some(head) = head_of(patterns, pattern, left) else {
         return none;
     };
+    let passed = pass_by_head(patterns, looks, pattern, head, subject, start, left);
+    if passed.start >= subject.len() || !asks_for_more(patterns, pattern, head) {
+        return passed;
+    }
+    if !doubts.asks(pattern) {
+        return passed;
+    }
+    let passed = pass_in_vain(
+        patterns, looks, doubts, pattern, head, subject, start, passed, left,
+    );
+    passed
+}
+
+/// The same as far as the beginning of the pattern tells.
+#[inline(always)]
+fn pass_by_head(
+    patterns: &Patterns,
+    looks: &mut Looks,
+    pattern: PatId,
+    head: Head,
+    subject: &[u8],
+    start: usize,
+    left: u32,
+) -> Passed
+    requires known { head.id.0 < length patterns.now }
+    requires fails { FailsWith (tree patterns.now pattern.0) (tree patterns.now head.id.0) head.above }
+    requires near { head.above ≤ left - 2 }
+    requires before { start < length subject.now }
+    requires looks { AreTrue patterns.now subject.now looks.old }
+    ensures looks { AreTrue patterns.now subject.now looks.new }
+    ensures inside { result.start ≤ length subject.now }
+    ensures enough { result.steps ≤ left }
+    ensures passes { Passes false (tree patterns.now pattern.0) subject.now start result.start result.steps }
+{
     match patterns.shape(head.id) {
         Shape::Primitive => {
             let passed = pass_primitive(patterns, looks, pattern, head, subject, start, left);
@@ -73,8 +102,111 @@ pub(crate) fn pass_failing_starts(
             let passed = pass_choice(patterns, pattern, head, subject, start, left);
             passed
         }
-        _ => none,
+        _ => Passed { start, steps: 0 },
     }
+}
+
+/// Whether something comes behind the beginning of a pattern.
+#[inline(always)]
+fn asks_for_more(patterns: &Patterns, pattern: PatId, head: Head) -> bool
+    requires { pattern.0 < length patterns.now }
+{
+    match patterns.shape(pattern) {
+        Shape::Cat(_first, _second) => true,
+        _ => head.above > 1,
+    }
+}
+
+/// The last of the starts that fail at once behind those that were passed.
+#[inline(never)]
+fn pass_in_vain(
+    patterns: &Patterns,
+    looks: &mut Looks,
+    doubts: &mut Doubts,
+    pattern: PatId,
+    head: Head,
+    subject: &[u8],
+    start: usize,
+    before: Passed,
+    left: u32,
+) -> Passed
+    requires known { pattern.0 < length patterns.now }
+    requires head { head.id.0 < length patterns.now }
+    requires fails { FailsWith (tree patterns.now pattern.0) (tree patterns.now head.id.0) head.above }
+    requires looks { AreTrue patterns.now subject.now looks.old }
+    requires inside { before.start ≤ length subject.now }
+    requires enough { before.steps ≤ left }
+    requires near { head.above ≤ left - 2 }
+    requires passes { Passes false (tree patterns.now pattern.0) subject.now start before.start before.steps }
+    ensures looks { AreTrue patterns.now subject.now looks.new }
+    ensures inside { result.start ≤ length subject.now }
+    ensures enough { result.steps ≤ left }
+    ensures passes { Passes false (tree patterns.now pattern.0) subject.now start result.start result.steps }
+{
+    let mut passed = before;
+    let near = steps_near(patterns, head);
+    let mut vain = 0u32;
+    'starts: while passed.start < subject.len() {
+        let here = passed.start + 1;
+        let left = left - passed.steps;
+        let Some(steps) = straight_in_vain(patterns, looks, pattern, subject, here, left) else {
+            doubts.note(pattern, vain);
+            return passed;
+        };
+        vain = vain.saturating_add(1);
+        let left = left - steps - 1;
+        let behind = pass_behind(
+            patterns, looks, pattern, head, subject, here, steps, near, left,
+        );
+        passed.start = behind.start;
+        passed.steps += steps + 1 + behind.steps;
+    }
+    passed
+}
+
+/// How many steps a search takes in vain by the beginning of its pattern, where that is a primitive, or 0.
+fn steps_near(patterns: &Patterns, head: Head) -> u32
+    requires known { head.id.0 < length patterns.now }
+    requires near { head.above < 4294967295 }
+{
+    match patterns.shape(head.id) {
+        Shape::Primitive => head.above + 1,
+        _ => 0,
+    }
+}
+
+/// The starts behind this one that fail by the beginning of the pattern, where this one did, as the steps of its search
+/// tell, or where the pattern begins with a choice.
+#[inline(always)]
+fn pass_behind(
+    patterns: &Patterns,
+    looks: &mut Looks,
+    pattern: PatId,
+    head: Head,
+    subject: &[u8],
+    start: usize,
+    steps: u32,
+    near: u32,
+    left: u32,
+) -> Passed
+    requires known { head.id.0 < length patterns.now }
+    requires fails { FailsWith (tree patterns.now pattern.0) (tree patterns.now head.id.0) head.above }
+    requires inside { start ≤ length subject.now }
+    requires looks { AreTrue patterns.now subject.now looks.old }
+    ensures looks { AreTrue patterns.now subject.now looks.new }
+    ensures inside { result.start ≤ length subject.now }
+    ensures enough { result.steps ≤ left }
+    ensures passes { Passes false (tree patterns.now pattern.0) subject.now start result.start result.steps }
+{
+    let none = Passed { start, steps: 0 };
+    if near > 0 && steps != near {
+        return none;
+    }
+    if start >= subject.len() || left < 2 || head.above > left - 2 {
+        return none;
+    }
+    let passed = pass_by_head(patterns, looks, pattern, head, subject, start, left);
+    passed
 }
 
 /// The same where the pattern begins with a primitive.
@@ -168,37 +300,6 @@ fn pass_others(set: &ByteSet, subject: &[u8], start: usize, steps: u32, left: u3
     passed_before(start, next, price, left)
 }
 
-/// What is left of a choice behind the sides that a search from a place tries in vain, where these begin with choices of
-/// primitives without an end there. A step is left for it.
-pub(crate) fn sides_in_vain(
-    patterns: &Patterns,
-    id: PatId,
-    subject: &[u8],
-    at: usize,
-    left: u32,
-) -> Sides
-    requires known { id.0 < length patterns.now }
-    requires inside { at ≤ length subject.now }
-    requires some { 0 < left }
-    ensures known { result.id.0 < length patterns.now }
-    ensures near { result.steps < left }
-    ensures gives_way { GivesWay (tree patterns.now id.0) (tree patterns.now result.id.0) subject.now result.steps at }
-{
-    let mut rest = Sides { id, steps: 0 };
-    'sides: while left - rest.steps > 2 {
-        let Shape::Alt(first, second) = patterns.shape(rest.id) else {
-            return rest;
-        };
-        let left = left - rest.steps - 2;
-        let Some(steps) = steps_in_vain(patterns, first, subject, at, left, MOST_DEPTH) else {
-            return rest;
-        };
-        rest.id = second;
-        rest.steps += steps + 2;
-    }
-    rest
-}
-
 /// How many steps a choice's search takes in vain from a place, as `steps_in_vain` has it, however many sides it has.
 fn choice_in_vain(
     patterns: &Patterns,
@@ -223,53 +324,6 @@ fn choice_in_vain(
         MOST_DEPTH,
     )?;
     Some(rest.steps + last)
-}
-
-/// How many steps a pattern's search takes in vain from a place, where it begins with choices of primitives and none of
-/// them has an end there. If one has, or there are hardly so many steps, there is no such number.
-fn steps_in_vain(
-    patterns: &Patterns,
-    id: PatId,
-    subject: &[u8],
-    at: usize,
-    left: u32,
-    depth: u32,
-) -> Option<u32>
-    requires known { id.0 < length patterns.now }
-    requires inside { at ≤ length subject.now }
-    ensures fails { IfSome result (λ steps. FailsAt (tree patterns.now id.0) subject.now steps at) }
-    ensures near { IfSome result (λ steps. steps < left) }
-{
-    if depth == 0 || left <= 2 {
-        return None;
-    }
-    match patterns.shape(id) {
-        Shape::Primitive => {
-            if !patterns.fails_at(id, subject, at) {
-                return None;
-            }
-            Some(1)
-        }
-        Shape::Alt(first, second) => {
-            let before = steps_in_vain(patterns, first, subject, at, left - 2, depth - 1)?;
-            let left = left - 2 - before;
-            let behind = steps_in_vain(patterns, second, subject, at, left, depth - 1)?;
-            Some(before + behind + 2)
-        }
-        Shape::Cat(part, _second) => {
-            let steps = steps_in_vain(patterns, part, subject, at, left - 1, depth - 1)?;
-            Some(steps + 1)
-        }
-        Shape::Cond(part, _target) => {
-            let steps = steps_in_vain(patterns, part, subject, at, left - 1, depth - 1)?;
-            Some(steps + 1)
-        }
-        Shape::Imm(part, _target) => {
-            let steps = steps_in_vain(patterns, part, subject, at, left - 1, depth - 1)?;
-            Some(steps + 1)
-        }
-        _ => None,
-    }
 }
 
 /// How many steps a pattern's search takes in vain from a place, where it begins with a primitive whose first bytes tell

@@ -8,9 +8,10 @@ ghost use Rattle.sno_pattern.specs.Places.{IsAmong, BeginsWith, stands_at};
 ghost use Rattle.sno_pattern.specs.Table.{tree};
 
 use crate::byte_set::ByteSet;
+use crate::counts::count_end;
 use crate::ends::may_begin_with;
 use crate::kind::{Entry, Kind};
-use crate::sets::any_end;
+use crate::sets::{any_end, not_any_end};
 use sno_value::{PatId, Prim};
 
 /// How many heads are gone through up to the choice or the primitive that a pattern begins with.
@@ -154,6 +155,21 @@ pub(crate) fn kind_fails_at(kind: &Kind, subject: &[u8], at: usize) -> bool
         Kind::Among(prim, members) => match prim {
             Prim::Any => any_end(members, subject, at).is_none(),
             Prim::Span => any_end(members, subject, at).is_none(),
+            _ => false,
+        },
+        _ => false,
+    }
+}
+
+/// Whether a node with a count, or of NOTANY, has no end from a cursor. It is false for any other node.
+pub(crate) fn kind_misses(kind: &Kind, subject: &[u8], at: usize) -> bool
+    requires { at ≤ length subject.now }
+    ensures { IsTrue result → node_has_end (node_of kind.now) subject.now at ≡ false }
+{
+    match kind {
+        Kind::Counted(prim, n) => count_end(*prim, *n, subject, at).is_none(),
+        Kind::Among(prim, members) => match prim {
+            Prim::NotAny => not_any_end(members, subject, at).is_none(),
             _ => false,
         },
         _ => false,

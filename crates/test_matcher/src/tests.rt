@@ -19,4 +19,5 @@ mod refusals;
 mod rows;
 mod runs;
 mod searches;
+mod straight;
 mod tables;

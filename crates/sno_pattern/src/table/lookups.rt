@@ -11,7 +11,7 @@ ghost use Rattle.sno_pattern.specs.inner.Looks.{IsBal, StopsOften};
 
 use crate::byte_set::ByteSet;
 use crate::ends::{end_behind_of_kind, end_of_kind, has_one_end};
-use crate::first_bytes::{Beginning, add_first_bytes_of_kind, kind_fails_at};
+use crate::first_bytes::{Beginning, add_first_bytes_of_kind, kind_fails_at, kind_misses};
 use crate::head::{Head, behind_in_arb, head_of_kind};
 use crate::kind::{Kind, is_same_search, shape_of_kind};
 use crate::looks::{Looks, Run, is_far, is_near, key_behind, last_with_end};
@@ -150,6 +150,15 @@ impl Patterns {
         ensures { IsTrue result → has_end (tree self.now id.0) subject.now at ≡ false }
     {
         kind_fails_at(&self.entries[id.0 as usize].kind, subject, at)
+    }
+
+    /// Whether a primitive with a count, or NOTANY, has no end from a cursor. It is false for any other pattern.
+    pub fn misses(&self, id: PatId, subject: &[u8], at: usize) -> bool
+        requires id { id.0 < length self.now }
+        requires at { at ≤ length subject.now }
+        ensures { IsTrue result → has_end (tree self.now id.0) subject.now at ≡ false }
+    {
+        kind_misses(&self.entries[id.0 as usize].kind, subject, at)
     }
 
     /// The first end of a primitive, as `end_at` gives it, by what was found out before where that says it. What is

@@ -1,7 +1,7 @@
 use Rattle.std.proofs.Common.{arith}
 use Rattle.sno_pattern.specs.Table.{tree}
 use Rattle.sno_match.proofs.StartLaws.{way_same, way_more}
-use Rattle.sno_match.proofs.starts.sides_in_vain.Goals as goal
+use Rattle.sno_match.proofs.sides.sides_in_vain.Goals as goal
 
 pub sides-init : goal.sides-init
 sides-init c = record {

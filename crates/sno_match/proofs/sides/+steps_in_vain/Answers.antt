@@ -1,6 +1,6 @@
 use Rattle.sno_pattern.specs.Table.{tree}
 use Rattle.sno_match.proofs.StartLaws.{primitive_vain, choice_vain, first_fails, cond_body_fails, imm_body_fails}
-use Rattle.sno_match.proofs.starts.+steps_in_vain.Goals as goal
+use Rattle.sno_match.proofs.sides.+steps_in_vain.Goals as goal
 
 pub returns-else-not-fails_at-clause-fails : goal.returns-else-not-fails_at-clause-fails
 returns-else-not-fails_at-clause-fails t c =

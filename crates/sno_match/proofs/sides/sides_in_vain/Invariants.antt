@@ -1,7 +1,7 @@
 use Rattle.std.proofs.Common.{◌-◌, ◌<◌, length}
 use Rattle.sno_pattern.specs.Table.{tree}
 use Rattle.sno_match.specs.inner.Starts.{GivesWay}
-use Rattle.sno_match.proofs.starts.sides_in_vain.Given as goal
+use Rattle.sno_match.proofs.sides.sides_in_vain.Given as goal
 
 abbrev pub invariant-sides : goal.invariant-sides
 invariant-sides l = record {
