@@ -11,6 +11,8 @@ pub mod PartLaws
 pub mod EntryLaws
 pub mod StartLaws
 pub mod StraightLaws
+pub mod ArbLaws
+pub mod ArbPassLaws
 pub mod SessionLaws
 pub mod CountLaws
 pub mod EngineLaws

@@ -1,3 +1,4 @@
+pub mod Arb
 pub mod Hand
 pub mod Move
 pub mod Plan

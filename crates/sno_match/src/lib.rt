@@ -8,6 +8,8 @@
 //! `engine` is the loop over moves and starts, up to the next event (`event`). `laws` has what is true of every match.
 #![tactic(auto)]
 
+mod arb;
+mod asked;
 mod bytes;
 mod copied;
 mod doubt;

@@ -4,10 +4,11 @@ ghost use Rattle.std.specs.Prelude.{IfOk, IfNone, IfSome, OnOk, OnErr};
 ghost use Rattle.sno_match.specs.Point.{rest_of};
 ghost use Rattle.sno_match.specs.inner.Shared.{Falls, Fits, Extends, goals_of, marked};
 
+use crate::asked::Asked;
 use crate::event::Pending;
 use crate::goal::{Goal, Mark, Top};
 use crate::points::Points;
-use crate::silent::take_steps;
+use crate::silent::take_steps_and_ends;
 use sno_pattern::{Looks, Patterns};
 use std::alloc::{AllocError, Global};
 use std::marker::Model;
@@ -52,6 +53,7 @@ pub(crate) struct Lists {
 #[derive(Drop)]
 pub struct SharedGoals {
     lists: Lists,
+    asked: Asked,
 }
 
 impl Model for SharedGoals {
@@ -81,7 +83,10 @@ impl Points for SharedGoals {
             top: None,
             below: Vec::new(alloc),
         };
-        SharedGoals { lists }
+        SharedGoals {
+            lists,
+            asked: Asked::none(),
+        }
     }
 
     fn depth(&self) -> usize {
@@ -207,7 +212,15 @@ impl Points for SharedGoals {
         subject: &[u8],
         limit: u32,
     ) {
-        let taken = take_steps(&mut self.lists, looks, patterns, subject, *steps, limit);
+        let taken = take_steps_and_ends(
+            &mut self.lists,
+            &mut self.asked,
+            looks,
+            patterns,
+            subject,
+            *steps,
+            limit,
+        );
         *steps = taken;
     }
 
@@ -230,6 +243,7 @@ impl Points for SharedGoals {
         let cursor = in_32_bits(cursor)?;
         let goals = put_front(&mut self.lists.records, 0, 0, &[goal])?;
         self.lists.below.clear();
+        self.asked.begin_at(cursor);
         self.lists.top = Some(Held {
             goals,
             cursor,

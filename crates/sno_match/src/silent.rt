@@ -8,6 +8,8 @@ ghost use Rattle.sno_match.specs.inner.Move.{IsCursor};
 ghost use Rattle.sno_match.specs.inner.Shared.{Holds, points_of};
 ghost use Rattle.sno_match.specs.inner.Hand.{IsBehind, Enters, Leads};
 
+use crate::arb::take_next_end;
+use crate::asked::{Asked, Places};
 use crate::event::Pending;
 use crate::goal::{Goal, Mark};
 use crate::hand::{
@@ -17,10 +19,44 @@ use crate::shared::{GoalRecord, Held, Lists};
 use sno_pattern::{Head, Looks, Patterns, Shape};
 use sno_value::PatId;
 
-/// Takes the steps that are due, up to one that is left to the general way: how many were taken then.
+/// Takes the steps that are due, up to one that is left to the general way: how many were taken then. Ends of ARB behind
+/// which the search fails at once are passed.
+pub(crate) fn take_steps_and_ends(
+    lists: &mut Lists,
+    asked: &mut Asked,
+    looks: &mut Looks,
+    patterns: &Patterns,
+    subject: &[u8],
+    taken: u32,
+    limit: u32,
+) -> u32
+    requires holds { Holds lists.old.records.items lists.old.pending.items lists.old.top lists.old.below.items }
+    requires stands { Stands patterns.now subject.now looks.old limit taken
+        (points_of lists.old.records.items lists.old.pending.items lists.old.top lists.old.below.items) }
+    ensures looks { AreTrue patterns.now subject.now looks.new }
+    ensures holds { Holds lists.new.records.items lists.new.pending.items lists.new.top lists.new.below.items }
+    ensures leads { LeadsOn patterns.now subject.now limit
+        (points_of lists.old.records.items lists.old.pending.items lists.old.top lists.old.below.items) taken
+        (points_of lists.new.records.items lists.new.pending.items lists.new.top lists.new.below.items) result }
+    ensures records { length lists.new.records.items + 2 * taken ≤ length lists.old.records.items + 2 * result }
+{
+    let mut steps = take_steps(lists, asked.plain, looks, patterns, subject, taken, limit);
+    'ends: while steps < limit {
+        let behind = take_next_end(lists, asked, looks, patterns, subject, steps, limit);
+        if behind == steps {
+            return steps;
+        }
+        steps = take_steps(lists, asked.plain, looks, patterns, subject, behind, limit);
+    }
+    steps
+}
+
+/// Takes the steps that are due, up to one that is left to the general way or the next end of an ARB that isn't plain:
+/// how many were taken then.
 #[inline(never)]
 pub(crate) fn take_steps(
     lists: &mut Lists,
+    plain: Places,
     looks: &mut Looks,
     patterns: &Patterns,
     subject: &[u8],
@@ -49,6 +85,7 @@ pub(crate) fn take_steps(
             &mut lists.pending,
             &mut lists.below,
             &mut top,
+            plain,
             looks,
             patterns,
             subject,
@@ -65,11 +102,12 @@ pub(crate) fn take_steps(
 
 /// Takes the step of this point, which is the newest.
 #[inline(always)]
-fn take_step(
+pub(crate) fn take_step(
     records: &mut Vec<GoalRecord>,
     pending: &mut Vec<Pending>,
     below: &mut Vec<Held>,
     top: &mut Option<Held>,
+    plain: Places,
     looks: &mut Looks,
     patterns: &Patterns,
     subject: &[u8],
@@ -95,7 +133,7 @@ fn take_step(
         ),
         Some(at) => match first.goal {
             Goal::Match(id) => go_back(
-                records, below, top, patterns, subject, point, behind, id, at,
+                records, below, top, plain, patterns, subject, point, behind, id, at,
             ),
             _ => false,
         },
@@ -226,6 +264,7 @@ fn go_back(
     records: &mut Vec<GoalRecord>,
     below: &mut Vec<Held>,
     top: &mut Option<Held>,
+    plain: Places,
     patterns: &Patterns,
     subject: &[u8],
     point: Held,
@@ -243,10 +282,13 @@ fn go_back(
         records.old.items pending point below.old.items records.new.items pending top.new below.new.items }
 {
     match patterns.head_behind(id, subject, at as usize) {
-        Head::Ends {
-            first: _first,
-            next,
-        } => take_end(records, below, top, point, behind, at as usize, next),
+        // Ends of ARB may be passed, which is done apart.
+        Head::Ends { next, .. } => {
+            if !plain.has(point.goals) {
+                return false;
+            }
+            take_end(records, below, top, point, behind, at as usize, next)
+        }
         Head::Other(shape) => match shape {
             Shape::Alt(_p, q) => put_one(records, top, point, behind, Goal::Match(q)),
             Shape::Arbno(p) => {

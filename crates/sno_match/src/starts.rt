@@ -25,9 +25,9 @@ pub(crate) struct Passed {
 /// The pattern that another begins with, and how many
 /// concatenations and assignments of a part stand above it.
 #[derive(Clone, Copy, Drop)]
-struct Head {
-    id: PatId,
-    above: u32,
+pub(crate) struct Head {
+    pub id: PatId,
+    pub above: u32,
 }
 
 /// The last of the starts behind this one that fail at once, one after another, as far as there are steps for them: the
@@ -397,7 +397,7 @@ fn passed_before(start: usize, next: usize, price: u32, left: u32) -> Passed
 }
 
 /// The pattern that a pattern begins with, if there are steps to reach it from a further start.
-fn head_of(patterns: &Patterns, pattern: PatId, left: u32) -> Option<Head>
+pub(crate) fn head_of(patterns: &Patterns, pattern: PatId, left: u32) -> Option<Head>
     requires known { pattern.0 < length patterns.now }
     ensures known { IfSome result (λ head. head.id.0 < length patterns.now) }
     ensures fails { IfSome result

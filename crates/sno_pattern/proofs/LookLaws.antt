@@ -6,7 +6,7 @@ use Rattle.std.specs.Option.{is_some}
 use Rattle.std.proofs.lemmas.Bool.{ne_eqb}
 use Rattle.std.proofs.lemmas.List.{drop-drop, get_or-set_same, get_or-set_other, length-set}
 use Rattle.sno_value.specs.declared.kind.PrimitiveKind.TheVariants.{Span, Break, BreakX}
-use Rattle.sno_pattern.specs.Pattern.{Pattern, Bal, Leaf, Among}
+use Rattle.sno_pattern.specs.Pattern.{Pattern, Arb, Bal, Leaf, Among}
 use Rattle.sno_pattern.specs.Ends.{is_in, end_if, run_length, first_in, ends}
 use Rattle.sno_pattern.specs.Places.{IsFirstPlace, has_end}
 use Rattle.sno_pattern.specs.inner.Places.{leaf_has_end}
@@ -291,6 +291,12 @@ is_stop entries id entry set t h e is =
 pub is_bal : (entries : List Entry) (id : ℕ) (entry : Entry) → IsTable entries → id < length entries → get_or entries id entry ≡ entry → entry.kind ≡ K.Bal
     → tree (nodes_of entries) id ≡ Leaf Bal
 is_bal entries id entry t h e is =
+    tree-at (nodes_of entries) id (node_of entry.kind) t.parts (node-at entries id entry h e)
+    ∙ ap (λ (k : Kind). tree_over (trees_onto [] (nodes_of entries)) (node_of k)) is
+
+pub is_arb : (entries : List Entry) (id : ℕ) (entry : Entry) → IsTable entries → id < length entries → get_or entries id entry ≡ entry → entry.kind ≡ K.Arb
+    → tree (nodes_of entries) id ≡ Leaf Arb
+is_arb entries id entry t h e is =
     tree-at (nodes_of entries) id (node_of entry.kind) t.parts (node-at entries id entry h e)
     ∙ ap (λ (k : Kind). tree_over (trees_onto [] (nodes_of entries)) (node_of k)) is
 

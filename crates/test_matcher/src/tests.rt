@@ -1,4 +1,5 @@
 mod again;
+mod arb;
 mod asking;
 mod choices;
 mod drawing;

@@ -36,3 +36,8 @@ pub record Passes (anchored : Bool) (p : Pattern) (s : List ℕ) (from to price 
   pub passes : (answers : List Answer) (due left : ℕ) → due ≡ left + price →
       further (Gives [] answers due Exhausted) (searches_behind anchored p s from)
       ≡ further (Gives [] answers left Exhausted) (searches_behind anchored p s to)
+
+-- from the cursor these goals are searched in vain, which takes so many steps, whatever waits
+pub record GoalsFail (s : List ℕ) (goals : List Goal) (price c : ℕ) : Type 0 where
+  pub fails : (start : ℕ) (pending : List Pending) (answers : List Answer) (due left : ℕ) → due ≡ left + price →
+      search s start goals c pending answers due ≡ Gives [] answers left Exhausted

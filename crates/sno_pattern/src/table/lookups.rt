@@ -1,7 +1,7 @@
 //! What is looked up of a pattern in the table.
 ghost use Rattle.std.specs.Prelude.{◌≡◌, ℕ, ◌+◌, ◌<◌, ◌≤◌, ◌↔◌, length, List, Some, None, IfSome, IsTrue, Contains};
 ghost use Rattle.std.specs.Prelude.{false};
-ghost use Rattle.sno_pattern.specs.Pattern.{IsQuiet};
+ghost use Rattle.sno_pattern.specs.Pattern.{IsQuiet, Leaf, Arb};
 ghost use Rattle.sno_pattern.specs.Shape.{HasShape, HasHead, GoesOnAs, IsPrimitive, end_of};
 ghost use Rattle.sno_pattern.specs.Table.{tree};
 ghost use Rattle.sno_pattern.specs.NextEnd.{ends_of, next_end};
@@ -260,6 +260,15 @@ impl Patterns {
             Kind::Among(prim, _set) => matches!(prim, Prim::BreakX),
             _ => false,
         }
+    }
+
+    /// Whether a number's tree is ARB.
+    #[inline(always)]
+    pub fn is_arb(&self, id: PatId) -> bool
+        requires { id.0 < length self.now }
+        ensures { IsTrue result → tree self.now id.0 ≡ Leaf Arb }
+    {
+        matches!(&self.entries[id.0 as usize].kind, Kind::Arb)
     }
 
     /// Whether a number's tree is BAL, whose end behind another is its first end from there.

@@ -20,8 +20,8 @@ take_end-requires-clause-next c =
     (end_of-range (tree c.args.patterns.now c.args.id.0) c.args.subject.now c.args.point.cursor (number.0 + 1) c.in-Ends.next c.requires.inside.0
     (sym (c.in-Ends.ensures.1 c.args.point.cursor number.0 c.requires.inside.0 number.1)))
 
-pub returns-in-Ends : goal.returns-in-Ends
-returns-in-Ends c = λ pending holds.
+pub returns-else-not-has : goal.returns-else-not-has
+returns-else-not-has c = λ pending holds.
     let is_end = plans.ends_in c.args.patterns.now c.args.id.0 c.in-Ends.ensures.0.0 c.args.subject.now c.args.point.cursor c.args.at c.in-Ends.ensures.0.1
     c.requires.next in
     let number = plans.number_of c.args.patterns.now c.args.id.0 c.args.subject.now c.args.point.cursor c.args.at is_end in
