@@ -61,8 +61,7 @@ pub(crate) fn answer_to<R: Source, W: Sink, S: Calls<R, W>>(
     }
     let Some(held) = held else {
         nodes.clear();
-        runtime.answers_for(expr);
-        return answered_by(runtime, scope, reader, writer, prim, code);
+        return answered_by(runtime, scope, reader, writer, prim, expr, code);
     };
     if let Value::Pat(id) = held
         && prim.is_none()
@@ -98,6 +97,7 @@ fn answered_by<R: Source, W: Sink, S: Calls<R, W>>(
     reader: &mut R,
     writer: &mut W,
     prim: Option<Prim>,
+    expr: ExprId,
     code: &[Instruction],
 ) -> Result<Option<PatId>, Exit>
     requires known { AreKnown (S.code scope.now) code.now }
@@ -107,7 +107,10 @@ fn answered_by<R: Source, W: Sink, S: Calls<R, W>>(
         runtime.old runtime.new
         (devices (R.feed reader.old) (W.drain writer.old)) (devices (R.feed reader.new) (W.drain writer.new)) result }
 {
+    runtime.answers_for(expr);
     let value = run_code(runtime, scope, reader, writer, code);
+    // A call may have made nodes of its own.
+    runtime.answers_for(expr);
     let answer = answer_of(runtime, prim, value);
     runtime.makes_once();
     answer

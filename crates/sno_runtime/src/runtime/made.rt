@@ -33,7 +33,8 @@ const WHOLES: usize = 512;
 /// what makes a new one each time would be compared in vain.
 const APART: u32 = 64;
 
-/// The longest text that is compared with the one that was made before.
+/// The longest text that is compared with the one that was made before, but for an answer to a deferred expression: what
+/// that made is kept for the run, and to make a long text takes as long as to compare it.
 const COMPARED: usize = 256;
 
 /// A place where no node is kept.
@@ -68,6 +69,12 @@ impl Made {
             Some(id) => *id,
             None => NO_NODE,
         }
+    }
+
+    /// Whether a text of this length is compared with that of the node at the next place.
+    #[inline(always)]
+    fn compares(&self, len: usize) -> bool {
+        len <= COMPARED || self.place >= DEFERRED
     }
 
     /// Keeps a node at the next place.
@@ -202,7 +209,7 @@ impl Runtime {
     pub(crate) fn has_text(&self, id: PatId, bytes: &[u8]) -> bool
         ensures { IsTrue result → StandsFor self.now.nodes id (Leaf (Text bytes.now)) }
     {
-        bytes.len() <= COMPARED && self.patterns.is_text(id, bytes)
+        self.made.compares(bytes.len()) && self.patterns.is_text(id, bytes)
     }
 
     /// The node that was made last, where it is the one that is wanted; it is counted. None where that must be made.

@@ -36,7 +36,7 @@ returns-in_default-held-clause-does g c =
     let new = devices (g.R.Source.feed c.answered_by.new.reader) (g.W.Sink.drain c.answered_by.new.writer) in
     subst (λ (act : Action Value).
     Runs {X = Option PatId} given_of IsGivenOf (settles act (answer_of c.args.prim)) c.args.runtime.now c.answered_by.new.runtime old new c.answered_by.result)
-    same (rw c.answers_for.ensures at c.answered_by.ensures)
+    same c.answered_by.ensures
 
 pub returns-2-clause-does : goal.returns-2-clause-does
 returns-2-clause-does g c =
@@ -55,7 +55,7 @@ returns-in_err-value-clause-does g c =
 pub answer_of-answer-requires : goal.answer_of-answer-requires
 answer_of-answer-requires g c =
     let held = (rw c.program.ensures.program at c.in-Some-held.ensures) (g.S.Calls.caller c.args.scope.now) in
-    rw (c.answers_for-2.ensures, c.in_ok-value.ensures.equal) held.answer
+    rw (c.answers_for.ensures, c.in_ok-value.ensures.equal) held.answer
 
 pub returns-3-clause-does : goal.returns-3-clause-does
 returns-3-clause-does g c =
@@ -64,9 +64,9 @@ returns-3-clause-does g c =
     let same = (rw c.code.ensures at c.in-Some.ensures).0 call ∙ ap (expression (g.S.Calls.code c.args.scope.now) call) c.value_of-part.ensures in
     let held = subst (λ (act : Action Value). Does {X = Stored} shown IsValueOf act s s (Ok c.in-Some-held.held.now)) same
     ((rw c.program.ensures.program at c.in-Some-held.ensures) call) in
-    rw (c.makes_once.ensures, ← c.answers_for-2.ensures)
-    (c.answer_of-answer.ensures _ _ _ _ (does_runs shown IsValueOf _ _ _ _ _ (rw c.answers_for-2.ensures c.requires.within.ready)
-    (rw (c.answers_for-2.ensures, c.in_ok-value.ensures.equal) held)))
+    rw (c.makes_once.ensures, ← c.answers_for.ensures)
+    (c.answer_of-answer.ensures _ _ _ _ (does_runs shown IsValueOf _ _ _ _ _ (rw c.answers_for.ensures c.requires.within.ready)
+    (rw (c.answers_for.ensures, c.in_ok-value.ensures.equal) held)))
 
 pub returns-3-clause-nodes : goal.returns-3-clause-nodes
 returns-3-clause-nodes g c =
@@ -75,4 +75,4 @@ returns-3-clause-nodes g c =
     rw c.makes_once.ensures
     (stay_answered c.args.prim s _ _ c.in_ok-value.value _ c.args.nodes.now c.requires.within.ready (rw c.in_ok-value.ensures.equal held.answer)
     (λ act before old new did. c.answer_of-answer.ensures act before old new
-    (subst (λ (b : Runtime). Runs {X = Stored} shown IsValueOf act before b old new (Ok c.in_ok-value.value)) (sym c.answers_for-2.ensures) did)) c.requires.nodes)
+    (subst (λ (b : Runtime). Runs {X = Stored} shown IsValueOf act before b old new (Ok c.in_ok-value.value)) (sym c.answers_for.ensures) did)) c.requires.nodes)
