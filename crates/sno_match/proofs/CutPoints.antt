@@ -6,7 +6,7 @@ use Rattle.std.proofs.lemmas.List.{reverse-append, length-reverse, take-append-d
 use Rattle.sno_match.specs.declared.event.Pending.{Pending}
 use Rattle.sno_match.specs.declared.goal.Goal.{Goal}
 use Rattle.sno_match.specs.declared.goal.Mark.TheVariants.{Enter}
-use Rattle.sno_match.specs.declared.shared.GoalRecord.{GoalRecord}
+use Rattle.sno_match.specs.declared.records.GoalRecord.{GoalRecord}
 use Rattle.sno_match.specs.declared.shared.Held.{Held}
 use Rattle.sno_match.specs.Point.{Point, rest_of, cut_back}
 use Rattle.sno_match.specs.declared.copied.Held.{Held as Copied}

@@ -9,7 +9,7 @@ use Rattle.sno_match.specs.declared.plan.Front.{Front}
 use Rattle.sno_match.specs.declared.plan.Front.TheVariants.{Nothing}
 use Rattle.sno_match.specs.declared.plan.Plan.{Plan}
 use Rattle.sno_match.specs.declared.plan.Plan.TheVariants as P
-use Rattle.sno_match.specs.declared.shared.GoalRecord.{GoalRecord}
+use Rattle.sno_match.specs.declared.records.GoalRecord.{GoalRecord}
 use Rattle.sno_match.specs.declared.shared.Held.{Held}
 use Rattle.sno_match.specs.Point.{rest_of}
 use Rattle.sno_match.specs.inner.Plan.{IsPlan, KeepsScopes, goals_in}

@@ -13,9 +13,10 @@ use crate::asked::{Asked, Places};
 use crate::event::Pending;
 use crate::goal::Goal;
 use crate::hand::first_record;
-use crate::shared::{GoalRecord, Held, Lists};
+use crate::heads::{Head, head_of};
+use crate::records::GoalRecord;
+use crate::shared::{Held, Lists};
 use crate::silent::take_step;
-use crate::starts::{Head, head_of};
 use sno_pattern::{Beginning, Looks, Patterns, Shape, place_in_set};
 use sno_value::PatId;
 

@@ -7,7 +7,8 @@ ghost use Rattle.sno_match.specs.inner.Hand.{IsFirst, IsBehind, Carries};
 use crate::event::Pending;
 use crate::goal::Goal;
 use crate::plan::{Front, Plan};
-use crate::shared::{GoalRecord, Held, larger};
+use crate::records::GoalRecord;
+use crate::shared::{Held, larger};
 
 /// The greatest number of a record behind which two more have numbers.
 const MOST_KEPT: u32 = 4_294_967_293;

@@ -2,7 +2,7 @@
 //!
 //! A pattern's number is the first goal (`goal`), and is matched from a start. The stack of resumption points
 //! (`points`) has what is still to be tried, the newest first: in `shared`, which is in use, the points share their
-//! lists of goals; in `copied`, which stands beside it, each has its own. `steps` finds what the step of the newest
+//! lists of goals (`records`); in `copied`, which stands beside it, each has its own. `steps` finds what the step of the newest
 //! point's first goal comes to, which is a `plan` and is carried out at once, by one operation of the stack; `moves`
 //! counts the step; `silent` takes steps that tell nothing one after another, with the newest point in hand (`hand`);
 //! `engine` is the loop over moves and starts, up to the next event (`event`). `laws` has what is true of every match.
@@ -17,10 +17,12 @@ mod engine;
 mod event;
 mod goal;
 mod hand;
+mod heads;
 mod laws;
 mod moves;
 mod plan;
 mod points;
+mod records;
 mod shared;
 mod sides;
 mod silent;

@@ -10,9 +10,10 @@ ghost use Rattle.sno_match.specs.inner.Move.{IsAtTop, Makes, EnteredGivesWay, an
 
 use crate::event::{Event, Pending};
 use crate::goal::{Goal, Mark, Top};
+use crate::heads::head_in_vain;
 use crate::points::Points;
 use crate::sides::{Sides, sides_in_vain};
-use crate::starts::{NO_PATTERN, head_in_vain};
+use crate::starts::NO_PATTERN;
 use crate::steps::{Due, due_at, take_step};
 use sno_pattern::{Looks, Patterns, Shape};
 use sno_value::PatId;

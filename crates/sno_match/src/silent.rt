@@ -15,7 +15,8 @@ use crate::goal::{Goal, Mark};
 use crate::hand::{
     close, drop_point, first_record, put_one, put_two, stay, stay_and_put, take_end,
 };
-use crate::shared::{GoalRecord, Held, Lists};
+use crate::records::GoalRecord;
+use crate::shared::{Held, Lists};
 use sno_pattern::{Head, Looks, Patterns, Shape};
 use sno_value::PatId;
 

@@ -7,6 +7,7 @@ ghost use Rattle.sno_pattern.specs.Table.{tree};
 ghost use Rattle.sno_match.specs.inner.Starts.{Passes, FailsAt, FailsWith, FailsOutside};
 
 use crate::doubt::Doubts;
+use crate::heads::{Head, head_of};
 use crate::sides::{MOST_DEPTH, sides_in_vain, steps_in_vain};
 use crate::straight::straight_in_vain;
 use sno_pattern::{ByteSet, Looks, Patterns, Shape, place_in_set};
@@ -20,14 +21,6 @@ pub(crate) const NO_PATTERN: PatId = PatId(4_294_967_295);
 pub(crate) struct Passed {
     pub start: usize,
     pub steps: u32,
-}
-
-/// The pattern that another begins with, and how many
-/// concatenations and assignments of a part stand above it.
-#[derive(Clone, Copy, Drop)]
-pub(crate) struct Head {
-    pub id: PatId,
-    pub above: u32,
 }
 
 /// The last of the starts behind this one that fail at once, one after another, as far as there are steps for them: the
@@ -326,31 +319,6 @@ fn choice_in_vain(
     Some(rest.steps + last)
 }
 
-/// How many steps a pattern's search takes in vain from a place, where it begins with a primitive whose first bytes tell
-/// that it has no end there.
-#[inline(always)]
-pub(crate) fn head_in_vain(
-    patterns: &Patterns,
-    pattern: PatId,
-    subject: &[u8],
-    at: usize,
-    left: u32,
-) -> Option<u32>
-    requires known { pattern.0 < length patterns.now }
-    requires inside { at ≤ length subject.now }
-    ensures fails { IfSome result (λ steps. FailsAt (tree patterns.now pattern.0) subject.now steps at) }
-    ensures near { IfSome result (λ steps. steps ≤ left) }
-{
-    let head = head_of(patterns, pattern, left)?;
-    let Shape::Primitive = patterns.shape(head.id) else {
-        return None;
-    };
-    if left <= head.above || !patterns.fails_at(head.id, subject, at) {
-        return None;
-    }
-    Some(head.above + 1)
-}
-
 /// The pattern that was seen last to have no match at a first start, behind a search from a start in vain: the one in
 /// hand, where the starts behind its first one were passed for as many steps each as that one took.
 pub(crate) fn vain_behind(
@@ -393,41 +361,5 @@ fn passed_before(start: usize, next: usize, price: u32, left: u32) -> Passed
     Passed {
         start: start + passed,
         steps: passed as u32 * price,
-    }
-}
-
-/// The pattern that a pattern begins with, if there are steps to reach it from a further start.
-pub(crate) fn head_of(patterns: &Patterns, pattern: PatId, left: u32) -> Option<Head>
-    requires known { pattern.0 < length patterns.now }
-    ensures known { IfSome result (λ head. head.id.0 < length patterns.now) }
-    ensures fails { IfSome result
-        (λ head. FailsWith (tree patterns.now pattern.0) (tree patterns.now head.id.0) head.above) }
-    ensures near { IfSome result (λ head. head.above ≤ left - 2) }
-{
-    let mut head = Head {
-        id: pattern,
-        above: 0,
-    };
-    'chain: while let Some(first) = first_part(patterns, head.id) {
-        if head.above + 2 >= left {
-            return None;
-        }
-        head.id = first;
-        head.above += 1;
-    }
-    Some(head)
-}
-
-/// The pattern that is the first goal behind another's own step, where the other fails if this one does.
-fn first_part(patterns: &Patterns, id: PatId) -> Option<PatId>
-    requires { id.0 < length patterns.now }
-    ensures below { IfSome result (λ part. part.0 < id.0) }
-    ensures fails { IfSome result (λ part. FailsWith (tree patterns.now id.0) (tree patterns.now part.0) 1) }
-{
-    match patterns.shape(id) {
-        Shape::Cat(first, _second) => Some(first),
-        Shape::Cond(body, _target) => Some(body),
-        Shape::Imm(body, _target) => Some(body),
-        _ => None,
     }
 }

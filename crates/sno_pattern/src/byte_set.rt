@@ -82,6 +82,13 @@ impl ByteSet {
         self.words == other.words
     }
 
+    /// Whether its bits are those of four words.
+    pub(crate) fn has_words(&self, words: [u64; 4]) -> bool
+        ensures { IsTrue result → self.now ≡ members words }
+    {
+        self.words == words
+    }
+
     /// A number for the set, below 2^32, by which few different sets are told to be the same.
     pub(crate) fn hash(&self) -> u32 {
         let [a, b, c, d] = self.words;

@@ -5,7 +5,8 @@
 //! (`byte_set`). `ends` says where a primitive ends behind a cursor, by `counts`, `sets` and `balance` (with its
 //! `balance_table`), and `places` where the next end is; `first_bytes` are the bytes with which it begins. `looks` keeps
 //! what the looks through one subject have found out, `present` which bytes stand in its parts, `comparisons` how far long
-//! texts agreed with it (by `agreement`), and `lanes` looks at 32 bytes at a time.
+//! texts agreed with it (by `agreement`), and `lanes` looks at 32 bytes at a time. `spellings` keeps the lists that sets
+//! were made of.
 #![tactic(auto)]
 
 mod agreement;
@@ -27,6 +28,7 @@ mod places;
 mod present;
 mod sets;
 mod shape;
+mod spellings;
 mod table;
 
 pub use argument::Arg;

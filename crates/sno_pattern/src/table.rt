@@ -1,7 +1,7 @@
 //! The table of patterns and its builders.
 ghost use Rattle.std.specs.Prelude.{◌≡◌, ◌<◌, ◌≤◌, ◌↔◌, ◌⊎◌, [], length, Some, None, IfOk, IfErr, OnOk, OnErr};
 ghost use Rattle.std.specs.Prelude.{IsErrOf};
-ghost use Rattle.sno_pattern.specs.Pattern.{Text, Arb, Bal, Rem, Fail, Leaf, Fence, Cut, Abort, Succeed, Arbno, Alt};
+ghost use Rattle.sno_pattern.specs.Pattern.{Among, Text, Arb, Bal, Rem, Fail, Leaf, Fence, Cut, Abort, Succeed, Arbno, Alt};
 ghost use Rattle.sno_pattern.specs.Pattern.{Cat, Cond, Imm, Place, Defer};
 ghost use Rattle.sno_pattern.specs.Table.{tree, tree_over, trees_onto, LeafNode, FenceNode, AbortNode, SucceedNode};
 ghost use Rattle.sno_pattern.specs.Table.{CutNode, ArbnoNode, AltNode, CatNode, CondNode, ImmNode, PlaceNode};
@@ -9,6 +9,7 @@ ghost use Rattle.sno_pattern.specs.Table.{DeferNode};
 ghost use Rattle.sno_pattern.specs.inner.Table.{PartsBelow};
 ghost use Rattle.sno_pattern.specs.Arguments.{IsArgOf, IsNullSet, IsBadCount, IsGoodArg, primitive_of};
 ghost use Rattle.sno_pattern.specs.Built.{Appends, Builds};
+ghost use Rattle.sno_pattern.specs.Sets.{set_of};
 ghost use Rattle.sno_pattern.specs.inner.Kinds.{nodes_of, node_of, IsBegun, IsTable};
 
 mod long_texts;
@@ -20,6 +21,7 @@ use crate::byte_set::ByteSet;
 use crate::first_bytes::first_bytes_of_choice;
 use crate::kind::{Entry, Kind, is_quiet_over};
 use crate::numbers::Numbers;
+use crate::spellings::Spellings;
 use sno_value::{ExprId, Name, PatId, Prim};
 use std::alloc::Global;
 use std::marker::Model;
@@ -49,6 +51,7 @@ pub enum BuildError {
 pub struct Patterns {
     entries: Vec<Entry>,
     numbers: Numbers,
+    spellings: Spellings,
     alloc: Global,
 }
 
@@ -73,6 +76,7 @@ impl Patterns {
         Patterns {
             entries: Vec::new(alloc),
             numbers: Numbers::new(),
+            spellings: Spellings::new(alloc),
             alloc,
         }
     }
@@ -135,11 +139,23 @@ impl Patterns {
                 if bytes.is_empty() {
                     return Err(BuildError::NullSet);
                 }
-                let kind = Kind::Among(prim, ByteSet::of(bytes));
-                let number = self.numbers.number_behind(&self.entries, &kind);
-                append_numbered(&mut self.entries, kind, number)
+                self.among(prim, bytes)
             }
         }
+    }
+
+    /// A primitive with a set of bytes. The list that it is made of is kept for the node.
+    fn among(&mut self, prim: Prim, bytes: &[u8]) -> Result<PatId, BuildError>
+        ensures built { Builds (LeafNode (Among prim (set_of bytes.now))) (Leaf (Among prim (set_of bytes.now)))
+            self.old self.new result }
+    {
+        let set = ByteSet::of(bytes);
+        let words = set.words();
+        let kind = Kind::Among(prim, set);
+        let number = self.numbers.number_behind(&self.entries, &kind);
+        let id = append_numbered(&mut self.entries, kind, number)?;
+        self.spellings.keep(id, bytes, words);
+        Ok(id)
     }
 
     /// ARB: any part, the shortest first.

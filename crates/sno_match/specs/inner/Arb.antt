@@ -8,7 +8,7 @@ use Rattle.sno_match.specs.declared.arb.Jump.{Jump}
 use Rattle.sno_match.specs.declared.event.Pending.{Pending}
 use Rattle.sno_match.specs.declared.goal.Goal.{Goal}
 use Rattle.sno_match.specs.declared.goal.Goal.TheVariants as N
-use Rattle.sno_match.specs.declared.shared.GoalRecord.{GoalRecord}
+use Rattle.sno_match.specs.declared.records.GoalRecord.{GoalRecord}
 use Rattle.sno_match.specs.declared.shared.Held.{Held}
 use Rattle.sno_match.specs.Remaining.{goals_of}
 use Rattle.sno_match.specs.Scopes.{HasCuts}

@@ -5,7 +5,7 @@ use Rattle.sno_match.specs.declared.event.Pending.{Pending}
 use Rattle.sno_match.specs.declared.goal.Goal.{Goal}
 use Rattle.sno_match.specs.declared.goal.Mark.{Mark}
 use Rattle.sno_match.specs.declared.plan.Plan.{Plan}
-use Rattle.sno_match.specs.declared.shared.GoalRecord.{GoalRecord}
+use Rattle.sno_match.specs.declared.records.GoalRecord.{GoalRecord}
 use Rattle.sno_match.specs.declared.shared.Held.{Held}
 use Rattle.sno_match.specs.Point.{rest_of}
 use Rattle.sno_match.specs.Scopes.{HasCuts}

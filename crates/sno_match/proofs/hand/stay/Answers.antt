@@ -1,7 +1,7 @@
 use Rattle.std.proofs.Common.{arith, ◌≤◌, length, sym, subst, List, [], take}
 use Rattle.sno_match.specs.declared.plan.Front.TheVariants.{Nothing}
 use Rattle.sno_match.specs.inner.Shared.{Extends}
-use Rattle.sno_match.specs.declared.shared.GoalRecord.{GoalRecord}
+use Rattle.sno_match.specs.declared.records.GoalRecord.{GoalRecord}
 use Rattle.sno_match.proofs.HandLaws.{floor_in_records, goals_in_records, none_put, stayed}
 use Rattle.sno_match.proofs.hand.stay.Goals as goal
 

@@ -1,7 +1,7 @@
 use Rattle.std.proofs.Common.{arith}
 use Rattle.sno_pattern.specs.Table.{tree}
 use Rattle.sno_match.proofs.StartLaws.{more_fails}
-use Rattle.sno_match.proofs.starts.head_of.Goals as goal
+use Rattle.sno_match.proofs.heads.head_of.Goals as goal
 
 pub chain-preserved : goal.chain-preserved
 chain-preserved c =

@@ -4,7 +4,7 @@ use Rattle.std.proofs.lemmas.Iterator.Adapters.{YieldsList-from_rev_slice}
 use Rattle.std.proofs.lemmas.Iterator.Consumers.{YieldsList-turn, YieldsList-end}
 use Rattle.sno_match.specs.inner.Shared.{Extends}
 use Rattle.sno_match.proofs.SharedLaws.{extends_none, extends_more}
-use Rattle.sno_match.proofs.shared.link.Goals as goal
+use Rattle.sno_match.proofs.records.link.Goals as goal
 
 pub push_reserved-requires : goal.push_reserved-requires
 push_reserved-requires c =

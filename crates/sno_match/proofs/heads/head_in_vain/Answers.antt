@@ -2,7 +2,7 @@ use Rattle.std.proofs.Common.{arith, subst}
 use Rattle.sno_pattern.specs.Table.{tree}
 use Rattle.sno_match.specs.inner.Starts.{FailsAt}
 use Rattle.sno_match.proofs.StartLaws.{head_fails}
-use Rattle.sno_match.proofs.starts.head_in_vain.Goals as goal
+use Rattle.sno_match.proofs.heads.head_in_vain.Goals as goal
 
 pub returns-clause-fails : goal.returns-clause-fails
 returns-clause-fails c =

@@ -2,7 +2,7 @@ use Rattle.std.proofs.Common.{◌∙◌, sym, ap, arith, reverse}
 use Rattle.sno_match.specs.Point.{rest_of}
 use Rattle.sno_match.specs.inner.Shared.{goals_of}
 use Rattle.sno_match.proofs.SharedLaws.{no_goals, first_rest, first_smaller}
-use Rattle.sno_match.proofs.shared.behind_first.Goals as goal
+use Rattle.sno_match.proofs.records.behind_first.Goals as goal
 
 pub returns-then-goals-eq0-clause-value : goal.returns-then-goals-eq0-clause-value
 returns-then-goals-eq0-clause-value c =

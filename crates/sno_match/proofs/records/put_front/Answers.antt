@@ -1,7 +1,7 @@
 use Rattle.std.proofs.Common.{◌∙◌, ap, sym, subst, reverse, take}
 use Rattle.sno_match.specs.inner.Shared.{Falls}
 use Rattle.sno_match.proofs.SharedLaws.{falls_cut}
-use Rattle.sno_match.proofs.shared.put_front.Goals as goal
+use Rattle.sno_match.proofs.records.put_front.Goals as goal
 
 pub link-goals-requires-clause-falls : goal.link-goals-requires-clause-falls
 link-goals-requires-clause-falls c =

@@ -1,7 +1,7 @@
 use Rattle.std.proofs.Common.{◌-◌, ◌<◌, ◌≤◌, length}
 use Rattle.sno_pattern.specs.Table.{tree}
 use Rattle.sno_match.specs.inner.Starts.{FailsWith}
-use Rattle.sno_match.proofs.starts.head_of.Given as goal
+use Rattle.sno_match.proofs.heads.head_of.Given as goal
 
 abbrev pub invariant-chain : goal.invariant-chain
 invariant-chain l = record {

@@ -1,6 +1,6 @@
 use Rattle.sno_pattern.specs.Table.{tree}
 use Rattle.sno_match.proofs.StartLaws.{first_fails, cond_body_fails, imm_body_fails}
-use Rattle.sno_match.proofs.starts.first_part.Goals as goal
+use Rattle.sno_match.proofs.heads.first_part.Goals as goal
 
 pub returns-in-Cat-clause-fails : goal.returns-in-Cat-clause-fails
 returns-in-Cat-clause-fails c =

@@ -1,6 +1,6 @@
 use Rattle.std.proofs.Common.{◌≡◌, ◌+◌, map, length, reverse, vec_len, vec_capacity}
 use Rattle.sno_match.specs.inner.Shared.{Extends}
-use Rattle.sno_match.proofs.shared.link.Given as goal
+use Rattle.sno_match.proofs.records.link.Given as goal
 
 -- the goals that were yielded, the last one first, stand in front of the list
 abbrev pub invariant-loop-goal : goal.invariant-loop-goal
