@@ -22,6 +22,10 @@ const CHANGED: &str = r"
  P = 'a'\n S = 'xab'\nL I = LT(I,4) I + 1 :F(END)\n P = GT(I,2) LEN(2)\n S P . X RTAB(0)\n OUTPUT = X :(L)\nEND\n => a\na\nxa\nxa\n
  S = 'xyb'\nL I = LT(I,4) I + 1 :F(END)\n EQ(I,3) DEFINE('LEN(N)')\n S LEN(1) . X\n OUTPUT = X :(L)\nLEN LEN = 'b' :(RETURN)\nEND\n => x\nx\nb\nb\n
  A = ARRAY(3)\n S = 'xyz'\nL I = LT(I,3) I + 1 :F(P)\n S TAB(I - 1) LEN(1) . A<I> :(L)\nP OUTPUT = A<1> A<2> A<3>\nEND\n => xyz\n
+ S = 'abcd'\nL I = LT(I,4) I + 1 :F(END)\n D = 'bc'\n D = GT(I,2) 'cd'\n S ANY(D) . X\n OUTPUT = X :(L)\nEND\n => b\nb\nc\nc\n
+ S = 'xaby'\nL I = LT(I,4) I + 1 :F(END)\n D = 'ab'\n D = GT(I,2) 'ba'\n S SPAN(D) . X\n OUTPUT = X :(L)\nEND\n => ab\nab\nab\nab\n
+ S = 'cb'\nL I = LT(I,4) I + 1 :F(END)\n D = DUPL('a',300) 'b'\n D = GT(I,2) DUPL('a',300) 'c'\n S ANY(D) . X\n OUTPUT = X :(L)\nEND\n => b\nb\nc\nc\n
+ A = ARRAY('0:255')\n I = 0\nL &ALPHABET POS(I) LEN(1) . C\n A<I> = ANY(C)\n I = LT(I,255) I + 1 :S(L)\n I = 0\nM &ALPHABET POS(I) LEN(1) . C\n C A<I> :F(N)\n K = K + 1\nN I = LT(I,255) I + 1 :S(M)\n OUTPUT = K\nEND\n => 256\n
  S = 'a,b;c'\n D = ','\nL S BREAK(D) . X D = :F(E)\n OUTPUT = X\n D = ';' :(L)\nE OUTPUT = S\nEND\n => a\nb\nc\n
 ";
 
