@@ -1,4 +1,3 @@
-pub mod Growth
 pub mod Listings
 pub mod Numbers
 pub mod Reports

@@ -1,12 +1,11 @@
 -- The numbers of the lines, from the last statement to the first.
-use Rattle.std.proofs.Common.{◌≡◌, ℕ, zero, suc, ◌+◌, ◌-◌, ◌<◌, ◌≤◌, ◌==◌, List, [], ◌∷◌, ◌++◌, length, drop, replicate, slice_index, slice_get, Some, None}
+use Rattle.std.proofs.Common.{◌≡◌, ℕ, ◌+◌, ◌-◌, ◌<◌, ◌≤◌, ◌==◌, List, [], ◌∷◌, length, drop, replicate, slice_index, slice_get, Some, None}
 use Rattle.std.proofs.Common.{if◌then◌else◌, arith, refl, ◌∙◌, ap, sym, get_or, Option, inl, inr, drop-cons, add-one}
 use Rattle.std.proofs.lemmas.Grind.{common_steps}
 use Rattle.std.proofs.Math.ListN.{drop_of_length-le}
 use Rattle.std.proofs.lemmas.List.{get_or-replicate, length-replicate}
 use Rattle.std.proofs.lemmas.Option.{slice_get_within, get_or_from_slice_get, slice_get_cases}
 use Rattle.sno_text.specs.declared.statement.Statement.{Statement}
-use Rattle.sno_listing.specs.Listing.{number_in}
 use Rattle.sno_listing.specs.inner.Listing.{AreNumbers}
 
 -- Behind the last statement none begins.
@@ -44,17 +43,4 @@ numbers_more lines number sts st old new h e len marked before =
       each = λ k w. marked k (let c = before.count in omega arith) ∙ ap (λ x. if st.line == k + 1 then number else x) (before.each k w);
     })
 
-abbrev zeros : ℕ → List ℕ
-zeros n = replicate n 0
-
-zeros_snoc : (n : ℕ) → zeros n ++ 0 ∷ [] ≡ zeros (suc n)
-zeros_snoc zero = refl
-zeros_snoc (suc n) = ap (λ x. 0 ∷ x) (zeros_snoc n)
-
-suc_one : (n : ℕ) → suc n ≡ n + 1
-suc_one n = omega arith
-
-pub zeros_more : (new old : List ℕ) (n : ℕ) → old ≡ replicate n 0 → new ≡ old ++ 0 ∷ [] → new ≡ replicate (n + 1) 0
-zeros_more new old n e f = f ∙ ap (λ x. x ++ 0 ∷ []) e ∙ zeros_snoc n ∙ ap zeros (suc_one n)
-
-pub ruleset number_facts = (numbers_none, zeros_more)
+pub ruleset number_facts = (numbers_none)

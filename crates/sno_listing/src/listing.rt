@@ -1,20 +1,17 @@
 //! The listing: each line of a text behind the number of the first statement that begins in it.
-ghost use Rattle.std.specs.Prelude.{◌≡◌, ℕ, ◌+◌, ◌-◌, ◌<◌, ◌≤◌, ◌==◌, ◌++◌, if◌then◌else◌, drop, length, replicate};
+ghost use Rattle.std.specs.Prelude.{◌≡◌, ℕ, ◌+◌, ◌-◌, ◌<◌, ◌≤◌, ◌==◌, ◌++◌, if◌then◌else◌, drop, length};
 ghost use Rattle.std.specs.Prelude.{slice_index, OnOk, IfOk};
 ghost use Rattle.bstr.specs.Text.{lines_of};
-ghost use Rattle.sno_listing.specs.Listing.{listed, listed_line, margin, ended, blanks, numeral};
+ghost use Rattle.sno_listing.specs.Listing.{listed, listed_line, margin, ended, blanks};
 ghost use Rattle.sno_listing.specs.inner.Listing.{AreNumbers};
 
 use bstr::ByteSlice;
+use sno_advice::{count_statements, digits_of};
 use sno_text::Program;
-use sno_value::int_text;
 use std::alloc::{AllocError, Global};
 
 /// The columns of a number.
 const COLUMNS: usize = 6;
-
-/// The most statements of a program.
-const MOST_STATEMENTS: u32 = 100_000;
 
 /// The listing of a text: its lines in their order, each with its own bytes, behind the number that the program gives
 /// to the first statement that begins in it. The number stands at the right of six columns, which are blank where no
@@ -49,37 +46,13 @@ fn count_lines(text: &[u8]) -> usize
 fn first_numbers(alloc: Global, program: &Program, lines: usize) -> Result<Vec<u32>, AllocError>
     ensures { IfOk result (λ v. AreNumbers lines 1 program.now.statements v.items) }
 {
-    let mut numbers = zeros(alloc, lines)?;
+    let mut numbers = vec![in alloc; 0; lines]?;
     let mut number = count_statements(program);
     'statements: while number > 0 {
         mark_statement(&mut numbers, program, number);
         number -= 1;
     }
     Ok(numbers)
-}
-
-/// So many zeros.
-#[tactic(auto, using(crate::proofs::Numbers::number_facts))]
-pub fn zeros(alloc: Global, count: usize) -> Result<Vec<u32>, AllocError>
-    ensures { IfOk result (λ v. v.items ≡ replicate count 0) }
-{
-    let mut numbers = Vec::new(alloc);
-    for _ in 0..count {
-        numbers.push(0)?;
-    }
-    Ok(numbers)
-}
-
-/// How many statements a program has.
-pub fn count_statements(program: &Program) -> u32
-    ensures { result ≡ length program.now.statements }
-{
-    for count in 0..MOST_STATEMENTS {
-        if program.statement(count + 1).is_none() {
-            return count;
-        }
-    }
-    MOST_STATEMENTS
 }
 
 /// Sets the number of the line in which a statement begins.
@@ -130,17 +103,6 @@ fn push_margin(alloc: Global, listing: &mut Vec<u8>, number: u32) -> Result<(), 
     listing.push(b' ')?;
     listing.push(b' ')?;
     Ok(())
-}
-
-/// A number in decimal, and nothing for 0.
-pub fn digits_of(alloc: Global, number: u32) -> Result<Vec<u8>, AllocError>
-    ensures { IfOk result (λ digits. digits.items ≡ numeral number) }
-{
-    if number == 0 {
-        return Ok(Vec::new(alloc));
-    }
-    let digits = int_text(alloc, i64::from(number))?;
-    Ok(digits)
 }
 
 /// Appends blanks.

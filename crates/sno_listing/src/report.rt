@@ -3,12 +3,12 @@ ghost use Rattle.std.specs.Prelude.{◌⊎◌, IfOk};
 ghost use Rattle.sno_text.specs.Programs.{IsRefusedProgram, LacksMemory};
 ghost use Rattle.sno_listing.specs.Report.{IsAccepted, IsReported};
 
-use crate::asked::{explain, push_names};
-use crate::fault::{Fault, find_fault};
 use crate::listing::listing;
-use crate::refused::{Beginning, completed, find_beginning, line_end, line_start};
 use crate::single::single;
-use crate::warnings::{Warnings, warn};
+use sno_advice::{
+    Beginning, Fault, Warnings, completed, explain, find_beginning, find_fault, push_names, up_to,
+    warn,
+};
 use sno_text::{Program, ReadError, read_program};
 use std::alloc::{AllocError, Global};
 
@@ -83,7 +83,8 @@ fn accepted(
     let mut listing = listing(alloc, text, program)?;
     let mut warnings = Warnings::new(alloc);
     warn(alloc, text, program, &mut warnings)?;
-    warnings.append_to(&mut listing)?;
+    let advice = warnings.text()?;
+    listing.extend_from_slice(advice.as_slice())?;
     Ok(Some(Report {
         text: listing,
         status: 0,
@@ -118,7 +119,8 @@ fn refused(
     let line = error.to_string(alloc)?;
     listed.extend_from_slice(line.as_bytes())?;
     listed.push(b'\n')?;
-    warnings.append_to(&mut listed)?;
+    let advice = warnings.text()?;
+    listed.extend_from_slice(advice.as_slice())?;
     Ok(Some(Report {
         text: listed,
         status: REFUSED,
@@ -191,10 +193,4 @@ fn line_of(error: ReadError) -> Option<u32> {
         | ReadError::TooLarge { line } => Some(line),
         ReadError::NoEnd | ReadError::NoMemory => None,
     }
-}
-
-/// A text up to the end of a line.
-fn up_to(text: &[u8], line: u32) -> &[u8] {
-    let end = line_end(text, line_start(text, line));
-    &text[..end]
 }

@@ -3,9 +3,9 @@ ghost use Rattle.std.specs.Prelude.{◌≡◌, IfOk};
 ghost use Rattle.std.specs.Option.{is_some};
 ghost use Rattle.sno_listing.specs.Report.{statement_with};
 
-use crate::cards::{is_closed, is_continuation, is_skipped};
 use crate::listing::push_line;
 use bstr::ByteSlice;
+use sno_advice::{is_closed, is_continuation, is_skipped};
 use sno_text::Program;
 use std::alloc::{AllocError, Global};
 

@@ -5,7 +5,8 @@ mod command;
 mod help;
 
 use command::{Job, command, status_of};
-use sno_listing::{Report, explain, explanation, make_answer, make_report};
+use sno_advice::{explain, explanation};
+use sno_listing::{Report, make_answer, make_report};
 use std::alloc::{AllocError, Global};
 use std::env;
 use std::fs::File;

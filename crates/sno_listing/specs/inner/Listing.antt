@@ -1,5 +1,5 @@
 -- Words of private clauses: the numbers of the lines of a program.
-use Rattle.std.specs.Prelude.{ℕ, ◌+◌, ◌++◌, ◌<◌, ◌≡◌, List, length, slice_index}
+use Rattle.std.specs.Prelude.{ℕ, ◌+◌, ◌<◌, ◌≡◌, List, length, slice_index}
 use Rattle.sno_text.specs.declared.statement.Statement.{Statement}
 use Rattle.sno_listing.specs.Listing.{number_in}
 
@@ -7,8 +7,3 @@ use Rattle.sno_listing.specs.Listing.{number_in}
 pub record AreNumbers (lines n : ℕ) (statements : List Statement) (numbers : List ℕ) : Type 0 where
   pub count : length numbers ≡ lines
   pub each : (k : ℕ) → k < lines → slice_index numbers k ≡ number_in n statements (k + 1)
-
--- some bytes were appended
-pub record Grows (old new : List ℕ) : Type 0 where
-  pub behind : List ℕ
-  pub grown : new ≡ old ++ behind

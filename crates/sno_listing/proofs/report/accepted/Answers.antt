@@ -10,5 +10,5 @@ pub returns-in-None : goal.returns-in-None
 returns-in-None c = missing_told _ _ _ c.args.program.now _ c.requires c.in-Some.is c.in_ok-text.ensures c.in-None.is
 
 pub returns : goal.returns
-returns c = listed_is c.args.program.now c.requires c.in_default.is _ refl refl c.in_ok-append_to.ensures.behind
-    (c.in_ok-append_to.ensures.grown ∙ ap (λ x. x ++ c.in_ok-append_to.ensures.behind) c.in_ok-listing.ensures)
+returns c = listed_is c.args.program.now c.requires c.in_default.is _ refl refl c.as_slice.result.now
+    (c.in_ok-extend_from_slice.ensures.items ∙ ap (λ x. x ++ c.as_slice.result.now) c.in_ok-listing.ensures)

@@ -1,8 +1,7 @@
 //! Statements that build patterns at each pass of a loop, until error 9.
 use crate::definitions::Definitions;
-use crate::listing::{count_statements, digits_of};
 use crate::loops::Loops;
-use crate::survey::{node_at, part};
+use crate::survey::{count_statements, digits_of, node_at, part};
 use crate::words::{PRIMITIVES, is_one_of};
 use sno_text::{Node, Operator, Program, Statement, UnaryOperator};
 use sno_value::ExprId;

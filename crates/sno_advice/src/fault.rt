@@ -1,9 +1,9 @@
 //! Where a statement that is refused is most likely wrong, and why.
 use crate::cards::is_skipped;
 use crate::furthest::{byte_at, furthest, head, join, tail};
-use crate::listing::count_statements;
 use crate::reasons::find_reason;
 use crate::refused::{Beginning, line_start, step_quote};
+use crate::survey::count_statements;
 use crate::words::is_name_byte;
 use bstr::ByteSlice;
 use sno_text::ReadError;

@@ -1,8 +1,9 @@
 //! Loops that nothing leads out of, or in which nothing changes.
 use crate::definitions::Definitions;
-use crate::listing::{count_statements, digits_of, zeros};
 use crate::loops::Loops;
-use crate::survey::{Place, label_of, node_at, part, place_of, targets_of};
+use crate::survey::{
+    Place, count_statements, digits_of, label_of, node_at, part, place_of, targets_of,
+};
 use crate::uses::target_at;
 use crate::warnings::Warnings;
 use crate::words::{FUNCTIONS, is_one_of};
@@ -171,7 +172,7 @@ fn find_acts(
     places: &[Place],
     defined: &Definitions,
 ) -> Result<Vec<u32>, AllocError> {
-    let mut acts = zeros(alloc, count_statements(program) as usize + 1)?;
+    let mut acts = vec![in alloc; 0; count_statements(program) as usize + 1]?;
     for id in 0..program.nodes() {
         mark(
             &mut acts,

@@ -1,6 +1,4 @@
 //! Warnings: what a program most likely doesn't mean. They promise nothing, and no warning is a refusal.
-ghost use Rattle.std.specs.Prelude.{OnOk};
-ghost use Rattle.sno_listing.specs.inner.Listing.{Grows};
 
 mod blanks;
 mod endless;
@@ -16,9 +14,8 @@ mod targets;
 mod variables;
 
 use crate::definitions::find_definitions;
-use crate::listing::digits_of;
 use crate::loops::find_loops;
-use crate::survey::{Place, node_places};
+use crate::survey::{Place, digits_of, node_places};
 use crate::uses::find_uses;
 use sno_text::Program;
 use std::alloc::{AllocError, Global};
@@ -50,7 +47,7 @@ impl Warnings {
     }
 
     /// Adds a warning whose text has a name within.
-    pub fn add(
+    pub(crate) fn add(
         &mut self,
         place: Place,
         before: &[u8],
@@ -65,7 +62,7 @@ impl Warnings {
     }
 
     /// Adds a warning that ends in another name and what is said of it.
-    pub fn add_with_other(
+    pub(crate) fn add_with_other(
         &mut self,
         place: Place,
         before: &[u8],
@@ -80,50 +77,42 @@ impl Warnings {
         self.add(place, before, name, rest.as_slice())
     }
 
-    /// Appends the warnings in the order of their lines and the note, behind an empty line, if there are any.
-    #[tactic(auto, using(crate::proofs::Growth::growth_facts))]
-    pub fn append_to(&mut self, listing: &mut Vec<u8>) -> Result<(), AllocError>
-        ensures { OnOk result (Grows listing.old.items listing.new.items) }
-    {
+    /// The text of the warnings, in the order of their lines, and of the note, behind an empty line, if there are any.
+    pub fn text(&mut self) -> Result<Vec<u8>, AllocError> {
+        let mut text = Vec::new(self.alloc);
         if self.list.is_empty() && self.note.is_empty() {
-            return Ok(());
+            return Ok(text);
         }
         self.list.sort_by_key(|warning| warning.place.line)?;
-        listing.push(b'\n')?;
+        text.push(b'\n')?;
         for warning in self.list.as_slice() {
-            append(self.alloc, listing, warning)?;
+            append(self.alloc, &mut text, warning)?;
         }
-        listing.extend_from_slice(self.note.as_slice())?;
-        Ok(())
+        text.extend_from_slice(self.note.as_slice())?;
+        Ok(text)
     }
 }
 
 /// Appends a warning.
-#[tactic(auto, using(crate::proofs::Growth::growth_facts))]
-fn append(alloc: Global, listing: &mut Vec<u8>, warning: &Warning) -> Result<(), AllocError>
-    ensures { OnOk result (Grows listing.old.items listing.new.items) }
-{
-    listing.extend_from_slice(b"warning: line ")?;
+fn append(alloc: Global, told: &mut Vec<u8>, warning: &Warning) -> Result<(), AllocError> {
+    told.extend_from_slice(b"warning: line ")?;
     let line = digits_of(alloc, warning.place.line)?;
-    listing.extend_from_slice(line.as_slice())?;
-    append_number(alloc, listing, warning.place.number)?;
-    listing.extend_from_slice(b": ")?;
-    listing.extend_from_slice(warning.text.as_slice())?;
-    listing.push(b'\n')?;
+    told.extend_from_slice(line.as_slice())?;
+    append_number(alloc, told, warning.place.number)?;
+    told.extend_from_slice(b": ")?;
+    told.extend_from_slice(warning.text.as_slice())?;
+    told.push(b'\n')?;
     Ok(())
 }
 
 /// Appends the number of a statement, and nothing for 0.
-#[tactic(auto, using(crate::proofs::Growth::growth_facts))]
-fn append_number(alloc: Global, listing: &mut Vec<u8>, number: u32) -> Result<(), AllocError>
-    ensures { OnOk result (Grows listing.old.items listing.new.items) }
-{
+fn append_number(alloc: Global, told: &mut Vec<u8>, number: u32) -> Result<(), AllocError> {
     if number == 0 {
         return Ok(());
     }
-    listing.extend_from_slice(b", statement ")?;
+    told.extend_from_slice(b", statement ")?;
     let digits = digits_of(alloc, number)?;
-    listing.extend_from_slice(digits.as_slice())?;
+    told.extend_from_slice(digits.as_slice())?;
     Ok(())
 }
 

@@ -1,6 +1,9 @@
-//! What the warnings ask of a program: its nodes with the statements that they belong to, and where statements go.
+//! What the warnings ask of a program: its nodes with the statements that they belong to, how many statements there are
+//! and how their numbers are written, and where statements go.
+ghost use Rattle.std.specs.Prelude.{◌≡◌, ◌==◌, [], IfOk, decimal, if◌then◌else◌, length};
+
 use sno_text::{Jump, Node, Program, Span, Statement, Target};
-use sno_value::ExprId;
+use sno_value::{ExprId, int_text};
 use std::alloc::{AllocError, Global};
 
 /// The most statements of a program.
@@ -11,6 +14,29 @@ pub const MOST_STATEMENTS: u32 = 100_000;
 pub struct Place {
     pub line: u32,
     pub number: u32,
+}
+
+/// How many statements a program has.
+pub fn count_statements(program: &Program) -> u32
+    ensures { result ≡ length program.now.statements }
+{
+    for count in 0..MOST_STATEMENTS {
+        if program.statement(count + 1).is_none() {
+            return count;
+        }
+    }
+    MOST_STATEMENTS
+}
+
+/// A number in decimal, and nothing for 0.
+pub fn digits_of(alloc: Global, number: u32) -> Result<Vec<u8>, AllocError>
+    ensures { IfOk result (λ digits. digits.items ≡ (if number == 0 then [] else decimal number)) }
+{
+    if number == 0 {
+        return Ok(Vec::new(alloc));
+    }
+    let digits = int_text(alloc, i64::from(number))?;
+    Ok(digits)
 }
 
 /// The bytes of a token; none where it lies outside of the text.

@@ -1,8 +1,9 @@
 //! What an error is, and the names in a program that it may be of.
 use crate::definitions::{Definitions, find_definitions};
 use crate::explained::explanation;
-use crate::listing::{count_statements, digits_of};
-use crate::survey::{Place, label_of, node_at, node_places, part, place_of, targets_of};
+use crate::survey::{
+    Place, count_statements, digits_of, label_of, node_at, node_places, part, place_of, targets_of,
+};
 use crate::uses::target_at;
 use crate::words::{FIXED_KEYWORDS, FUNCTIONS, KEYWORDS, RETURNS, is_one_of};
 use sno_text::{Node, Program, Statement, Target, UnaryOperator};

@@ -206,6 +206,12 @@ pub fn line_end(text: &[u8], from: usize) -> usize
     text.len()
 }
 
+/// A text up to the end of a line.
+pub fn up_to(text: &[u8], line: u32) -> &[u8] {
+    let end = line_end(text, line_start(text, line));
+    &text[..end]
+}
+
 /// The quote of the literal that is open behind a byte, 0 where none is.
 pub fn step_quote(quote: u8, byte: u8) -> u8 {
     if quote == 0 && (byte == b'\'' || byte == b'"') {

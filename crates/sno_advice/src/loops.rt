@@ -1,7 +1,6 @@
 //! Loops of a program: a statement is in one where it stands between a label and a later statement that goes to it, or
 //! is one of the two.
-use crate::listing::{count_statements, zeros};
-use crate::survey::{label_of, targets_of};
+use crate::survey::{count_statements, label_of, targets_of};
 use sno_text::{Program, Target};
 use std::alloc::{AllocError, Global};
 
@@ -35,7 +34,7 @@ impl Loops {
 /// The loops of a program.
 pub fn find_loops(alloc: Global, text: &[u8], program: &Program) -> Result<Loops, AllocError> {
     let count = count_statements(program);
-    let mut ends = zeros(alloc, count as usize + 1)?;
+    let mut ends = vec![in alloc; 0; count as usize + 1]?;
     for number in 1..count.saturating_add(1) {
         if let Some(statement) = program.statement(number) {
             let (first, second) = targets_of(statement.jump);
