@@ -19,3 +19,4 @@ pub mod FieldLaws
 pub mod InPlaceLaws
 pub mod FormLaws
 pub mod Ordered
+pub mod WaitingLaws
