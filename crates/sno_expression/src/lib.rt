@@ -4,7 +4,8 @@
 //! instruction (`instruction`), and `flat` that of all expressions of a program; `names` are those that stand in it,
 //! each with the symbol that it is likely to be. `in_place` reads tokens and runs the operation behind them at once,
 //! `told` tells what instructions give of numbers alone, and `alone` what some code gives that is a token or is told so;
-//! `joined` joins strings, `places` are items and fields, as values and as names, and `entries` those that are made.
+//! `joined` joins strings, long ones in one `block`, `places` are items and fields, as values and as names, and `entries`
+//! those that are made.
 //! `quick` does what two numbers (`numerals`), an item (`items`), a field (`fields`), two values that are joined
 //! (`joining`) or a function that examines its arguments (`examining`) need, `tokens` what a function of the language
 //! gives of tokens, and `apply` any form. `building` runs the instructions that make a pattern (`patterns`), and
@@ -14,6 +15,7 @@
 
 mod alone;
 mod apply;
+mod block;
 mod building;
 mod compile;
 mod entries;
