@@ -92,6 +92,19 @@ const TABLES: &str = r"
  T = TABLE()\n T<'a'> = TABLE()\n T<'a'> = 1\n OUTPUT = T<'a'>\nEND\n => 1\n
  T = TABLE()\n 'AB' LEN(1) $ T<'x'> LEN(1) . T<'y'>\n OUTPUT = T<'y'> T<'x'>\nEND\n => BA\n
  T = TABLE()\n T<'n'> = T<'n'> + 1\n T<'n'> = T<'n'> + 1\n OUTPUT = T<'n'>\nEND\n => 2\n
+ T = TABLE()\n A = 'x'\n B = 7\n T<A ':' B> = 'n'\n T<B ',' A> = 'm'\n X = T<A ':' B>\n Y = T<B ',' A>\n OUTPUT = X T<'x:7'> Y T<'7,x'> T<A ':' 8>\nEND\n => nnmm\n
+ T = TABLE()\n S = DUPL('ab',20)\n N = -5\n T<S ',' N ';' S> = 'l'\n S = T<S ',' N ';' S>\n OUTPUT = S T<DUPL('ab',20) ',-5;' DUPL('ab',20)>\nEND\n => ll\n
+ T = TABLE()\n A = 'x'\n B = 2\n X = T<A ':' B>\n T<A B> = 1\n C = CONVERT(T,'ARRAY')\n OUTPUT = PROTOTYPE(C) C<1,1>\nEND\n => 1,2x2\n
+ T = TABLE()\n N = 1\n T<1 ''> = 'a'\n T<'1'> = 'b'\n X = T<N ''>\n Y = T<'' N>\n Z = T<'' '' 1>\n OUTPUT = T<1> X Y Z\nEND\n => aaaa\n
+ T = TABLE()\n N = 1\n E =\n T<N E> = 'a'\n T<E N> = T<E N> 'c'\n T<E 'k' E> = 'd'\n X = T<N E E>\n OUTPUT = T<1> X T<'k'>\nEND\n => acacd\n
+ T = TABLE()\n S = DUPL('a',999999)\n T<S 'b'> = 'in'\n OUTPUT = T<S 'b'>\n X = T<S 'b' 'c'>\nEND\n => in\nstatus 1: snobol4: error 8 in statement 5\n
+ T = TABLE()\n S = DUPL('a',999999)\n T<S 12> = 'in'\nEND\n => status 1: snobol4: error 8 in statement 3\n
+ T = TABLE()\n P = LEN(1)\n X = T<'a' P>\nEND\n => status 1: snobol4: error 1 in statement 3\n
+ T = TABLE()\n P = LEN(1)\n T<'a' ':' P> = 1\nEND\n => status 1: snobol4: error 1 in statement 3\n
+ T = TABLE()\n A = 'x'\n T<A ',' SIZE(A) ',' A> = 's'\n X = T<A ',' SIZE(A) ',' A>\n Y = T<A ',1,' A>\n OUTPUT = X Y\nEND\n => ss\n
+ T = TABLE()\n J = 2\n T<3> = 'i'\n T<'3'> = 's'\n X = T<J + 1>\n Y = T<J * J>\n OUTPUT = X Y\nEND\n => i\n
+ A = ARRAY(12)\n A<1 1> = 'e'\n X = A<1 '1'>\n A<1 3> :S(END)\n OUTPUT = A<11> X\nEND\n => ee\n
+ S = 'a'\n X = S<'a' 'b'>\nEND\n => status 1: snobol4: error 1 in statement 2\n
  OUTPUT = 'a'\n OUTPUT<1> = 'b'\nEND\n => a\nstatus 1: snobol4: error 1 in statement 2\n
 ";
 
