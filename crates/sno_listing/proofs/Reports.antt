@@ -1,11 +1,10 @@
 -- What is told of a text.
-use Rattle.std.proofs.Common.{◌≡◌, ◌⊎◌, inl, inr, Bool, true, false, ℕ, List, Option, Some, None, refl, sym, ◌∙◌, ap}
+use Rattle.std.proofs.Common.{◌≡◌, ◌⊎◌, inl, inr, true, false, ℕ, List, Option, Some, None, refl, sym, ◌∙◌, ap}
 use Rattle.std.specs.Option.{is_some}
 use Rattle.sno_text.specs.Program.{Program}
 use Rattle.sno_text.specs.Programs.{IsRefusedProgram, LacksMemory}
 use Rattle.sno_text.specs.declared.error.ReadError.{ReadError}
 use Rattle.sno_text.specs.declared.error.ReadError.TheVariants.{NoMemory}
-use Rattle.sno_text.specs.declared.statement.Statement.{Statement}
 use Rattle.sno_listing.specs.Report.{IsAccepted, IsReported, statement_with, single_is, missing_is}
 use Rattle.sno_listing.specs.declared.report.Report.{Report}
 

@@ -1,4 +1,4 @@
-use Rattle.std.proofs.Common.{rules, ◌≡◌, ◌-◌, slice_get, Some, None, sym}
+use Rattle.std.proofs.Common.{◌≡◌, ◌-◌, slice_get, Some, None, sym}
 use Rattle.sno_listing.proofs.Numbers.{numbers_more, when_some, not_none}
 use Rattle.sno_listing.proofs.listing.mark_statement.Goals as goal
 
