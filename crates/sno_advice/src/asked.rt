@@ -1,4 +1,7 @@
 //! What an error is, and the names in a program that it may be of.
+ghost use Rattle.std.specs.Prelude.{◌≡◌, [], false, IfOk};
+ghost use Rattle.sno_advice.specs.inner.Errors.{is_error};
+
 use crate::definitions::{Definitions, find_definitions};
 use crate::explained::explanation;
 use crate::survey::{
@@ -10,7 +13,9 @@ use sno_text::{Node, Program, Statement, Target, UnaryOperator};
 use std::alloc::{AllocError, Global};
 
 /// What is told of an error by its number; nothing where there is no such error.
-pub fn explain(alloc: Global, error: u32) -> Result<Vec<u8>, AllocError> {
+pub fn explain(alloc: Global, error: u32) -> Result<Vec<u8>, AllocError>
+    ensures { is_error error ≡ false → IfOk result (λ told. told.items ≡ []) }
+{
     let text = match explanation(error) {
         Some(text) => text,
         None => "",

@@ -1,14 +1,22 @@
 //! What a line is: of blanks, a comment or a control line, or one that continues another.
+ghost use Rattle.std.specs.Prelude.{◌≡◌, ◌==◌, ◌||◌, true};
+ghost use Rattle.sno_text.specs.Bytes.{byte};
+ghost use Rattle.sno_text.specs.Lines.{is_continuation};
+
 use crate::survey::MOST_STATEMENTS;
 use sno_text::Program;
 
 /// Whether a line continues the one before it, where there is one.
-pub fn is_continuation(line: &[u8]) -> bool {
+pub fn is_continuation(line: &[u8]) -> bool
+    ensures { result ≡ is_continuation line.now }
+{
     !line.is_empty() && (line[0] == b'+' || line[0] == b'.')
 }
 
 /// Whether a line is a comment, a control line or of blanks alone.
-pub fn is_skipped(line: &[u8]) -> bool {
+pub fn is_skipped(line: &[u8]) -> bool
+    ensures { ((byte line.now 0 == 42) || (byte line.now 0 == 45)) ≡ true → result ≡ true }
+{
     if !line.is_empty() && (line[0] == b'*' || line[0] == b'-') {
         return true;
     }

@@ -1,7 +1,11 @@
 //! What each error means: the paragraphs of docs/ERRORS.md.
+ghost use Rattle.std.specs.Prelude.{◌≡◌, is_some};
+ghost use Rattle.sno_advice.specs.inner.Errors.{is_error};
 
 /// What is told of an error: its name, what it is, and what to do. None where there is no such error.
-pub fn explanation(error: u32) -> Option<&'static str> {
+pub fn explanation(error: u32) -> Option<&'static str>
+    ensures { is_some result ≡ is_error error }
+{
     match error {
         1 => Some(ERROR_1),
         2 => Some(ERROR_2),

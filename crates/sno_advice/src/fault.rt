@@ -1,4 +1,6 @@
 //! Where a statement that is refused is most likely wrong, and why.
+ghost use Rattle.std.specs.Prelude.{◌≡◌, length, IfOk, IfSome};
+
 use crate::cards::is_skipped;
 use crate::furthest::{byte_at, furthest, head, join, tail};
 use crate::reasons::find_reason;
@@ -57,7 +59,9 @@ pub fn find_fault(
     text: &[u8],
     error: ReadError,
     known: &Beginning,
-) -> Result<Option<Fault>, AllocError> {
+) -> Result<Option<Fault>, AllocError>
+    ensures { IfOk result (λ found. IfSome found (λ fault. fault.number ≡ length known.now.program.statements)) }
+{
     let ReadError::Syntax { code, .. } = error else {
         return Ok(None);
     };
@@ -80,7 +84,9 @@ pub fn find_fault(
 }
 
 /// The furthest place of the statement that begins at a place, and the reason there.
-fn wrong_place(alloc: Global, text: &[u8], start: usize, number: u32) -> Result<Fault, AllocError> {
+fn wrong_place(alloc: Global, text: &[u8], start: usize, number: u32) -> Result<Fault, AllocError>
+    ensures { IfOk result (λ fault. fault.number ≡ number) }
+{
     let begins_line = start == 0 || byte_at(text, start.saturating_sub(1)) == b'\n';
     let statement = join(alloc, text, start, begins_line && number > 1)?;
     let bytes = statement.bytes.as_slice();
@@ -104,7 +110,9 @@ fn open_literal(
     text: &[u8],
     start: usize,
     number: u32,
-) -> Result<Option<Fault>, AllocError> {
+) -> Result<Option<Fault>, AllocError>
+    ensures { IfOk result (λ found. IfSome found (λ fault. fault.number ≡ number)) }
+{
     let mut from = start;
     let rest = tail(text, start);
     for line in rest.lines_with_terminator() {

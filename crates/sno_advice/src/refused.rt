@@ -1,5 +1,6 @@
 //! What is known of a program that the reader refuses: its statements before the one that is refused.
-ghost use Rattle.std.specs.Prelude.{◌≤◌, length};
+ghost use Rattle.std.specs.Prelude.{◌≡◌, ◌≤◌, ◌++◌, length, IfOk, IfSome, List, ℕ};
+ghost use Rattle.sno_advice.specs.inner.Beginning.{IsAccepted};
 
 use sno_text::{Program, ReadError, read_program};
 use std::alloc::{AllocError, Global};
@@ -20,7 +21,9 @@ pub fn find_beginning(
     text: &[u8],
     line: u32,
     is_full: bool,
-) -> Result<Option<Beginning>, AllocError> {
+) -> Result<Option<Beginning>, AllocError>
+    ensures accepted { IfOk result (λ found. IfSome found IsAccepted) }
+{
     let cuts = cuts_of(alloc, text, line)?;
     let found = last_accepted(alloc, text, cuts.as_slice())?;
     if found.is_some() {
@@ -39,7 +42,9 @@ pub fn find_beginning(
 }
 
 /// A text without END, with one behind it; where it has no room for that, in the place of its last statement.
-pub fn completed(alloc: Global, text: &[u8]) -> Result<Option<Beginning>, AllocError> {
+pub fn completed(alloc: Global, text: &[u8]) -> Result<Option<Beginning>, AllocError>
+    ensures accepted { IfOk result (λ found. IfSome found IsAccepted) }
+{
     let found = read_with_end(alloc, text, 1, false)?;
     if found.is_some() {
         return Ok(found);
@@ -79,7 +84,9 @@ fn last_accepted(
     alloc: Global,
     text: &[u8],
     cuts: &[usize],
-) -> Result<Option<Beginning>, AllocError> {
+) -> Result<Option<Beginning>, AllocError>
+    ensures accepted { IfOk result (λ found. IfSome found IsAccepted) }
+{
     let mut best = None;
     let mut low = 1;
     let mut high = cuts.len();
@@ -106,7 +113,9 @@ fn last_accepted(
 }
 
 /// The beginning up to a place, with END there.
-fn read_to(alloc: Global, text: &[u8], end: usize) -> Result<Option<Beginning>, AllocError> {
+fn read_to(alloc: Global, text: &[u8], end: usize) -> Result<Option<Beginning>, AllocError>
+    ensures accepted { IfOk result (λ found. IfSome found IsAccepted) }
+{
     let end = end.min(text.len());
     read_with_end(alloc, &text[..end], 0, true)
 }
@@ -119,7 +128,9 @@ fn before_line(
     line: u32,
     before: u32,
     is_full: bool,
-) -> Result<Option<Beginning>, AllocError> {
+) -> Result<Option<Beginning>, AllocError>
+    ensures accepted { IfOk result (λ found. IfSome found IsAccepted) }
+{
     let start = line_start(text, before);
     if is_full && begins_statement(text, start) {
         let found = read_with_end(alloc, &text[..start], 0, false)?;
@@ -144,7 +155,9 @@ fn cut_lines(
     text: &[u8],
     line: u32,
     before: u32,
-) -> Result<Option<Beginning>, AllocError> {
+) -> Result<Option<Beginning>, AllocError>
+    ensures accepted { IfOk result (λ found. IfSome found IsAccepted) }
+{
     let end = line_start(text, before);
     let feeds = line.saturating_sub(before).saturating_add(1);
     read_with_end(alloc, &text[..end], feeds as usize, false)
@@ -156,7 +169,9 @@ fn read_with_end(
     text: &[u8],
     feeds: usize,
     is_exact: bool,
-) -> Result<Option<Beginning>, AllocError> {
+) -> Result<Option<Beginning>, AllocError>
+    ensures accepted { IfOk result (λ found. IfSome found IsAccepted) }
+{
     let mut text = text.to_vec(alloc)?;
     for _ in 0..feeds {
         text.push(b'\n')?;
@@ -207,7 +222,9 @@ pub fn line_end(text: &[u8], from: usize) -> usize
 }
 
 /// A text up to the end of a line.
-pub fn up_to(text: &[u8], line: u32) -> &[u8] {
+pub fn up_to(text: &[u8], line: u32) -> &[u8]
+    ensures { (rest : List ℕ) × (text.now ≡ result.now ++ rest) }
+{
     let end = line_end(text, line_start(text, line));
     &text[..end]
 }
