@@ -6,6 +6,7 @@ pub mod FunctionLaws
 pub mod GotoLaws
 pub mod GrowingLaws
 pub mod Leads
+pub mod LongerLaws
 pub mod MadeCalls
 pub mod MatchLaws
 pub mod OperandLaws

@@ -18,6 +18,7 @@ mod evaluation;
 mod gotos;
 mod growing;
 mod instructions;
+mod longer;
 mod made;
 mod matching;
 mod naming;

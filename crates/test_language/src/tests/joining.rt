@@ -87,6 +87,25 @@ const NOT_GROWING: &str = r"
  X = DUPL('a',999998)\n N = -12\n X = X N\nEND\n => status 1: snobol4: error 8 in statement 3\n
 ";
 
+/// Operands that are no tokens, joined to a string that is long enough for them to be joined apart: what they do and read in
+/// their midst comes between, and what joins otherwise goes the general way.
+const JOINED_APART: &str = r"
+ DEFINE('F(N)') :(M)\nF F = '<' N '>' :(RETURN)\nM X = DUPL('a',300)\n X = X F('b') 'c' F(5)\n OUTPUT = X\nEND\n => \<300:a\><b>c<5>\n
+ DEFINE('F()') :(M)\nF X = 'new'\n F = '!' :(RETURN)\nM X = DUPL('a',300)\n X = X F() X\n OUTPUT = X\nEND\n => \<300:a\>!new\n
+ DEFINE('F()') :(M)\nF X = X 'b'\n F = '!' :(RETURN)\nM X = DUPL('a',300)\n Y = X\n X = X F() '-' F()\n OUTPUT = X\n OUTPUT = Y\nEND\n => \<300:a\>!-!\n\<300:a\>\n
+ X = DUPL('a',300)\n X = X SIZE('bc') LT(2,1) 'd' :S(END)\n OUTPUT = X\nEND\n => \<300:a\>\n
+ X = DUPL('a',300)\n X = X SIZE('b') LEN(1) 'c'\n OUTPUT = DATATYPE(X)\n (DUPL('a',300) '1zc') X :F(END)\n OUTPUT = 'found'\nEND\n => PATTERN\nfound\n
+ DEFINE('F(N)') :(M)\nF OUTPUT = N\n F = N :(RETURN)\nM X = DUPL('a',999999)\n X = X F('b') F('c') F('d')\nEND\n => b\nc\nstatus 1: snobol4: error 8 in statement 5\n
+ DEFINE('F(N)') :(M)\nF OUTPUT = N\n F = N :(RETURN)\nM X = DUPL('a',999998)\n X = X F('b') F('c')\n OUTPUT = SIZE(X)\nEND\n => b\nc\n1000000\n
+ A = ARRAY(2,'q')\n T = TABLE()\n T<'k'> = 7\n X = DUPL('a',300)\n X = X A<1> T<'k'> &ANCHOR -5\n OUTPUT = X\nEND\n => \<300:a\>q70-5\n
+ X = DUPL('a',300)\n X = X SIZE('bc') ~LT(2,1) 'd'\n OUTPUT = X\n X = X SIZE('bc') ~LT(1,2) 'e' :S(END)\n OUTPUT = SIZE(X)\nEND\n => \<300:a\>2d\n302\n
+ X = DUPL('a',300)\n X = X INPUT 'c'\n OUTPUT = X\n X = X INPUT 'e' :S(END)\n OUTPUT = X\nEND\n <- b\n => \<300:a\>bc\n\<300:a\>bc\n
+ X = DUPL('a',300)\n Y = X\n X = X SIZE('b')\n Y = Y 'c' SIZE('de')\n OUTPUT = X\n OUTPUT = Y\nEND\n => \<300:a\>1\n\<300:a\>c2\n
+ OUTPUT = DUPL('a',300)\n OUTPUT = OUTPUT SIZE('b')\nEND\n => \<300:a\>\n\<300:a\>1\n
+ X = DUPL('a',300)\n X = X TRIM(' ') SIZE('') N\n OUTPUT = X\n X = X ('b' SIZE(X)) 'c'\n OUTPUT = X\nEND\n => \<300:a\>0\n\<300:a\>0b301c\n
+ X = DUPL('a',300)\n X = X $'X' SIZE(X)\n OUTPUT = X\n X = X TABLE()\nEND\n => \<600:a\>300\nstatus 1: snobol4: error 1 in statement 4\n
+";
+
 /// Arguments that are absent, and literals in their place.
 const ARGUMENTS: &str = r"
  DEFINE('F(A)') :(M)\nF F = '<' A '>' :(RETURN)\nM OUTPUT = F() F('') F('x') F(5)\nEND\n => <><><x><5>\n
@@ -105,6 +124,7 @@ fn rows(rt: HostRuntime) -> Result<(), Fail> {
             GROWING,
             GROWING_BY_ONE,
             NOT_GROWING,
+            JOINED_APART,
             ARGUMENTS,
         ],
     )
