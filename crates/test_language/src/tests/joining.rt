@@ -106,6 +106,19 @@ const JOINED_APART: &str = r"
  X = DUPL('a',300)\n X = X $'X' SIZE(X)\n OUTPUT = X\n X = X TABLE()\nEND\n => \<600:a\>300\nstatus 1: snobol4: error 1 in statement 4\n
 ";
 
+/// Elements, entries and fields that hold a string which is long enough to grow where it lies.
+const ITEMS_GROW: &str = r"
+ T = TABLE()\n T<'k'> = DUPL('a',300)\n T<'k'> = T<'k'> 5 'b'\n T<'k'> = T<'k'> ',' T<'k'>\n OUTPUT = T<'k'>\nEND\n => \<300:a\>5b,\<300:a\>5b\n
+ A = ARRAY(2)\n A<1> = DUPL('a',300)\n A<2> = A<1>\n A<1> = A<1> 'b' 1\n A<2> = A<2> 'c' 2\n OUTPUT = A<1>\n OUTPUT = A<2>\nEND\n => \<300:a\>b1\n\<300:a\>c2\n
+ DATA('P(V,W)')\n Q = P(DUPL('a',300),1)\n V(Q) = V(Q) W(Q) 'b'\n OUTPUT = V(Q)\n OUTPUT = W(Q)\nEND\n => \<300:a\>1b\n1\n
+ DEFINE('F()') :(M)\nF T<1> = 'new'\n F = '!' :(RETURN)\nM T = TABLE()\n T<1> = DUPL('a',300)\n T<1> = T<1> F() T<1>\n OUTPUT = T<1>\nEND\n => \<300:a\>!new\n
+ DEFINE('F()') :(M)\nF A = ARRAY(1,'z')\n F = '!' :(RETURN)\nM A = ARRAY(1)\n B = A\n A<1> = DUPL('a',300)\n A<1> = A<1> F()\n OUTPUT = A<1>\n OUTPUT = B<1>\nEND\n => z\n\<300:a\>!\n
+ A = ARRAY(1)\n A<1> = DUPL('a',300)\n A<1> = A<1> LT(2,1) 'b' :S(END)\n A<1> = A<1> LT(1,2) 'b'\n OUTPUT = A<1>\n A<1> = A<1> LEN(1) 'c'\n OUTPUT = DATATYPE(A<1>)\nEND\n => \<300:a\>b\nPATTERN\n
+ A = ARRAY(1)\n A<1> = DUPL('a',999999)\n A<1> = A<1> 'b' '' N\n OUTPUT = SIZE(A<1>)\n A<1> = A<1> '' 5\nEND\n => 1000000\nstatus 1: snobol4: error 8 in statement 5\n
+ A = ARRAY('2,2')\n A<1,2> = DUPL('a',300)\n A<2,1> = DUPL('b',300)\n A<1,2> = A<2,1> 5 A<1,2>\n A<2,1> = 'x' A<2,1> 5\n OUTPUT = A<1,2>\n OUTPUT = A<2,1>\nEND\n => \<300:b\>5\<300:a\>\nx\<300:b\>5\n
+ A = ARRAY(1)\n X = DUPL('a',300)\n A<1> = X\n A<1> = X 'b' SIZE(X)\n X = X 'c' SIZE(X)\n OUTPUT = A<1>\n OUTPUT = X\nEND\n => \<300:a\>b300\n\<300:a\>c300\n
+";
+
 /// Arguments that are absent, and literals in their place.
 const ARGUMENTS: &str = r"
  DEFINE('F(A)') :(M)\nF F = '<' A '>' :(RETURN)\nM OUTPUT = F() F('') F('x') F(5)\nEND\n => <><><x><5>\n
@@ -125,6 +138,7 @@ fn rows(rt: HostRuntime) -> Result<(), Fail> {
             GROWING_BY_ONE,
             NOT_GROWING,
             JOINED_APART,
+            ITEMS_GROW,
             ARGUMENTS,
         ],
     )

@@ -44,5 +44,5 @@ returns-in-None g c =
     let found = c.in_ok-span.ensures.does in
     let given = gives_does shown IsValueOf c.find_first.new.runtime (stored.Str []) (Str []) refl (omega arith) in
     let put = rw (← c.requires.text) at (c.put_nothing.ensures _ found.ready.reads) in
-    let next = λ (new : List ℕ). assigns_text c.args.target (with_part c.args.matcher.now.subject c.in_ok-span.span new) in
+    let next = λ (new : List ℕ). assigns_text c.args.target.now (with_part c.args.matcher.now.subject c.in_ok-span.span new) in
     rw c.in-None.is (part_runs _ found (part_runs _ (does_runs shown IsValueOf _ _ _ _ _ found.ready given) (text_runs next (Str []) [] refl put)))
