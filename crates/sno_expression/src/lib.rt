@@ -9,12 +9,13 @@
 //! `quick` does what two numbers (`numerals`), an item (`items`), a field (`fields`), two values that are joined
 //! (`joining`) or a function that examines its arguments (`examining`) need, `tokens` what a function of the language
 //! gives of tokens, and `apply` any form. `building` runs the instructions that make a pattern (`patterns`), and
-//! `standing` finds out, with `waiting` and `leaves`, whether the table has it already. The loop over all instructions
-//! stands in `sno_statement`, since a call in their midst performs statements.
+//! `standing` finds out, with `waiting`, `leaves` and `arguments`, whether the table has it already. The loop over all
+//! instructions stands in `sno_statement`, since a call in their midst performs statements.
 #![tactic(auto)]
 
 mod alone;
 mod apply;
+mod arguments;
 mod block;
 mod building;
 mod compile;
@@ -45,6 +46,7 @@ pub use alone::{
     only_told, token_value, told_integer,
 };
 pub use apply::apply_instruction;
+pub use arguments::key_of;
 pub use building::{begin, build, joins_patterns, makes_pattern};
 pub use compile::Compiler;
 pub use entries::{named_entry, names_item};

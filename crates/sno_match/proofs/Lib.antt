@@ -11,6 +11,7 @@ pub mod PartLaws
 pub mod EntryLaws
 pub mod StartLaws
 pub mod StraightLaws
+pub mod DirectLaws
 pub mod ArbLaws
 pub mod ArbPassLaws
 pub mod SessionLaws

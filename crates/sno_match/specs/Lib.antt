@@ -2,6 +2,7 @@ pub use Rattle.sno_pattern.specs.Pattern
 pub use Rattle.sno_pattern.specs.Ends
 pub use Rattle.sno_pattern.specs.Table
 pub mod Search
+pub mod Direct
 pub mod Ways
 pub mod Matching
 pub mod Point

@@ -1,4 +1,5 @@
 pub mod Arb
+pub mod Direct
 pub mod Hand
 pub mod Move
 pub mod Plan

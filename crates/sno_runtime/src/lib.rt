@@ -1,5 +1,5 @@
 //! What a running program works on: its variables, keywords, input and patterns, and what the operators and functions
-//! of the language give of values. Evaluation and statements stand above it, in `snobol`.
+//! of the language give of values. Evaluation and statements stand above it, in `sno_expression` and `sno_statement`.
 //!
 //! `runtime` is what all of it works on, by topic. `operators` and `unary_operators` give what an operator gives of
 //! its operands, `items` what subscripts give. `builtins` finds a function of the language by its name, and

@@ -1,6 +1,6 @@
 -- The nodes that a match keeps for long strings are those of the same strings as long as nothing is assigned to their names.
-use Rattle.std.proofs.Common.{◌≡◌, ℕ, ◌≤◌, ◌==◌, nat_lt, ℤ, pos, negsuc, Bool, true, false, if◌then◌else◌, List, [], ◌∷◌, refl, ap, sym, ◌∙◌, subst}
-use Rattle.std.proofs.Common.{suc, drop, length, slice_get, Option, None, Some, Result, Ok, Err, OnOk, codes, ◌++◌, ◌+◌, slice_index_or, slice_set}
+use Rattle.std.proofs.Common.{◌≡◌, ℕ, ◌≤◌, nat_lt, ℤ, pos, negsuc, Bool, true, false, if◌then◌else◌, List, [], ◌∷◌, refl, ap, sym, ◌∙◌, subst}
+use Rattle.std.proofs.Common.{suc, drop, length, slice_get, Option, None, Some, Result, Ok, Err, OnOk, codes, ◌++◌, ◌+◌, slice_index_or}
 use Rattle.std.proofs.lemmas.Bool.{eqb-false}
 use Rattle.std.proofs.lemmas.List.{drop_all, get_or-set_other}
 use Rattle.std.specs.List.{AllByRecursion}
@@ -21,7 +21,7 @@ use Rattle.sno_store.specs.Objects.{array_at, table_at, fields_at, element_value
 use Rattle.sno_runtime.specs.Action.{Ending, Error, Got, Fails, Stops, Outcome, Action, and_then, either, gives, settled, settles}
 use Rattle.sno_runtime.specs.Effects.{effect, part_of}
 use Rattle.sno_runtime.specs.Numbers.{number_of}
-use Rattle.sno_runtime.specs.Operators.{answer, as_pattern, count_primitive, makes, primitive, set_primitive}
+use Rattle.sno_runtime.specs.Operators.{answer, as_pattern, count_primitive, makes, set_primitive}
 use Rattle.sno_runtime.specs.Runtime.{Runtime, world, Grows, made_nodes, tree_of, IsPatternOf}
 use Rattle.sno_runtime.specs.Values as value
 use Rattle.sno_runtime.specs.Values.{Value, shown, IsValueOf}

@@ -19,7 +19,7 @@ ghost use Rattle.sno_statement.specs.Turns.{answer_of, answers};
 use crate::answers::answer_of;
 use crate::calls::Calls;
 use crate::evaluation::{evaluate, run_code};
-use crate::matching::only_held;
+use crate::held::only_held;
 use crate::string_nodes::StringNodes;
 use sno_expression::{Form, Instruction, only_place, value_of};
 use sno_io::{Sink, Source};

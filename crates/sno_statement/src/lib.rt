@@ -5,9 +5,11 @@
 //! one statement and finds the next one (`gotos`); `statements` does the parts of one, and `naming` finds what its subject
 //! names. `evaluation` gives the value of an expression, by a loop over `instructions` and a list of values where `unlisted`
 //! and `operands` can't do without, `patterns` that of one which mostly makes a pattern, and `made` calls the functions
-//! that the program has made. `matching` runs a match up to its first way, `deferred` and `answers` give it what its deferred
-//! parts stand for (`string_nodes` keeps those for long strings), and `replacement` puts a text in the place of what matched. How a call of a function that the program defines is
-//! done comes from above (`calls`), since it performs statements in its turn.
+//! that the program has made; `held` is what variables hold. `matching` finds the first way of a match, directly or by a
+//! search, `deferred` and `answers` give that what its deferred parts stand for (`string_nodes` keeps those for long strings),
+//! and `replacement` puts a text in the place of what matched. `longer` and `growing` put behind a long string what is
+//! joined to it. How a call of a function that the program defines is done comes from above (`calls`), since it performs
+//! statements in its turn.
 #![tactic(auto)]
 
 mod answers;
@@ -17,6 +19,7 @@ mod deferred;
 mod evaluation;
 mod gotos;
 mod growing;
+mod held;
 mod instructions;
 mod longer;
 mod made;

@@ -2,6 +2,7 @@ mod again;
 mod arb;
 mod asking;
 mod choices;
+mod direct;
 mod drawing;
 mod driver;
 mod ends;

@@ -12,6 +12,8 @@ ghost use Rattle.sno_runtime.specs.inner.Runtime.{TellsAgain, counting};
 
 use crate::errors::STORE_FULL;
 use crate::runtime::Runtime;
+use crate::runtime::direct::DirectLooks;
+use crate::runtime::wholes::Wholes;
 use crate::stops::{Exit, error};
 use sno_pattern::Shape;
 use sno_value::{ExprId, PatId};
@@ -26,19 +28,12 @@ const PLACES: usize = 4096;
 /// The first place for the nodes of deferred expressions, which are evaluated amid others.
 const DEFERRED: usize = 2048;
 
-/// How many places there are for the patterns that expressions made as their wholes.
-const WHOLES: usize = 512;
-
-/// How often an expression is evaluated behind one that made another pattern before it, until its pattern is kept again:
-/// what makes a new one each time would be compared in vain.
-const APART: u32 = 64;
-
 /// The longest text that is compared with the one that was made before, but for an answer to a deferred expression: what
 /// that made is kept for the run, and to make a long text takes as long as to compare it.
 const COMPARED: usize = 256;
 
 /// A place where no node is kept.
-const NO_NODE: PatId = PatId(u32::MAX);
+pub(super) const NO_NODE: PatId = PatId(u32::MAX);
 
 /// The nodes that were made last.
 #[derive(Drop)]
@@ -46,19 +41,21 @@ pub(crate) struct Made {
     nodes: Vec<PatId>,
     /// The place of the next node; from `PLACES` on it has none.
     place: usize,
-    /// The patterns that expressions made. What is no number of one counts, up to `NO_NODE`, how often none is kept.
-    wholes: Vec<PatId>,
+    pub(super) wholes: Wholes,
+    pub(super) looks: DirectLooks,
 }
 
 impl Made {
     /// No node.
     pub(crate) fn new(alloc: Global) -> Result<Made, AllocError> {
         let nodes = vec![in alloc; NO_NODE; PLACES]?;
-        let wholes = vec![in alloc; NO_NODE; WHOLES]?;
+        let wholes = Wholes::new(alloc)?;
+        let looks = DirectLooks::new(alloc)?;
         Ok(Made {
             nodes,
             place: PLACES,
             wholes,
+            looks,
         })
     }
 
@@ -93,30 +90,6 @@ impl Made {
             self.place = self.place.wrapping_sub(1);
         }
     }
-
-    /// Keeps the pattern that an expression made, where it is time for that again.
-    #[inline(always)]
-    fn keep_whole(&mut self, expression: ExprId, id: PatId) {
-        let place = expression.0 as usize % WHOLES;
-        if place >= self.wholes.len() {
-            return;
-        }
-        let last = self.wholes[place].0;
-        if last < NO_NODE.0 && last >= NO_NODE.0 - APART {
-            self.wholes[place] = PatId(last + 1);
-        } else {
-            self.wholes[place] = id;
-        }
-    }
-
-    /// Keeps none for an expression that made another one.
-    #[inline(always)]
-    fn forget_whole(&mut self, expression: ExprId) {
-        let place = expression.0 as usize % WHOLES;
-        if place < self.wholes.len() {
-            self.wholes[place] = PatId(NO_NODE.0 - APART);
-        }
-    }
 }
 
 impl Runtime {
@@ -142,31 +115,6 @@ impl Runtime {
         ensures { self.new ≡ self.old }
     {
         self.made.place = PLACES;
-    }
-
-    /// The pattern that was kept for this expression, or for another one; any number where none is.
-    #[inline(always)]
-    pub fn whole(&self, expression: ExprId) -> PatId {
-        match self.made.wholes.get(expression.0 as usize % WHOLES) {
-            Some(id) => *id,
-            None => NO_NODE,
-        }
-    }
-
-    /// Keeps the pattern that an expression made.
-    #[inline]
-    pub fn keep_whole(&mut self, expression: ExprId, id: PatId)
-        ensures { self.new ≡ self.old }
-    {
-        self.made.keep_whole(expression, id);
-    }
-
-    /// Keeps none for an expression that makes another one than was kept.
-    #[inline]
-    pub fn forget_whole(&mut self, expression: ExprId)
-        ensures { self.new ≡ self.old }
-    {
-        self.made.forget_whole(expression);
     }
 
     /// Counts so many nodes, which are there, as made. It is false where there would be more than 4,000,000, and then

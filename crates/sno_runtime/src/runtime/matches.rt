@@ -1,10 +1,13 @@
 //! Matches of the program that runs.
-ghost use Rattle.std.specs.Prelude.{◌≡◌, ◌<◌, length, IfOk};
-ghost use Rattle.sno_match.specs.Matching.{begins};
+ghost use Rattle.std.specs.Prelude.{◌≡◌, ◌<◌, [], Bool, length, IfOk, IsTrue};
+ghost use Rattle.sno_pattern.specs.Table.{tree};
+ghost use Rattle.sno_match.specs.Direct.{IsFirst, pending_of};
+ghost use Rattle.sno_match.specs.Matching.{begins, IsWithin};
+ghost use Rattle.sno_match.specs.Search.{Way};
 ghost use Rattle.sno_runtime.specs.Keywords.{is_anchored};
 
 use crate::runtime::Runtime;
-use sno_match::Matcher;
+use sno_match::{DirectWay, Matcher, direct_way};
 use sno_value::{PatId, Text};
 use std::alloc::AllocError;
 
@@ -19,6 +22,34 @@ const KEPT_ALONE: u32 = 10_000;
 const BLOCK_BYTES: usize = 23;
 
 impl Runtime {
+    /// Whether it is worth a look whether the first way of a match of this pattern is found directly. It is not, where
+    /// such looks were in vain lately.
+    #[inline(always)]
+    pub fn looks_directly(&mut self, pattern: PatId) -> bool
+        ensures { self.new ≡ self.old }
+    {
+        self.made.looks.is_worth(pattern)
+    }
+
+    /// Finds the first way of a match of a pattern in a subject, as the keywords have it, where the first alternative of
+    /// each goal leads to it, from 0 on.
+    pub fn finds_directly(&mut self, pattern: PatId, subject: &Text, way: &mut DirectWay) -> bool
+        requires pattern { pattern.0 < length self.old.nodes }
+        requires begins { way.old.end ≡ 0 }
+        requires none { pending_of way.old ≡ [] }
+        ensures same { self.new ≡ self.old }
+        ensures first { IsTrue result → (anchored : Bool) → IsFirst (tree self.old.nodes pattern.0) subject.now anchored
+            self.old.keywords.steps way.new.end (pending_of way.new) }
+        ensures within { IsTrue result → IsWithin (length subject.now) (Way 0 way.new.end (pending_of way.new)) }
+    {
+        let limit = self.steps();
+        let found = direct_way(&self.patterns, pattern, subject.as_slice(), limit, way);
+        self.made
+            .looks
+            .tell(pattern, subject.as_slice().len(), found);
+        found
+    }
+
     /// A match of a pattern in a subject, as the keywords have it: a matcher that was kept begins again, where there is
     /// one. It shares the block of a long subject until the matcher is kept again.
     pub fn begin_match(

@@ -29,7 +29,29 @@ const CHANGED: &str = r"
  S = 'a,b;c'\n D = ','\nL S BREAK(D) . X D = :F(E)\n OUTPUT = X\n D = ';' :(L)\nE OUTPUT = S\nEND\n => a\nb\nc\n
 ";
 
+/// Turns in which a variable holds one value and then another, and the same again.
+const VARYING: &str = r"
+ S = 'abcd'\nL J = 0\nM S TAB(J) LEN(1) . C\n R = R C\n J = LT(J,3) J + 1 :S(M)\n I = LT(I,2) I + 1 :S(L)\n OUTPUT = R\nEND\n => abcdabcdabcd\n
+ S = 'abcdefghi'\nL J = 1\nM S TAB(J - 1) LEN(2 * J) . C\n OUTPUT = C\n J = LT(J,3) J + 1 :S(M)\n I = LT(I,1) I + 1 :S(L)\nEND\n => ab\nbcde\ncdefgh\nab\nbcde\ncdefgh\n
+ S = 'abc'\n K = '2'\nL S LEN(K - 1) . X\n OUTPUT = X\n I = LT(I,2) I + 1 :S(L)\nEND\n => a\na\na\n
+ S = 'a fox'\nL I = LT(I,4) I + 1 :F(END)\n W = 'fox'\n W = EQ(REMDR(I,2),0) 'dog'\n R = 'no'\n S W :F(M)\n R = 'yes'\nM OUTPUT = R :(L)\nEND\n => yes\nno\nyes\nno\n
+ S = 'ayb axb'\nL I = LT(I,4) I + 1 :F(END)\n W = 'axb'\n W = EQ(REMDR(I,2),0) 'ayb'\n S W @J\n OUTPUT = J :(L)\nEND\n => 7\n3\n7\n3\n
+ S = 'abc'\n J = 4\nL J = J - 1\n S LEN(J - 1) . X\n OUTPUT = X :(L)\nEND\n => ab\na\n\nstatus 1: snobol4: error 7 in statement 4\n
+";
+
+/// First ways that are found with no match begun, and those for which that isn't enough.
+const DIRECT: &str = r"
+ S = 'abcdefghij'\n S LEN(1) . A LEN(1) . B LEN(1) . C LEN(1) . D LEN(1) . E LEN(1) . F LEN(1) . G LEN(1) . H LEN(1) . I\n OUTPUT = A B C D E F G H I\nEND\n => abcdefghi\n
+ S = 'abc'\n S LEN(1) . S LEN(1) . T\n OUTPUT = S T\nEND\n => ab\n
+ S = 'abc'\n S LEN(1) . OUTPUT LEN(1) . OUTPUT\n OUTPUT = 'end'\nEND\n => a\nb\nend\n
+ S = 'abc'\n S FENCE LEN(1) . X 'b' REM . Y = X Y\n OUTPUT = S\nEND\n => ac\n
+ S = 'aab'\n S ARBNO('a') . X LEN(1) . Y\n OUTPUT = '<' X '>' Y\nEND\n => <>a\n
+ S = 'aab'\n S ('a' | 'aa') . X 'b' :S(F)\n OUTPUT = 'no'\nF OUTPUT = X\nEND\n => aa\n
+ S = 'aab'\n P = LEN(1) . C\nL S P = :F(E)\n OUTPUT = C S :(L)\nE OUTPUT = 'end'\nEND\n => aab\nab\nb\nend\n
+ S = 'xab'\n P = 'a' LEN(1) . C\n S P = '-'\n OUTPUT = S C\n S 'x' P :S(END)\n OUTPUT = 'no'\nEND\n => x-b\nno\n
+";
+
 #[test]
 fn rows(rt: HostRuntime) -> Result<(), Fail> {
-    check_blocks::<Programs, _>(&rt, &[SAME, CHANGED])
+    check_blocks::<Programs, _>(&rt, &[SAME, CHANGED, VARYING, DIRECT])
 }

@@ -1,6 +1,6 @@
 //! Events and heads of patterns written as text: a word and the numbers behind it.
 use super::driver::Told;
-use sno_match::Event;
+use sno_match::{Event, Pending};
 use sno_pattern::Shape;
 use sno_value::{Name, Prim, SymId};
 use std::alloc::{AllocError, Global};
@@ -25,7 +25,7 @@ pub fn drawn_events(alloc: Global, told: &[Told]) -> Result<String, AllocError> 
             &mut text,
             facts_with("at", Some(one.steps as usize), None, None),
         )?;
-        push_pending(alloc, &mut text, one)?;
+        push_pending(alloc, &mut text, &one.pending)?;
         text.push_str(";")?;
     }
     Ok(text)
@@ -46,8 +46,20 @@ pub fn push_head(alloc: Global, text: &mut String, shape: Shape) -> Result<(), A
     push_facts(alloc, text, facts_of_shape(shape))
 }
 
-fn push_pending(alloc: Global, text: &mut String, told: &Told) -> Result<(), AllocError> {
-    for pending in &told.pending {
+/// A way from 0, and the assignments that wait.
+pub fn drawn_way(alloc: Global, end: usize, pending: &[Pending]) -> Result<String, AllocError> {
+    let mut text = String::new(alloc);
+    push_facts(
+        alloc,
+        &mut text,
+        facts_with("way", Some(0), Some(end), None),
+    )?;
+    push_pending(alloc, &mut text, pending)?;
+    Ok(text)
+}
+
+fn push_pending(alloc: Global, text: &mut String, pending: &[Pending]) -> Result<(), AllocError> {
+    for pending in pending {
         let target = Some(number_of(pending.target));
         let facts = facts_with("with", target, Some(pending.start), Some(pending.end));
         push_facts(alloc, text, facts)?;
