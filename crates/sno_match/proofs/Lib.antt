@@ -9,6 +9,7 @@ pub mod PlanLaws
 pub mod MoveLaws
 pub mod PartLaws
 pub mod EntryLaws
+pub mod SideLaws
 pub mod StartLaws
 pub mod StraightLaws
 pub mod DirectLaws

@@ -7,6 +7,7 @@ pub mod Remaining
 pub mod Running
 pub mod Scopes
 pub mod Shared
+pub mod Sides
 pub mod Starts
 pub mod State
 pub mod Straight

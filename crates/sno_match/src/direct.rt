@@ -4,23 +4,18 @@ ghost use Rattle.std.specs.Prelude.{◌≡◌, ◌<◌, ◌≤◌, ◌∷◌, �
 ghost use Rattle.sno_pattern.specs.Table.{tree};
 ghost use Rattle.sno_match.specs.Direct.{IsFirst, pending_of};
 ghost use Rattle.sno_match.specs.Matching.{IsWithin};
-ghost use Rattle.sno_match.specs.Remaining.{AllKnown, IsKnown};
 ghost use Rattle.sno_match.specs.Search.{Way, assigns};
-ghost use Rattle.sno_match.specs.inner.Direct.{waits, Goes, LeadsOn};
+ghost use Rattle.sno_match.specs.inner.Direct.{Leads};
 
 use crate::event::Pending;
-use crate::goal::Goal;
 use sno_pattern::{Patterns, Shape};
 use sno_value::{Name, PatId, SymId};
 
-/// The most goals that wait.
-const MOST_GOALS: usize = 16;
+/// How deep parts are followed in one another.
+const MOST_DEPTH: u32 = 16;
 
 /// The most assignments that wait.
 const MOST_PENDING: usize = 8;
-
-/// How many bytes a subject has at most: a cursor is kept in 32 bits.
-const MOST_BYTES: usize = 4_294_967_295;
 
 /// A way from 0, or how far one has come.
 #[derive(Clone, Copy, Drop)]
@@ -29,13 +24,6 @@ pub struct DirectWay {
     pub end: usize,
     /// The assignments that wait for its end, in their order, as many as are counted.
     pub pending: [Pending; MOST_PENDING],
-    pub count: usize,
-}
-
-/// The goals that wait, the next one last.
-#[derive(Clone, Copy, Drop)]
-pub(crate) struct Ahead {
-    pub goals: [Goal; MOST_GOALS],
     pub count: usize,
 }
 
@@ -71,7 +59,7 @@ impl DirectWay {
 
     /// An assignment of the part from `start` on waits, if there is room for it.
     #[inline(always)]
-    fn wait(&mut self, target: Name, start: u32) -> Option<()>
+    fn wait(&mut self, target: Name, start: usize) -> Option<()>
         ensures pending { IfSome result (λ done. pending_of self.new
             ≡ pending_of self.old ++ assigns target start self.old.end ∷ []) }
         ensures end { self.new.end ≡ self.old.end }
@@ -79,47 +67,8 @@ impl DirectWay {
         if self.count >= MOST_PENDING {
             return None;
         }
-        let start = start as usize;
         let end = self.end;
         self.pending[self.count] = Pending { target, start, end };
-        self.count += 1;
-        Some(())
-    }
-}
-
-impl Ahead {
-    /// The goal of a whole pattern.
-    #[inline(always)]
-    fn new(pattern: PatId) -> Ahead
-        ensures { waits result ≡ Goal.Match pattern ∷ [] }
-    {
-        Ahead {
-            goals: [Goal::Match(pattern); MOST_GOALS],
-            count: 1,
-        }
-    }
-
-    /// The next goal, which waits no longer.
-    #[inline(always)]
-    fn next(&mut self) -> Option<Goal>
-        ensures { IfSome result (λ goal. waits self.old ≡ waits self.new ++ goal ∷ []) }
-    {
-        if self.count == 0 || self.count > MOST_GOALS {
-            return None;
-        }
-        self.count -= 1;
-        Some(self.goals[self.count])
-    }
-
-    /// A goal waits, if there is room for it.
-    #[inline(always)]
-    fn wait(&mut self, goal: Goal) -> Option<()>
-        ensures { IfSome result (λ done. waits self.new ≡ waits self.old ++ goal ∷ []) }
-    {
-        if self.count >= MOST_GOALS {
-            return None;
-        }
-        self.goals[self.count] = goal;
         self.count += 1;
         Some(())
     }
@@ -142,81 +91,52 @@ pub fn direct_way(
         → IsFirst (tree patterns.now pattern.0) subject.now anchored limit way.new.end (pending_of way.new) }
     ensures within { IsTrue result → IsWithin (length subject.now) (Way 0 way.new.end (pending_of way.new)) }
 {
-    if subject.len() > MOST_BYTES {
-        return false;
-    }
-    let mut ahead = Ahead::new(pattern);
-    let mut left = limit;
-    'goals: while ahead.count > 0 {
-        let Some(goal) = ahead.next() else {
-            return false;
-        };
-        if left == 0 {
-            return false;
-        }
-        left -= 1;
-        let Some(()) = enter(patterns, subject, goal, &mut ahead, way) else {
-            return false;
-        };
-    }
-    true
-}
-
-/// The step of a goal, by its first alternative.
-#[inline(always)]
-fn enter(
-    patterns: &Patterns,
-    subject: &[u8],
-    goal: Goal,
-    ahead: &mut Ahead,
-    way: &mut DirectWay,
-) -> Option<()>
-    requires known { IsKnown patterns.now goal }
-    requires inside { way.old.end ≤ length subject.now }
-    requires short { length subject.now ≤ 4294967295 }
-    ensures { IfSome result (λ done. Goes patterns.now subject.now goal (waits ahead.old) way.old (waits ahead.new) way.new) }
-{
-    match goal {
-        Goal::Match(id) => enter_pattern(patterns, subject, id, ahead, way),
-        Goal::CloseCond { target, start } => way.wait(target, start),
-        Goal::CloseImm { .. } => None,
-        Goal::CloseRepeat { .. } => None,
-        Goal::CloseCut { .. } => None,
+    match follow(patterns, pattern, subject, limit, MOST_DEPTH, way) {
+        Some(_left) => true,
+        None => false,
     }
 }
 
-/// The step of a pattern.
-#[inline(always)]
-fn enter_pattern(
+/// Follows the search for a pattern by first alternatives, as long as there are so many steps: what are left behind it.
+fn follow(
     patterns: &Patterns,
-    subject: &[u8],
     id: PatId,
-    ahead: &mut Ahead,
+    subject: &[u8],
+    left: u32,
+    depth: u32,
     way: &mut DirectWay,
-) -> Option<()>
+) -> Option<u32>
     requires known { id.0 < length patterns.now }
     requires inside { way.old.end ≤ length subject.now }
-    requires short { length subject.now ≤ 4294967295 }
-    ensures { IfSome result (λ done. Goes patterns.now subject.now (Goal.Match id) (waits ahead.old) way.old
-        (waits ahead.new) way.new) }
+    ensures { IfSome result (λ rest. Leads subject.now (tree patterns.now id.0) left way.old rest way.new) }
 {
+    if left == 0 || depth == 0 {
+        return None;
+    }
+    let left = left - 1;
     match patterns.shape(id) {
         Shape::Primitive => {
             way.end = patterns.end_at(id, subject, way.end, 0)?;
-            Some(())
+            Some(left)
         }
         Shape::Cat(first, second) => {
-            ahead.wait(Goal::Match(second))?;
-            ahead.wait(Goal::Match(first))
+            let left = follow(patterns, first, subject, left, depth - 1, way)?;
+            let left = follow(patterns, second, subject, left, depth - 1, way)?;
+            Some(left)
         }
         Shape::Cond(body, target) => {
-            let start = way.end as u32;
-            ahead.wait(Goal::CloseCond { target, start })?;
-            ahead.wait(Goal::Match(body))
+            let start = way.end;
+            let left = follow(patterns, body, subject, left, depth - 1, way)?;
+            let left = left.checked_sub(1)?;
+            way.wait(target, start)?;
+            Some(left)
         }
-        Shape::Alt(first, _second) => ahead.wait(Goal::Match(first)),
-        Shape::Arbno(_body) => Some(()),
-        Shape::Fence => Some(()),
+        Shape::Alt(first, _second) => {
+            let left = follow(patterns, first, subject, left, depth - 1, way)?;
+            Some(left)
+        }
+        Shape::Arbno(_body) => Some(left),
+        Shape::Fence => Some(left),
         _ => None,
     }
 }

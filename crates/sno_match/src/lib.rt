@@ -12,6 +12,7 @@
 mod arb;
 mod asked;
 mod bytes;
+mod choices;
 mod copied;
 mod direct;
 mod doubt;
@@ -26,6 +27,7 @@ mod plan;
 mod points;
 mod records;
 mod shared;
+mod side_list;
 mod sides;
 mod silent;
 mod snapshot;

@@ -6,9 +6,9 @@ ghost use Rattle.sno_pattern.specs.Looks.{AreTrue};
 ghost use Rattle.sno_pattern.specs.Table.{tree};
 ghost use Rattle.sno_match.specs.inner.Starts.{Passes, FailsAt, FailsWith, FailsOutside};
 
+use crate::choices::pass_choice;
 use crate::doubt::Doubts;
 use crate::heads::{Head, head_of};
-use crate::sides::{MOST_DEPTH, sides_in_vain, steps_in_vain};
 use crate::straight::straight_in_vain;
 use sno_pattern::{ByteSet, Looks, Patterns, Shape, place_in_set};
 use sno_value::PatId;
@@ -229,53 +229,15 @@ fn pass_primitive(
     passed_before(start, next, price, left)
 }
 
-/// The same where the pattern begins with a choice: starts at which none of its first bytes stands, and those at which
-/// one does and each side fails nevertheless.
-fn pass_choice(
-    patterns: &Patterns,
-    pattern: PatId,
-    head: Head,
-    subject: &[u8],
-    start: usize,
-    left: u32,
-) -> Passed
-    requires known { head.id.0 < length patterns.now }
-    requires fails { FailsWith (tree patterns.now pattern.0) (tree patterns.now head.id.0) head.above }
-    requires near { head.above ≤ left - 2 }
-    requires before { start < length subject.now }
-    ensures inside { result.start ≤ length subject.now }
-    ensures enough { result.steps ≤ left }
-    ensures passes { Passes false (tree patterns.now pattern.0) subject.now start result.start result.steps }
-{
-    let none = Passed { start, steps: 0 };
-    let Some(begins) = patterns.choice_begins(head.id) else {
-        return none;
-    };
-    if begins.steps >= left - head.above {
-        return none;
-    }
-    let price = begins.steps + head.above;
-    let mut passed = pass_others(&begins.set, subject, start, price, left);
-    'starts: while passed.start < subject.len() {
-        let here = passed.start + 1;
-        let left = left - passed.steps;
-        if left <= head.above {
-            return passed;
-        }
-        let Some(steps) = choice_in_vain(patterns, head.id, subject, here, left - head.above) else {
-            return passed;
-        };
-        let steps = steps + head.above;
-        let behind = pass_others(&begins.set, subject, here, price, left - steps - 1);
-        passed.start = behind.start;
-        passed.steps += steps + 1 + behind.steps;
-    }
-    passed
-}
-
 /// The last of the starts behind this one at which no byte of a set stands, as far as there are steps for them: where
 /// none stands, the pattern is searched in vain in so many steps.
-fn pass_others(set: &ByteSet, subject: &[u8], start: usize, steps: u32, left: u32) -> Passed
+pub(crate) fn pass_others(
+    set: &ByteSet,
+    subject: &[u8],
+    start: usize,
+    steps: u32,
+    left: u32,
+) -> Passed
     requires inside { start ≤ length subject.now }
     requires paid { steps ≤ 4294967294 }
     ensures behind { start ≤ result.start }
@@ -291,32 +253,6 @@ fn pass_others(set: &ByteSet, subject: &[u8], start: usize, steps: u32, left: u3
     let room = room_for(subject, start, price, left);
     let next = place_in_set(set, subject, start + 1, start + 1 + room);
     passed_before(start, next, price, left)
-}
-
-/// How many steps a choice's search takes in vain from a place, as `steps_in_vain` has it, however many sides it has.
-fn choice_in_vain(
-    patterns: &Patterns,
-    id: PatId,
-    subject: &[u8],
-    at: usize,
-    left: u32,
-) -> Option<u32>
-    requires known { id.0 < length patterns.now }
-    requires inside { at ≤ length subject.now }
-    requires some { 0 < left }
-    ensures fails { IfSome result (λ steps. FailsAt (tree patterns.now id.0) subject.now steps at) }
-    ensures near { IfSome result (λ steps. steps < left) }
-{
-    let rest = sides_in_vain(patterns, id, subject, at, left);
-    let last = steps_in_vain(
-        patterns,
-        rest.id,
-        subject,
-        at,
-        left - rest.steps,
-        MOST_DEPTH,
-    )?;
-    Some(rest.steps + last)
 }
 
 /// The pattern that was seen last to have no match at a first start, behind a search from a start in vain: the one in

@@ -1,10 +1,10 @@
 -- The next place at which a primitive has an end.
 use Rattle.std.proofs.Common.{◌≡◌, ℕ, zero, suc, ◌+◌, ◌-◌, ◌<◌, ◌≤◌, ◌==◌, nat_eq, Bool, true, false, not, ◌||◌, cond, if◌then◌else◌, Some, None, List, [], ◌∷◌}
-use Rattle.std.proofs.Common.{length, min, take, drop, get_or, position, slice_get, slice_index, refl, sym, ◌∙◌, ap, arith, ◌⊎◌, inl, inr, ⊎_elim, rules}
+use Rattle.std.proofs.Common.{length, min, take, drop, get_or, Option, position, slice_get, slice_index, refl, sym, ◌∙◌, ap, arith, ◌⊎◌, inl, inr, ⊎_elim, rules}
 use Rattle.std.specs.Cmp.Lexicographic.{same_text}
 use Rattle.std.specs.Option.{is_some}
 use Rattle.std.specs.List.{position_from, starts_with}
-use Rattle.std.proofs.lemmas.Bool.{eq-eqb, ne_eqb}
+use Rattle.std.proofs.lemmas.Bool.{eq-eqb, eqb-true, ne_eqb}
 use Rattle.std.proofs.lemmas.Iterator.Adapters.{position_from-zero}
 use Rattle.std.proofs.lemmas.List.{get_or-take, get_or-drop, length-drop, length-take, take_rest}
 use Rattle.std.proofs.lemmas.List.Quantifiers.{position-Some}
@@ -119,6 +119,20 @@ pub first_byte : (text s : List ℕ) (c : ℕ) → (length text == 0) ≡ false 
     → leaf_has_end (Text text) s c ≡ false
 first_byte [] s c some h = absurd (true_or_false (sym (eq-eqb 0 0 refl) ∙ some))
 first_byte (byte ∷ rest) s c some h = text_begins byte rest s c h
+
+-- a text has an end only where its first byte stands
+pub only_at_first : (text s : List ℕ) (c first : ℕ) → slice_get text 0 ≡ Some first → leaf_has_end (Text text) s c ≡ true → slice_get s c ≡ Some first
+only_at_first [] s c first is has = absurd (cc is)
+only_at_first (byte ∷ rest) s c first is has = at (slice_get s c) (text_begins byte rest s c) ∙ is
+  where
+    no_other : (there : ℕ) (q : Bool) → (there == byte) ≡ q → (is_some (slice_get (end_after (λ b. b == byte) (Some there) c) 0) ≡ false → ⊥) → there ≡ byte
+    no_other there true same stands = eqb-true there byte same
+    no_other there false apart stands = absurd (stands (end_if-some (there == byte) (c + 1) ∙ apart))
+
+    at : (there : Option ℕ) → (is_some (slice_get (end_after (λ b. b == byte) there c) 0) ≡ false → leaf_has_end (Text (byte ∷ rest)) s c ≡ false)
+        → there ≡ Some byte
+    at None none = absurd (true_or_false (sym has ∙ none refl))
+    at (Some there) none = ap Some (no_other there (there == byte) refl (λ apart. true_or_false (sym has ∙ none apart)))
 
 -- a text of one byte stands where that byte does
 module _ (byte : ℕ) where

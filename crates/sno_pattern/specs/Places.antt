@@ -1,5 +1,5 @@
 -- The next place at which a pattern has an end.
-use Rattle.std.specs.Prelude.{ℕ, ◌≡◌, ◌<◌, ◌≤◌, ◌+◌, Bool, true, false, List, slice_get}
+use Rattle.std.specs.Prelude.{ℕ, ◌≡◌, ◌<◌, ◌≤◌, ◌+◌, Bool, true, false, List, slice_get, Some}
 use Rattle.std.specs.Option.{is_some}
 use Rattle.sno_value.specs.declared.kind.PrimitiveKind.TheVariants.{Any}
 use Rattle.sno_pattern.specs.Pattern.{Pattern, Among, Leaf, Alt, Cat, Cond, Imm}
@@ -28,6 +28,10 @@ pub record IsAmong (set other : List ℕ) : Type 0 where
 -- a primitive pattern begins with a byte of the set: it has no end where none of them stands
 pub record BeginsAmong (pattern : Pattern) (set : List ℕ) : Type 0 where
   pub fails : (s : List ℕ) (c : ℕ) → stands_at set s c ≡ false → has_end pattern s c ≡ false
+
+-- a primitive pattern has an end only where this byte stands
+abbrev pub BeginsWithByte : Pattern → ℕ → Type 0
+BeginsWithByte pattern byte = (s : List ℕ) (c : ℕ) → has_end pattern s c ≡ true → slice_get s c ≡ Some byte
 
 -- a pattern begins with a byte of the set behind heads and choices: where none stands its search takes so many steps in vain
 abbrev pub BeginsWith : List ℕ → ℕ → Pattern → Type 0

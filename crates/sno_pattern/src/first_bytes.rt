@@ -1,5 +1,5 @@
 //! The bytes with which a primitive begins.
-ghost use Rattle.std.specs.Prelude.{◌≡◌, ◌<◌, ◌≤◌, ℕ, List, false, length, IsTrue, IfSome};
+ghost use Rattle.std.specs.Prelude.{◌≡◌, ◌<◌, ◌≤◌, ℕ, List, false, true, length, slice_get, IsTrue, IfSome, Some};
 ghost use Rattle.sno_pattern.specs.Pattern.{Alt};
 ghost use Rattle.sno_pattern.specs.inner.Kinds.{node_of, nodes_of, IsTable};
 ghost use Rattle.sno_pattern.specs.Masks.{members};
@@ -142,6 +142,19 @@ pub(crate) fn add_first_bytes_of_kind(kind: &Kind, set: &mut ByteSet) -> bool
         },
         _ => false,
     }
+}
+
+/// The byte with which a node's text begins.
+#[inline(always)]
+pub(crate) fn first_byte_of_kind(kind: &Kind) -> Option<u8>
+    ensures { IfSome result (λ byte. (s : List ℕ) (c : ℕ) → node_has_end (node_of kind.now) s c ≡ true
+        → slice_get s c ≡ Some byte) }
+{
+    let Kind::Text(text) = kind else {
+        return None;
+    };
+    let byte = text.as_slice().first()?;
+    Some(*byte)
 }
 
 /// Whether a node whose first bytes are known has no end from a cursor, which takes a look at no more bytes than its

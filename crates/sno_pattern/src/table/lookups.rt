@@ -5,13 +5,15 @@ ghost use Rattle.sno_pattern.specs.Pattern.{IsQuiet, Leaf, Arb};
 ghost use Rattle.sno_pattern.specs.Shape.{HasShape, HasHead, GoesOnAs, IsPrimitive, end_of};
 ghost use Rattle.sno_pattern.specs.Table.{tree};
 ghost use Rattle.sno_pattern.specs.NextEnd.{ends_of, next_end};
-ghost use Rattle.sno_pattern.specs.Places.{IsFirstPlace, has_end, IsAmong, BeginsAmong, BeginsWith};
+ghost use Rattle.sno_pattern.specs.Places.{IsFirstPlace, has_end, IsAmong, BeginsAmong, BeginsWith, BeginsWithByte};
 ghost use Rattle.sno_pattern.specs.Looks.{AreTrue};
 ghost use Rattle.sno_pattern.specs.inner.Looks.{IsBal, StopsOften};
 
 use crate::byte_set::ByteSet;
 use crate::ends::{end_behind_of_kind, end_of_kind, has_one_end};
-use crate::first_bytes::{Beginning, add_first_bytes_of_kind, kind_fails_at, kind_misses};
+use crate::first_bytes::{
+    Beginning, add_first_bytes_of_kind, first_byte_of_kind, kind_fails_at, kind_misses,
+};
 use crate::head::{Head, behind_in_arb, head_of_kind};
 use crate::kind::{Kind, is_same_search, shape_of_kind};
 use crate::looks::{Looks, Run, is_far, is_near, key_behind, last_with_end};
@@ -140,6 +142,16 @@ impl Patterns {
         let steps = begins.steps?;
         let set = ByteSet::with_words(begins.words);
         Some(Beginning { set, steps })
+    }
+
+    /// The byte with which a text begins: it has an end nowhere else. None for any other pattern, and for the null text.
+    #[inline(always)]
+    pub fn first_byte(&self, id: PatId) -> Option<u8>
+        requires { id.0 < length self.now }
+        ensures { IfSome result (BeginsWithByte (tree self.now id.0)) }
+    {
+        let byte = first_byte_of_kind(&self.entries[id.0 as usize].kind)?;
+        Some(byte)
     }
 
     /// Whether a primitive whose first bytes are known has no end from a cursor. It looks at no more bytes than a text

@@ -54,9 +54,78 @@ floating 1000 DBC: TEXT:A TEXT:B |:0,1 TEXT:C &:2,3 => way 1 3 at 12; exhausted 
 floating 1000 B: TEXT:A TEXT: |:0,1 => way 0 0 at 4; way 1 1 at 9; exhausted at 9;
 ";
 
+/// They are 'AB' | 'AC', 'AB' | ANY('C') | 'AD' and SPAN('D') | 'AC', each behind starts at which one of their bytes stands
+/// and each side fails.
+const STARTS_IN_VAIN: &str = r"
+floating 1000 AADAADAC: TEXT:AB TEXT:AC |:0,1 => way 6 8 at 34; exhausted at 44;
+floating 34 AADAADAC: TEXT:AB TEXT:AC |:0,1 => way 6 8 at 34; limit at 34;
+floating 33 AADAADAC: TEXT:AB TEXT:AC |:0,1 => limit at 33;
+floating 20 AADAADAC: TEXT:AB TEXT:AC |:0,1 => limit at 20;
+floating 19 AADAADAC: TEXT:AB TEXT:AC |:0,1 => limit at 19;
+floating 1000 AAEAEAD: TEXT:AB ANY:C |:0,1 TEXT:AD |:2,3 => way 5 7 at 47; exhausted at 63;
+floating 1000 ABABD: SPAN:D TEXT:AC |:0,1 => way 4 5 at 22; exhausted at 29;
+";
+
 #[test]
 fn starts_of_choices_that_fail(rt: HostRuntime) -> Result<(), Fail> {
-    check_blocks::<Matches, _>(&rt, &[TWO_LETTERS, CHOICES])
+    check_blocks::<Matches, _>(&rt, &[TWO_LETTERS, CHOICES, STARTS_IN_VAIN])
+}
+
+/// Words of which many begin with the same byte.
+const WORDS: [&[u8]; 6] = [b"AX", b"BX", b"CX", b"AY", b"BY", b"CY"];
+
+/// How many words the choices have: few, and as many as are listed, and more.
+const COUNTS: [usize; 6] = [2, 3, 7, 127, 128, 130];
+
+/// Limits within the search from a start, between two, and beyond all.
+const LIMITS: [u32; 7] = [0, 3, 20, 388, 389, 1200, 100_000];
+
+/// A choice of so many words, each to the right or to the left of those before it.
+fn choice_of(alloc: Global, count: usize, is_right: bool) -> Result<Vec<Form>, Fail> {
+    let mut forms = Vec::new(alloc);
+    forms.push(Form::Text(WORDS[0]))?;
+    let mut choice = PatId(0);
+    for place in 1..count {
+        let word = PatId(choice.0.saturating_add(1));
+        let both = PatId(choice.0.saturating_add(2));
+        forms.push(Form::Text(WORDS[place % WORDS.len()]))?;
+        forms.push(if is_right {
+            Form::Alt(choice, word)
+        } else {
+            Form::Alt(word, choice)
+        })?;
+        choice = both;
+    }
+    Ok(forms)
+}
+
+/// Compares what a match over either stack tells of a choice with the plain search.
+fn compare_choice(rt: &impl Abort, alloc: Global, forms: &[Form], limit: u32) -> Result<(), Fail> {
+    let s = Search {
+        subject: b"ABCABZACBYCZZAXB",
+        anchored: false,
+        limit,
+        answers: &[],
+    };
+    let (table, pattern) = table_of(alloc, forms)?;
+    let want = search_events(
+        alloc, forms, pattern, s.subject, s.anchored, s.limit, s.answers,
+    )?;
+    check_stacks(rt, alloc, &table, pattern, s, &want)?;
+    Ok(())
+}
+
+#[test]
+fn choices_of_many_words(rt: HostRuntime) -> Result<(), Fail> {
+    for count in COUNTS {
+        for is_right in [true, false] {
+            let forms = choice_of(rt.alloc(), count, is_right)?;
+            for limit in LIMITS {
+                compare_choice(&rt, rt.alloc(), &forms, limit)?;
+            }
+        }
+    }
+    Ok(())
 }
 
 /// Choices whose first bytes are known, each with one in which an ANY has become a NOTANY, whose first bytes aren't. In

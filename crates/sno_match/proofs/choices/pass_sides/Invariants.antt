@@ -1,7 +1,7 @@
 use Rattle.std.proofs.Common.{◌-◌, ◌≤◌, false, length}
 use Rattle.sno_pattern.specs.Table.{tree}
 use Rattle.sno_match.specs.inner.Starts.{Passes}
-use Rattle.sno_match.proofs.starts.pass_choice.Given as goal
+use Rattle.sno_match.proofs.choices.pass_sides.Given as goal
 
 abbrev pub invariant-starts : goal.invariant-starts
 invariant-starts l = record {

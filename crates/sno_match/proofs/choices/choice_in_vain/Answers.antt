@@ -1,6 +1,6 @@
 use Rattle.sno_pattern.specs.Table.{tree}
 use Rattle.sno_match.proofs.StartLaws.{way_fails}
-use Rattle.sno_match.proofs.starts.choice_in_vain.Goals as goal
+use Rattle.sno_match.proofs.choices.choice_in_vain.Goals as goal
 
 pub returns-clause-fails : goal.returns-clause-fails
 returns-clause-fails c =
