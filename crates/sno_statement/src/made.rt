@@ -55,6 +55,7 @@ fn called_name(form: &Form) -> Option<&Known>
     match form {
         Form::Call(_, name) => Some(name),
         Form::Comparison(_, name) => Some(name),
+        Form::Remainder(name) => Some(name),
         Form::Examination(_, name) => Some(name),
         _ => None,
     }

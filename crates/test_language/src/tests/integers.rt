@@ -196,6 +196,36 @@ const OPERANDS: &str = r"
  T = TABLE()\n T<1> = 5\n T<5> = 7\n OUTPUT = T<1> + 5\n OUTPUT = T<T<1>> - T<1>\n OUTPUT = SIZE(T<T<1>>)\nEND\n => 10\n2\n1\n
 ";
 
+/// Quotients, remainders and powers of what variables hold.
+const QUOTIENTS: &str = r"
+ N = 17\n D = 5\n OUTPUT = N / D\n OUTPUT = REMDR(N,D)\n OUTPUT = -17 / D\n OUTPUT = REMDR(-17,D)\n OUTPUT = N / -5\n OUTPUT = REMDR(N,-5)\nEND\n => 3\n2\n-3\n-2\n-3\n2\n
+ N = '17'\n D = '05'\n OUTPUT = N / D REMDR(N,D)\n OUTPUT = REMDR(N,D) + N / D\nEND\n => 32\n5\n
+ N = 7\n OUTPUT = REMDR(N,Z)\nEND\n => status 1: snobol4: error 3 in statement 2\n
+ N = 7\n OUTPUT = N / Z\nEND\n => status 1: snobol4: error 3 in statement 2\n
+ N = 7\n X = ~REMDR(N,0)\nEND\n => status 1: snobol4: error 3 in statement 2\n
+ N = 7\n OUTPUT = REMDR(N)\nEND\n => status 1: snobol4: error 3 in statement 2\n
+ N = 7\n OUTPUT = REMDR(N,4,'more')\n OUTPUT = REMDR(N,4,LT(2,1)) :S(END)\n OUTPUT = 'failed'\nEND\n => 3\nfailed\n
+ N = -9223372036854775807 - 1\n D = -1\n OUTPUT = REMDR(N,D)\n OUTPUT = N / D\nEND\n => 0\nstatus 1: snobol4: error 2 in statement 4\n
+ N = 2\n E = 10\n OUTPUT = N ** E\n OUTPUT = Z ** Z\n OUTPUT = N ** 63\nEND\n => 1024\n1\nstatus 1: snobol4: error 2 in statement 5\n
+ E = -1\n OUTPUT = 2 ** E\nEND\n => status 1: snobol4: error 7 in statement 2\n
+ N = 7\n OUTPUT = REMDR(N,LEN(1))\nEND\n => status 1: snobol4: error 1 in statement 2\n
+ N = 7\n S = 'x'\n OUTPUT = N / S\nEND\n => status 1: snobol4: error 1 in statement 3\n
+ DEFINE('REMDR(A,B)') :(M)\nREMDR REMDR = A '-' B :(RETURN)\nM I = 7\n OUTPUT = REMDR(I,2)\n OUTPUT = IDENT(REMDR(I,0),'7-0') 'own'\nEND\n => 7-2\nown\n
+ I = 7\nL OUTPUT = REMDR(I,2)\n N = N + 1\n EQ(N,2) :S(END)\n DEFINE('REMDR(A,B)') :(L)\nREMDR REMDR = A '-' B :(RETURN)\nEND\n => 1\n7-2\n
+ A = ARRAY('0:2')\n I = 4\nL A<REMDR(I,3)> = A<REMDR(I,3)> I\n I = GT(I,1) I - 1 :S(L)\n OUTPUT = A<0> '/' A<1> '/' A<2>\nEND\n => 3/41/2\n
+ A = 48\n B = 36\nL C = REMDR(A,B)\n A = B\n B = C\n NE(B,0) :S(L)\n OUTPUT = A\nEND\n => 12\n
+ DEFINE('GCD(A,B)') :(M)\nGCD GCD = EQ(B,0) A :S(RETURN)\n GCD = GCD(B,REMDR(A,B)) :(RETURN)\nM OUTPUT = GCD(48,36) REMDR(GCD(48,36),5) REMDR(7,GCD(9,6)) 9 / GCD(9,6)\nEND\n => 12213\n
+ S = '12'\n T = '3'\n P = S | T\n 'x3' P . W\n OUTPUT = W\n I = 1\n J = 2\n P = I | J\n 'a2' P . W\n OUTPUT = W\nEND\n => 3\n2\n
+";
+
+/// Variables and functions whose names are long, and differ in one letter.
+const NAMES: &str = r"
+ COUNTER.OF1 = 1\n COUNTER.OF2 = 2\n COUNTER.O = 3\n COUNTER.o = 4\n COUNTER_O = 5\n OUTPUT = COUNTER.OF1 COUNTER.OF2 COUNTER.O COUNTER.o COUNTER_O COUNTER\nEND\n => 12345\n
+ TEN.LETTER = 1\n TEN.LETTERS = 2\n TEN.LETTER.S = 3\nL TEN.LETTER = LT(TEN.LETTER,4) TEN.LETTER + TEN.LETTER :S(L)\n $'TEN.LETTERS' = TEN.LETTERS TEN.LETTER\n OUTPUT = TEN.LETTERS TEN.LETTER.S\nEND\n => 243\n
+ DEFINE('FACTORIAL(NUMBER)') :(M)\nFACTORIAL FACTORIAL = EQ(NUMBER,0) 1 :S(RETURN)\n FACTORIAL = NUMBER * FACTORIAL(NUMBER - 1) :(RETURN)\nM OUTPUT = FACTORIAL(10)\nEND\n => 3628800\n
+ DEFINE('FACTORIAL.OF(NUMBER.GIVEN)') :(M)\nFACTORIAL.OF FACTORIAL.OF = EQ(NUMBER.GIVEN,0) 1 :S(RETURN)\n FACTORIAL.OF = NUMBER.GIVEN * FACTORIAL.OF(NUMBER.GIVEN - 1) :(RETURN)\nM OUTPUT = FACTORIAL.OF(10)\nEND\n => 3628800\n
+";
+
 /// Elements and entries.
 const ELEMENTS: &str = r"
  A = ARRAY(3,4)\n I = 2\n OUTPUT = EQ(A<I> + A<I + 1> - A<I - 1>,4) 'four'\n OUTPUT = LT(A<I> * A<I>,16) 'less' :S(END)\n OUTPUT = A<I + 1> * 2 - 1\nEND\n => four\n7\n
@@ -260,5 +290,10 @@ L N = N + INPUT :S(L)\n OUTPUT = N\nEND\n <- 3\n4\n => 7\n
 #[test]
 fn rows(rt: HostRuntime) -> Result<(), Fail> {
     check_blocks::<Values, _>(&rt, &[ARITHMETIC, COMPARISONS, DIGITS, COMPARED_DIGITS])?;
-    check_blocks::<Programs, _>(&rt, &[ALONE, OPERANDS, ELEMENTS, CONDITIONS, PROGRAMS])
+    check_blocks::<Programs, _>(
+        &rt,
+        &[
+            ALONE, OPERANDS, QUOTIENTS, NAMES, ELEMENTS, CONDITIONS, PROGRAMS,
+        ],
+    )
 }
