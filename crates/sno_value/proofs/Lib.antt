@@ -5,3 +5,4 @@ pub mod Copies
 pub mod Replacements
 pub mod Decimal
 pub mod Texts
+pub mod KeyLaws

@@ -87,22 +87,30 @@ const VALUES: &[Step] = &[
 
 const KEYED: &[Step] = &[
     Step::Symbol("X", Ok(9)),
-    Step::Symbol("SEVENTH", Ok(10)),
-    Step::Symbol("EIGHTEEN", Ok(11)),
+    Step::Symbol("NINE.AND_1", Ok(10)),
+    Step::Symbol("ELEVEN.MANY", Ok(11)),
+    Step::Symbol("A B", Ok(12)),
     Step::Set(X, Row::Int(5)),
-    Step::Set(Y, Row::Str("seven letters")),
-    Step::Set(NONE, Row::Str("eight letters")),
+    Step::Set(Y, Row::Str("ten letters")),
+    Step::Set(NONE, Row::Str("eleven letters")),
     Step::ByKey(9, "X", Some(Row::Int(5))),
-    Step::ByKey(10, "SEVENTH", Some(Row::Str("seven letters"))),
+    Step::ByKey(10, "NINE.AND_1", Some(Row::Str("ten letters"))),
     Step::ByKey(8, "OUTPUT", Some(Row::Str(""))),
     // another name's key
     Step::ByKey(9, "Y", None),
+    Step::ByKey(9, "x", None),
+    Step::ByKey(9, "XA", None),
     Step::ByKey(10, "X", None),
-    Step::ByKey(12, "X", None),
-    // a name of eight bytes has no key
-    Step::ByKey(11, "EIGHTEEN", None),
-    Step::ByKey(11, "SIXTEENS", None),
+    Step::ByKey(10, "NINE.AND_", None),
+    Step::ByKey(10, "NINE.AND_2", None),
+    Step::ByKey(10, "NINE_AND_1", None),
+    Step::ByKey(10, "nINE.AND_1", None),
+    Step::ByKey(13, "X", None),
+    // a name of eleven bytes, or of another byte than names have in programs, has no key
+    Step::ByKey(11, "ELEVEN.MANY", None),
+    Step::ByKey(11, "ELEVEN.MANX", None),
     Step::ByKey(11, "", None),
+    Step::ByKey(12, "A B", None),
     // INPUT is read from the reader
     Step::ByKey(7, "INPUT", None),
 ];
