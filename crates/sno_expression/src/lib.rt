@@ -3,9 +3,9 @@
 //! `forms` says which operands each form of expression has. `compile` makes the code of one expression, instruction by
 //! instruction (`instruction`), and `flat` that of all expressions of a program; `names` are those that stand in it,
 //! each with the symbol that it is likely to be. `in_place` reads tokens and runs the operation behind them at once,
-//! `told` tells what instructions give of numbers alone, and `alone` what some code gives that is a token or is told so;
-//! `joined` joins strings, long ones in one `block`, `places` are items and fields, as values and as names, and `entries`
-//! those that are made.
+//! `told` tells what instructions give of numbers alone (`calculation`, `signs`), and `alone` what some code gives that
+//! is a token or is told so; `joined` joins strings, long ones in one `block`, `places` are items and fields, as values
+//! and as names, and `entries` those that are made.
 //! `quick` does what two numbers (`numerals`), an item (`items`), a field (`fields`), two values that are joined
 //! (`joining`) or a function that examines its arguments (`examining`) need, `tokens` what a function of the language
 //! gives of tokens, and `apply` any form. `building` runs the instructions that make a pattern (`patterns`), and
@@ -18,6 +18,7 @@ mod apply;
 mod arguments;
 mod block;
 mod building;
+mod calculation;
 mod compile;
 mod entries;
 mod examining;
@@ -36,6 +37,7 @@ mod numerals;
 mod patterns;
 mod places;
 mod quick;
+mod signs;
 mod standing;
 mod tokens;
 mod told;

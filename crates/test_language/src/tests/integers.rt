@@ -218,6 +218,23 @@ const QUOTIENTS: &str = r"
  S = '12'\n T = '3'\n P = S | T\n 'x3' P . W\n OUTPUT = W\n I = 1\n J = 2\n P = I | J\n 'a2' P . W\n OUTPUT = W\nEND\n => 3\n2\n
 ";
 
+/// Signs before numbers and before what variables, elements and functions hold.
+const SIGNS: &str = r"
+ N = 7\n X = -N\n OUTPUT = X\n OUTPUT = -X\n OUTPUT = +N\n OUTPUT = --N\n OUTPUT = -+-N\n N = -5\n OUTPUT = N\nEND\n => -7\n7\n7\n7\n7\n-5\n
+ S = '012'\n X = +S\n OUTPUT = X\n X = -S\n OUTPUT = X\n OUTPUT = DATATYPE(+S) DATATYPE(-S) DATATYPE(S)\nEND\n => 12\n-12\nINTEGERINTEGERSTRING\n
+ X = -Z\n OUTPUT = X\n OUTPUT = DATATYPE(+Z) DATATYPE(X)\nEND\n => 0\nINTEGERINTEGER\n
+ X = -9223372036854775807 - 1\n OUTPUT = +X\n OUTPUT = -X\nEND\n => -9223372036854775808\nstatus 1: snobol4: error 2 in statement 3\n
+ S = 'x'\n X = -S\nEND\n => status 1: snobol4: error 1 in statement 2\n
+ P = LEN(1)\n X = +P\nEND\n => status 1: snobol4: error 1 in statement 2\n
+ I = -3\nL I = I + 1\n OUTPUT = LT(I,-1) I :S(L)\n OUTPUT = I\nEND\n => -2\n-1\n
+ A = ARRAY('-2:2')\n I = 2\n A<-I> = 'low'\n A<-1> = 'next'\n J = -2\n OUTPUT = A<J> A<J + 1>\n A<I> = 5\n OUTPUT = -A<I> + A<-J>\nEND\n => lownext\n0\n
+ T = TABLE()\n T<-1> = 'a'\n K = 1\n OUTPUT = T<-K> T<1>\nEND\n => a\n
+ DEFINE('ABS(N)') :(M)\nABS ABS = N\n ABS = LT(N,0) -N :(RETURN)\nM OUTPUT = ABS(-4) ABS(4) ABS(-ABS(-3)) -ABS(2)\nEND\n => 443-2\n
+ N = 3\n OUTPUT = N -1\n OUTPUT = N - 1\n OUTPUT = N * -1\n OUTPUT = 2 ** -(0 - 3)\nEND\n => 3-1\n2\n-3\n8\n
+ OUTPUT = IDENT(-'5',-5) 'same'\n X = '-5'\n OUTPUT = IDENT(-X,5) EQ(+X,-5) 'and'\nEND\n => same\nand\n
+ X = -SIZE('abc')\n OUTPUT = X\n OUTPUT = LT(-SIZE('abc'),-2) 'less'\n OUTPUT = (-LT(2,1)) 'none'\n OUTPUT = -LT(1,2)\nEND\n => -3\nless\n0\n
+";
+
 /// Variables and functions whose names are long, and differ in one letter.
 const NAMES: &str = r"
  COUNTER.OF1 = 1\n COUNTER.OF2 = 2\n COUNTER.O = 3\n COUNTER.o = 4\n COUNTER_O = 5\n OUTPUT = COUNTER.OF1 COUNTER.OF2 COUNTER.O COUNTER.o COUNTER_O COUNTER\nEND\n => 12345\n
@@ -293,7 +310,7 @@ fn rows(rt: HostRuntime) -> Result<(), Fail> {
     check_blocks::<Programs, _>(
         &rt,
         &[
-            ALONE, OPERANDS, QUOTIENTS, NAMES, ELEMENTS, CONDITIONS, PROGRAMS,
+            ALONE, OPERANDS, QUOTIENTS, SIGNS, NAMES, ELEMENTS, CONDITIONS, PROGRAMS,
         ],
     )
 }
