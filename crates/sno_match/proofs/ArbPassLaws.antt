@@ -17,7 +17,7 @@ use Rattle.sno_match.specs.declared.goal.Mark.TheVariants.{Next}
 use Rattle.sno_match.specs.declared.records.GoalRecord.{GoalRecord}
 use Rattle.sno_match.specs.declared.shared.Held.{Held}
 use Rattle.sno_match.specs.Point.{Point}
-use Rattle.sno_match.specs.Search.{CloseCond, Match, search}
+use Rattle.sno_match.specs.Search.{CloseCond, search}
 use Rattle.sno_match.specs.Remaining.{AllKnown, HasNext, IsStack, goals_of}
 use Rattle.sno_match.specs.Scopes.{HasCuts}
 use Rattle.sno_match.specs.Silent.{LeadsOn}

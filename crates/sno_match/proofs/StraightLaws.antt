@@ -1,10 +1,10 @@
 -- A search that goes one way alone leads from one list of goals to another.
-use Rattle.std.proofs.Common.{◌≡◌, ℕ, zero, suc, ◌+◌, ◌<◌, ◌≤◌, List, [], ◌∷◌, ◌++◌, Option, Some, None, length, map, slice_get, refl}
+use Rattle.std.proofs.Common.{◌≡◌, ℕ, suc, ◌+◌, ◌<◌, ◌≤◌, List, [], ◌∷◌, ◌++◌, Option, Some, None, length, map, slice_get, refl}
 use Rattle.std.proofs.Common.{sym, ◌∙◌, ap, subst, arith, append-nil}
 use Rattle.std.specs.Option.{is_some}
 use Rattle.sno_value.specs.declared.ids.PatId.{PatId}
 use Rattle.sno_value.specs.declared.value.Name.{Name}
-use Rattle.sno_pattern.specs.Pattern.{Pattern, Primitive, Leaf, Cat, Cond}
+use Rattle.sno_pattern.specs.Pattern.{Pattern, Leaf, Cat, Cond}
 use Rattle.sno_pattern.specs.Ends.{ends}
 use Rattle.sno_pattern.specs.Shape.{end_of, IsPrimitive}
 use Rattle.sno_pattern.specs.Table.{Node, tree}
@@ -47,7 +47,7 @@ module _ (nodes : List Node) where
   known_goal id (CloseRepeat body from) h other = absurd h
   known_goal id (CloseCut mark) h other = absurd h
 
-only_end : (es : List ℕ) (end : ℕ) → slice_get es 0 ≡ Some end → slice_get es 1 ≡ None → es ≡ end ∷ []
+pub only_end : (es : List ℕ) (end : ℕ) → slice_get es 0 ≡ Some end → slice_get es 1 ≡ None → es ≡ end ∷ []
 only_end [] end h none = absurd (cc)
 only_end (x ∷ []) end h none = let same : x ≡ end = cc in ap (λ n. n ∷ []) same
 only_end (x ∷ y ∷ es) end h none = absurd (cc)

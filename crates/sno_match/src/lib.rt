@@ -5,8 +5,8 @@
 //! lists of goals (`records`); in `copied`, which stands beside it, each has its own. `steps` finds what the step of the newest
 //! point's first goal comes to, which is a `plan` and is carried out at once, by one operation of the stack; `moves`
 //! counts the step; `silent` takes steps that tell nothing one after another, with the newest point in hand (`hand`);
-//! `engine` is the loop over moves and starts, up to the next event (`event`). `direct` finds a first way with no engine,
-//! where first alternatives lead to it. `laws` has what is true of every match.
+//! `engine` is the loop over moves and starts, up to the next event (`event`). `direct` finds a first way, or that there is
+//! none, with no engine, where nothing is gone back to. `laws` has what is true of every match.
 #![tactic(auto)]
 
 mod arb;
@@ -37,7 +37,7 @@ mod straight;
 mod subject;
 
 pub use copied::CopiedGoals;
-pub use direct::{DirectWay, direct_way};
+pub use direct::{Direct, DirectWay, direct_way};
 pub use engine::Engine;
 pub use event::{Event, Pending};
 pub use goal::{Goal, Mark, Top};

@@ -229,6 +229,42 @@ fn pass_primitive(
     passed_before(start, next, price, left)
 }
 
+/// The last of the starts behind this one that fail by the beginning of the pattern, with no looks: None where that is a
+/// primitive whose places may be far, or whose search has no steps.
+#[inline(always)]
+pub(crate) fn pass_near(
+    patterns: &Patterns,
+    pattern: PatId,
+    subject: &[u8],
+    start: usize,
+    left: u32,
+) -> Option<Passed>
+    requires known { pattern.0 < length patterns.now }
+    requires inside { start ≤ length subject.now }
+    ensures inside { IfSome result (λ passed. passed.start ≤ length subject.now) }
+    ensures enough { IfSome result (λ passed. passed.steps ≤ left) }
+    ensures passes { IfSome result (λ passed.
+        Passes false (tree patterns.now pattern.0) subject.now start passed.start passed.steps) }
+{
+    if start >= subject.len() {
+        return Some(Passed { start, steps: 0 });
+    }
+    let head = head_of(patterns, pattern, left)?;
+    match patterns.shape(head.id) {
+        Shape::Primitive => {
+            let price = head.above + 2;
+            let until = start + 1 + room_for(subject, start, price, left);
+            let next = patterns.near_place(head.id, subject, start + 1, until)?;
+            Some(passed_before(start, next, price, left))
+        }
+        Shape::Alt(_first, _second) => {
+            let passed = pass_choice(patterns, pattern, head, subject, start, left);
+            Some(passed)
+        }
+        _ => None,
+    }
+}
+
 /// The last of the starts behind this one at which no byte of a set stands, as far as there are steps for them: where
 /// none stands, the pattern is searched in vain in so many steps.
 pub(crate) fn pass_others(
@@ -275,7 +311,7 @@ pub(crate) fn vain_behind(
 }
 
 /// How many of the starts behind this one there are, as far as there are steps for them at this price each.
-fn room_for(subject: &[u8], start: usize, price: u32, left: u32) -> usize
+pub(crate) fn room_for(subject: &[u8], start: usize, price: u32, left: u32) -> usize
     requires start { start ≤ length subject.now }
     requires price { 0 < price }
     ensures inside { start + result ≤ length subject.now }
@@ -285,7 +321,7 @@ fn room_for(subject: &[u8], start: usize, price: u32, left: u32) -> usize
 }
 
 /// The starts between this one and the next that may match are passed, at this price each.
-fn passed_before(start: usize, next: usize, price: u32, left: u32) -> Passed
+pub(crate) fn passed_before(start: usize, next: usize, price: u32, left: u32) -> Passed
     requires behind { start < next }
     requires price { 0 < price }
     requires paid { next - start - 1 ≤ left / price }

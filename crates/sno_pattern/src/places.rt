@@ -16,6 +16,7 @@ use sno_value::Prim;
 
 /// The first place, from `from` up to `until`, at which a primitive
 /// node has an end; `until` where it has none before that.
+#[inline(always)]
 pub(crate) fn first_place_of_kind(kind: &Kind, subject: &[u8], from: usize, until: usize) -> usize
     requires start { from ≤ length subject.now }
     requires range { from ≤ until }

@@ -21,12 +21,18 @@ use std::marker::Model;
 /// How many entries a table has at most (this profile).
 const MOST_ENTRIES: usize = 1_000_000;
 
+/// No entry has this number.
+const NOWHERE: u32 = u32::MAX;
+
 /// The entries of a table, in the order in which their keys joined.
 #[derive(Drop)]
 pub(crate) struct Entries {
     entries: Vec<(Value, Value)>,
     index: Index,
     doubles: KeyDoubles,
+    /// The entry that was named last and has got no value since, which is likely to be asked for next, as in
+    /// `T<K> = T<K> + 1`.
+    named: u32,
 }
 
 impl Model for Entries {
@@ -54,6 +60,7 @@ impl Entries {
             entries: Vec::new(alloc),
             index: Index::new(alloc),
             doubles: KeyDoubles::new(alloc),
+            named: NOWHERE,
         };
         let entries = Box::new(alloc, entries)?;
         Ok(entries)
@@ -73,6 +80,9 @@ impl Entries {
         requires { is_key key.now ≡ true }
         ensures { result ≡ entry_place stored_notions key.now self.now }
     {
+        if is_at(&self.entries, self.named, key) {
+            return Some(self.named);
+        }
         self.find_by(key, key_hash(key))
     }
 
@@ -124,6 +134,7 @@ impl Entries {
     {
         let place = entry as usize;
         if place < self.entries.len() {
+            self.named = NOWHERE;
             self.entries[place].1 = value;
         }
     }
@@ -209,12 +220,14 @@ pub(crate) fn entry_in(entries: &mut Entries, key: Value) -> Result<u32, StoreEr
 {
     let hash = key_hash(&key);
     if let Some(place) = entries.find_by(&key, hash) {
+        entries.named = place;
         return Ok(place);
     }
     if entries.len() == MOST_ENTRIES {
         return Err(StoreError::Full);
     }
     let place = entries.push(key, hash, Value::null())?;
+    entries.named = place;
     Ok(place)
 }
 

@@ -1,5 +1,5 @@
 -- Ends of ARB behind which the search fails at once. These words are private to the matcher.
-use Rattle.std.specs.Prelude.{ℕ, ◌≡◌, ◌≤◌, ◌<◌, ◌+◌, ◌-◌, ◌*◌, List, [], ◌∷◌, Option, Some, length}
+use Rattle.std.specs.Prelude.{ℕ, ◌≡◌, ◌≤◌, ◌<◌, ◌+◌, ◌-◌, ◌*◌, List, ◌∷◌, Option, Some, length}
 use Rattle.sno_value.specs.declared.ids.PatId.{PatId}
 use Rattle.sno_pattern.specs.Pattern.{Leaf, Arb}
 use Rattle.sno_pattern.specs.Table.{Node, tree}
@@ -13,7 +13,7 @@ use Rattle.sno_match.specs.declared.shared.Held.{Held}
 use Rattle.sno_match.specs.Remaining.{goals_of}
 use Rattle.sno_match.specs.Scopes.{HasCuts}
 use Rattle.sno_match.specs.Silent.{LeadsOn}
-use Rattle.sno_match.specs.inner.Shared.{goals_of as goals_in, Holds, points_of}
+use Rattle.sno_match.specs.inner.Shared.{Holds, points_of}
 use Rattle.sno_match.specs.inner.Starts.{FailsAt, GoalsFail}
 
 -- ARB is the first goal, and what comes behind it fails where this pattern does, so many steps later

@@ -108,6 +108,7 @@ impl Patterns {
 
     /// The first place, from `from` up to `until`, at which a
     /// primitive has an end; `until` where it has none before that.
+    #[inline(always)]
     pub fn first_place(&self, id: PatId, subject: &[u8], from: usize, until: usize) -> usize
         requires id { id.0 < length self.now }
         requires primitive { IsPrimitive (tree self.now id.0) }
@@ -117,6 +118,23 @@ impl Patterns {
         ensures { IsFirstPlace (has_end (tree self.now id.0) subject.now) from until result }
     {
         first_place_of_kind(&self.entries[id.0 as usize].kind, subject, from, until)
+    }
+
+    /// The same, where it takes no longer than a look at the bytes up to there: None for BAL, ARB and a long text.
+    #[inline(always)]
+    pub fn near_place(&self, id: PatId, subject: &[u8], from: usize, until: usize) -> Option<usize>
+        requires id { id.0 < length self.now }
+        requires primitive { IsPrimitive (tree self.now id.0) }
+        requires start { from ≤ length subject.now }
+        requires range { from ≤ until }
+        requires inside { until ≤ length subject.now + 1 }
+        ensures { IfSome result (IsFirstPlace (has_end (tree self.now id.0) subject.now) from until) }
+    {
+        if self.is_bal(id) || self.is_arb(id) || self.is_long_text(id) {
+            return None;
+        }
+        let near = self.first_place(id, subject, from, until);
+        Some(near)
     }
 
     /// Adds the bytes with which a primitive begins to a set: the first one of a text, and those of ANY and SPAN. It is

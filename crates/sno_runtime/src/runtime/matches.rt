@@ -1,13 +1,13 @@
 //! Matches of the program that runs.
-ghost use Rattle.std.specs.Prelude.{◌≡◌, ◌<◌, [], Bool, length, IfOk, IsTrue};
+ghost use Rattle.std.specs.Prelude.{◌≡◌, ◌<◌, length, IfOk};
 ghost use Rattle.sno_pattern.specs.Table.{tree};
-ghost use Rattle.sno_match.specs.Direct.{IsFirst, pending_of};
+ghost use Rattle.sno_match.specs.Direct.{IsFirst, IsInVain, pending_of};
 ghost use Rattle.sno_match.specs.Matching.{begins, IsWithin};
 ghost use Rattle.sno_match.specs.Search.{Way};
 ghost use Rattle.sno_runtime.specs.Keywords.{is_anchored};
 
 use crate::runtime::Runtime;
-use sno_match::{DirectWay, Matcher, direct_way};
+use sno_match::{Direct, DirectWay, Matcher, direct_way};
 use sno_value::{PatId, Text};
 use std::alloc::AllocError;
 
@@ -31,22 +31,25 @@ impl Runtime {
         self.made.looks.is_worth(pattern)
     }
 
-    /// Finds the first way of a match of a pattern in a subject, as the keywords have it, where the first alternative of
-    /// each goal leads to it, from 0 on.
-    pub fn finds_directly(&mut self, pattern: PatId, subject: &Text, way: &mut DirectWay) -> bool
-        requires pattern { pattern.0 < length self.old.nodes }
-        requires begins { way.old.end ≡ 0 }
-        requires none { pending_of way.old ≡ [] }
+    /// Finds the first way of a match of a pattern in a subject, as the keywords have it, or that it has none, as
+    /// `direct_way` does.
+    pub fn finds_directly(&mut self, pattern: PatId, subject: &Text, way: &mut DirectWay) -> Direct
+        requires { pattern.0 < length self.old.nodes }
         ensures same { self.new ≡ self.old }
-        ensures first { IsTrue result → (anchored : Bool) → IsFirst (tree self.old.nodes pattern.0) subject.now anchored
-            self.old.keywords.steps way.new.end (pending_of way.new) }
-        ensures within { IsTrue result → IsWithin (length subject.now) (Way 0 way.new.end (pending_of way.new)) }
+        ensures first { result ≡ Direct.Way → IsFirst (tree self.old.nodes pattern.0) subject.now
+            (is_anchored self.old.keywords.anchor) self.old.keywords.steps way.new.start way.new.end
+            (pending_of way.new) }
+        ensures within { result ≡ Direct.Way
+            → IsWithin (length subject.now) (Way way.new.start way.new.end (pending_of way.new)) }
+        ensures vain { result ≡ Direct.Vain → IsInVain (tree self.old.nodes pattern.0) subject.now
+            (is_anchored self.old.keywords.anchor) self.old.keywords.steps }
     {
+        let anchored = self.anchored();
         let limit = self.steps();
-        let found = direct_way(&self.patterns, pattern, subject.as_slice(), limit, way);
-        self.made
-            .looks
-            .tell(pattern, subject.as_slice().len(), found);
+        let bytes = subject.as_slice();
+        let found = direct_way(&self.patterns, pattern, bytes, anchored, limit, way);
+        let tells = !matches!(found, Direct::Unknown);
+        self.made.looks.tell(pattern, bytes.len(), tells);
         found
     }
 

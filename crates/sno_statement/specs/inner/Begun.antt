@@ -11,8 +11,9 @@ use Rattle.sno_statement.specs.Running.{Devices, IsSpanOf, Runs}
 abbrev pub IsBegun : Runtime → Matching → Type 0
 IsBegun s m = m ≡ begins s.nodes m.pattern m.subject (is_anchored s.keywords.anchor) s.keywords.steps m.records
 
--- The end of a way from 0 was found directly, and this is what the match does; or none was, and nothing was done.
-abbrev pub EndsDirectly : Action (ℕ × ℕ) → ℕ → Runtime → Runtime → Devices → Devices → Result (Option ℕ) Exit → Type 0
-EndsDirectly act n before after old new (Ok None) = (after ≡ before) × (new ≡ old)
-EndsDirectly act n before after old new (Ok (Some end)) = Runs itself (IsSpanOf n) act before after old new (Ok (0, end))
-EndsDirectly act n before after old new (Err e) = Runs {X = ℕ × ℕ} itself (IsSpanOf n) act before after old new (Err e)
+-- What the match does was found directly, where its first way begins and ends or that it has none; or it wasn't, and
+-- nothing was done.
+abbrev pub IsDirect : Action (ℕ × ℕ) → ℕ → Runtime → Runtime → Devices → Devices → Result (Option (ℕ × ℕ)) Exit → Type 0
+IsDirect act n before after old new (Ok None) = (after ≡ before) × (new ≡ old)
+IsDirect act n before after old new (Ok (Some span)) = Runs itself (IsSpanOf n) act before after old new (Ok span)
+IsDirect act n before after old new (Err e) = Runs {X = ℕ × ℕ} itself (IsSpanOf n) act before after old new (Err e)

@@ -1,6 +1,6 @@
 //! Events and heads of patterns written as text: a word and the numbers behind it.
 use super::driver::Told;
-use sno_match::{Event, Pending};
+use sno_match::{DirectWay, Event, Pending};
 use sno_pattern::Shape;
 use sno_value::{Name, Prim, SymId};
 use std::alloc::{AllocError, Global};
@@ -46,15 +46,12 @@ pub fn push_head(alloc: Global, text: &mut String, shape: Shape) -> Result<(), A
     push_facts(alloc, text, facts_of_shape(shape))
 }
 
-/// A way from 0, and the assignments that wait.
-pub fn drawn_way(alloc: Global, end: usize, pending: &[Pending]) -> Result<String, AllocError> {
+/// A way that was found directly, and the assignments that wait.
+pub fn drawn_way(alloc: Global, way: &DirectWay) -> Result<String, AllocError> {
     let mut text = String::new(alloc);
-    push_facts(
-        alloc,
-        &mut text,
-        facts_with("way", Some(0), Some(end), None),
-    )?;
-    push_pending(alloc, &mut text, pending)?;
+    let facts = facts_with("way", Some(way.start), Some(way.end), None);
+    push_facts(alloc, &mut text, facts)?;
+    push_pending(alloc, &mut text, way.pending())?;
     Ok(text)
 }
 

@@ -2,10 +2,9 @@
 ghost use Rattle.std.specs.Prelude.{◌<◌, length};
 
 use super::drawing::drawn_events;
-use super::driver::Told;
 use super::rows::{Question, check_blocks};
-use super::searches::{Search, all_events, search_of, table_of_words};
-use sno_match::{CopiedGoals, DirectWay, Event, Points, SharedGoals, direct_way};
+use super::searches::{Search, all_events, is_first, search_of, table_of_words};
+use sno_match::{CopiedGoals, Points, SharedGoals};
 use sno_pattern::Patterns;
 use sno_value::PatId;
 use std::alloc::{AllocError, Global};
@@ -24,23 +23,6 @@ pub fn events_over<P: Points>(
     drawn_events(alloc, &told)
 }
 
-/// Whether the way that is found directly, if there is one, is what was told first.
-fn is_first(table: &Patterns, pattern: PatId, s: Search<'_>, told: &[Told]) -> bool
-    requires { pattern.0 < length table.now }
-{
-    let mut way = DirectWay::new();
-    if !direct_way(table, pattern, s.subject, s.limit, &mut way) {
-        return true;
-    }
-    let end = way.end;
-    match told.first() {
-        Some(first) => {
-            first.event == Event::Way { start: 0, end } && first.pending.as_slice() == way.pending()
-        }
-        None => false,
-    }
-}
-
 /// The events of a pattern, which either stack tells.
 fn events_of_both(
     alloc: Global,
@@ -52,7 +34,7 @@ fn events_of_both(
 {
     let told = all_events::<SharedGoals>(alloc, table, pattern, s)?;
     if !is_first(table, pattern, s, &told) {
-        return Err(Fail::from("another way is found directly"));
+        return Err(Fail::from("something else is found directly"));
     }
     let text = drawn_events(alloc, &told)?;
     let copied = events_over::<CopiedGoals>(alloc, table, pattern, s)?;

@@ -6,7 +6,7 @@ use super::forms::{Form, table_of};
 use super::notation::forms_of;
 use super::reference::search_events;
 use super::rows::parts;
-use sno_match::{CopiedGoals, Points, SharedGoals};
+use sno_match::{CopiedGoals, Direct, DirectWay, Event, Points, SharedGoals, direct_way};
 use sno_pattern::Patterns;
 use sno_value::PatId;
 use std::alloc::{AllocError, Global};
@@ -77,6 +77,25 @@ pub fn check_same(rt: &impl Abort, got: &[Told], want: &[Told]) {
     }
 }
 
+/// Whether what is found directly, if anything is, is what was told first.
+pub fn is_first(table: &Patterns, pattern: PatId, s: Search<'_>, told: &[Told]) -> bool
+    requires { pattern.0 < length table.now }
+{
+    let mut way = DirectWay::new();
+    let found = direct_way(table, pattern, s.subject, s.anchored, s.limit, &mut way);
+    let Some(first) = told.first() else {
+        return false;
+    };
+    let (start, end) = (way.start, way.end);
+    match found {
+        Direct::Way => {
+            first.event == Event::Way { start, end } && first.pending.as_slice() == way.pending()
+        }
+        Direct::Vain => first.event == Event::Exhausted,
+        Direct::Unknown => true,
+    }
+}
+
 /// Compares what a match over a stack of this type tells with the events that are wanted.
 fn check_stack<P: Points>(
     rt: &impl Abort,
@@ -108,7 +127,8 @@ pub fn check_stacks(
     check_stack::<CopiedGoals>(rt, alloc, table, pattern, s, want)
 }
 
-/// Compares what a match over either stack and the plain search tell, and gives the number of events.
+/// Compares what a match over either stack and the plain search tell, and what is found directly, and gives the number of
+/// events.
 fn compare_over(
     rt: &impl Abort,
     alloc: Global,
@@ -123,6 +143,7 @@ fn compare_over(
         alloc, forms, pattern, s.subject, s.anchored, s.limit, s.answers,
     )?;
     check_stacks(rt, alloc, table, pattern, s, &want)?;
+    assert!(rt; is_first(table, pattern, s, &want));
     Ok(want.len())
 }
 

@@ -64,6 +64,23 @@ const NO_TABLES: &[Step] = &[
     Step::Prototype(1, Err(1)),
 ];
 
+const NAMED_LAST: &[Step] = &[
+    Step::NewTable(Ok(0)),
+    Step::Find(0, Row::Int(1), Ok(None)),
+    Step::Entry(0, Row::Str("1"), Ok(0)),
+    Step::Find(0, Row::Str("1"), Ok(Some(0))),
+    Step::Find(0, Row::Int(1), Ok(None)),
+    Step::Entry(0, Row::Int(1), Ok(1)),
+    Step::Find(0, Row::Str("1"), Ok(Some(0))),
+    Step::Find(0, Row::Int(1), Ok(Some(1))),
+    Step::Set(Name::Entry(ObjId(0), 1), Row::Int(5)),
+    Step::Find(0, Row::Int(1), Ok(Some(1))),
+    Step::Entry(0, Row::Str("1"), Ok(0)),
+    Step::Find(0, Row::Str(""), Ok(None)),
+    Step::Find(0, Row::Str("1"), Ok(Some(0))),
+    Step::Get(Name::Entry(ObjId(0), 1), Row::Int(5)),
+];
+
 // the last 28 bits of the hashes of these texts are equal, and the last 24 bits of those of the numbers
 const NEAR_KEYS: &[Step] = &[
     Step::NewTable(Ok(0)),
@@ -146,10 +163,14 @@ const EQUAL_NUMBERS: &[Step] = &[
 ];
 
 /// Calls of a new store each.
-const STORES: [(&str, &[Step]); 7] = [
+const STORES: [(&str, &[Step]); 8] = [
     ("entries keep their order", ORDERED_ENTRIES),
     ("types tell keys apart", KEYS_OF_EACH_TYPE),
     ("null entries are left out", NULL_ENTRIES),
+    (
+        "the entry that was named last is found again, and no other",
+        NAMED_LAST,
+    ),
     ("other objects are no tables", NO_TABLES),
     ("keys with near hashes are told apart", NEAR_KEYS),
     ("texts with equal hashes are told apart", EQUAL_HASHES),

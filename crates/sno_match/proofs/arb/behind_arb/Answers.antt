@@ -1,4 +1,3 @@
-use Rattle.std.proofs.Common.{◌≡◌, ◌∷◌}
 use Rattle.sno_match.specs.inner.Shared.{goals_of}
 use Rattle.sno_match.proofs.ArbPassLaws.{match_behind, close_behind}
 use Rattle.sno_match.proofs.arb.behind_arb.Goals as goal

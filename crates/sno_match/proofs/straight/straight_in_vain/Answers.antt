@@ -1,4 +1,4 @@
-use Rattle.std.proofs.Common.{arith, ◌+◌, rules, subst}
+use Rattle.std.proofs.Common.{arith, rules, subst}
 use Rattle.sno_pattern.specs.Table.{tree}
 use Rattle.sno_match.specs.inner.Straight.{waits, LeadsTo}
 use Rattle.sno_match.proofs.StraightLaws.{begun, closed, next_known}

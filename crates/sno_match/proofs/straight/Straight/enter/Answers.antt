@@ -1,4 +1,4 @@
-use Rattle.std.proofs.Common.{arith, refl, sym, subst, None, ◌<◌, length}
+use Rattle.std.proofs.Common.{arith, refl, sym, subst}
 use Rattle.sno_pattern.specs.Table.{tree}
 use Rattle.sno_match.specs.inner.Starts.{GivesWay}
 use Rattle.sno_match.proofs.StartLaws.{alt_gives_way}
